@@ -1,0 +1,63 @@
+//! A block device of fixed length.
+
+ghost use Rattle.std.specs.Prelude.{ℕ, ◌≡◌, ◌+◌, ◌<◌, ◌≤◌, List, length, Option, IfSome, IfOk, OnOk, OnErr, option_map};
+ghost use Rattle.verdict.specs.Image.{range, written};
+ghost use Rattle.recon_disk.specs.Outside.{HasCause, MayBeWritten, counted};
+
+/// A call on the outside failed.
+#[derive(Clone, Copy, Debug, PartialEq, Eq)]
+pub struct Failed;
+
+/// A block device of fixed length. Offsets and lengths are in bytes.
+///
+/// A disk may tell its bytes, as one in memory does, or not, as a real file. What a read gives and a
+/// write changes is said where they are told.
+pub trait Disk {
+    /// The length in bytes, which never changes.
+    ghost len: { Self → ℕ };
+    /// The bytes as they read, where the disk tells them.
+    ghost bytes: { Self → Option (List ℕ) };
+    /// How often `read` was called.
+    ghost reads: { Self → ℕ };
+    /// How often a call failed.
+    ghost faults: { Self → ℕ };
+
+    /// The device's length in bytes.
+    fn length(&mut self) -> Result<u64, Failed>
+        ensures value { IfOk result (λ n. n ≡ len self.old) }
+        ensures told { OnOk result (IfSome (bytes self.old) (λ image. length image ≡ len self.old)) }
+        ensures len { len self.new ≡ len self.old }
+        ensures bytes { bytes self.new ≡ bytes self.old }
+        ensures reads { reads self.new ≡ reads self.old }
+        ensures cause { HasCause (faults self.old) (faults self.new) result };
+
+    /// Reads 1 to 65,536 bytes from byte `at` on.
+    fn read(&mut self, at: u64, into: &mut [u8]) -> Result<(), Failed>
+        requires some { 0 < length into.old }
+        requires few { length into.old ≤ 65536 }
+        requires inside { at + length into.old ≤ len self.old }
+        ensures told { OnOk result (IfSome (bytes self.old) (λ image. into.new ≡ range at (length into.old) image)) }
+        ensures len { len self.new ≡ len self.old }
+        ensures bytes { bytes self.new ≡ bytes self.old }
+        ensures reads { reads self.new ≡ counted (reads self.old) }
+        ensures cause { HasCause (faults self.old) (faults self.new) result };
+
+    /// Writes 1 to 1,048,576 bytes from byte `at` on. One that fails changes at most bytes of its
+    /// range, and of exactly the superblock place all or none.
+    fn write(&mut self, at: u64, from: &[u8]) -> Result<(), Failed>
+        requires some { 0 < length from.now }
+        requires few { length from.now ≤ 1048576 }
+        requires inside { at + length from.now ≤ len self.old }
+        ensures written { OnOk result (bytes self.new ≡ option_map (λ image. written image at from.now) (bytes self.old)) }
+        ensures partly { OnErr result (MayBeWritten (bytes self.old) at from.now (bytes self.new)) }
+        ensures len { len self.new ≡ len self.old }
+        ensures reads { reads self.new ≡ reads self.old }
+        ensures cause { HasCause (faults self.old) (faults self.new) result };
+
+    /// Sends what was written to stable storage.
+    fn flush(&mut self) -> Result<(), Failed>
+        ensures len { len self.new ≡ len self.old }
+        ensures bytes { bytes self.new ≡ bytes self.old }
+        ensures reads { reads self.new ≡ reads self.old }
+        ensures cause { HasCause (faults self.old) (faults self.new) result };
+}

@@ -1,0 +1,104 @@
+//! A stream of bytes that goes out.
+
+ghost use Rattle.std.specs.Prelude.{ℕ, ◌≡◌, ◌++◌, ◌≤◌, [], List, Option, IfOk, IfSome, OnOk, OnErr, option_map, vec_len, vec_capacity};
+ghost use Rattle.recon_disk.specs.Outside.{HasCause, MayBeAppended};
+
+use crate::Failed;
+use std::alloc::Global;
+use verdict::NoMemory;
+
+/// A stream of bytes that goes out.
+pub trait Sink {
+    /// The bytes so far, where the sink tells them.
+    ghost kept: { Self → Option (List ℕ) };
+    /// How often a call failed.
+    ghost faults: { Self → ℕ };
+
+    /// Appends all the bytes, or fails with a front of them appended.
+    fn write(&mut self, from: &[u8]) -> Result<(), Failed>
+        ensures appended { OnOk result (kept self.new ≡ option_map (λ bytes. bytes ++ from.now) (kept self.old)) }
+        ensures partly { OnErr result (MayBeAppended (kept self.old) from.now (kept self.new)) }
+        ensures cause { HasCause (faults self.old) (faults self.new) result };
+}
+
+/// A sink in memory, which tells its bytes. The calls that its list names fail, and those that would
+/// pass its room, and no other. No write takes memory.
+#[derive(Drop)]
+pub struct MemSink {
+    bytes: Vec<u8>,
+    room: usize,
+    fails: Vec<(u64, usize)>,
+    calls: u64,
+    faults: u64,
+    ghost fits: { vec_len bytes ≤ room },
+    ghost has_room: { room ≤ vec_capacity bytes },
+}
+
+impl MemSink {
+    ghost use Rattle.recon_disk.specs.Memory.{bytes_kept};
+
+    /// An empty sink with room for so many bytes. A write that would pass the room fails and keeps
+    /// nothing; the call with a listed number, counted from 1, fails and keeps that many bytes of its
+    /// piece, at most all.
+    pub fn new(alloc: Global, room: usize, fails: Vec<(u64, usize)>) -> Result<MemSink, NoMemory>
+        ensures { IfOk result (λ s. bytes_kept s ≡ []) }
+    {
+        match Vec::with_capacity(alloc, room) {
+            Ok(bytes) => Ok(MemSink {
+                bytes,
+                room,
+                fails,
+                calls: 0,
+                faults: 0,
+            }),
+            Err(_) => Err(NoMemory),
+        }
+    }
+
+    /// The bytes so far, lent.
+    pub fn bytes(&self) -> &[u8]
+        ensures { result.now ≡ bytes_kept self.now }
+    {
+        self.bytes.as_slice()
+    }
+}
+
+// How many bytes a listed call keeps, at most all of its piece.
+fn listed(fails: &[(u64, usize)], call: u64, len: usize) -> Option<usize>
+    ensures { IfSome result (λ keep. keep ≤ len) }
+{
+    for (nth, keep) in fails {
+        if *nth == call {
+            return Some((*keep).min(len));
+        }
+    }
+    None
+}
+
+impl Sink for MemSink {
+    ghost use Rattle.std.specs.Prelude.{Some};
+
+    ghost kept = { λ s. Some s.bytes.items };
+
+    ghost faults = { λ s. s.faults };
+
+    fn write(&mut self, from: &[u8]) -> Result<(), Failed> {
+        self.calls = self.calls.saturating_add(1);
+        if from.len() > self.room - self.bytes.len() {
+            self.faults = self.faults.saturating_add(1);
+            return Err(Failed);
+        }
+        match listed(&self.fails, self.calls, from.len()) {
+            Some(keep) => {
+                self.faults = self.faults.saturating_add(1);
+                let _ = self.bytes.extend_from_slice(&from[..keep]);
+                Err(Failed)
+            }
+            None => {
+                let taken = self.bytes.extend_from_slice(from);
+                taken.unwrap();
+                Ok(())
+            }
+        }
+    }
+}

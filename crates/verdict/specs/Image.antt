@@ -1,0 +1,20 @@
+-- The image of a device: its bytes, as a list. A write puts bytes over a range of it.
+use Rattle.std.specs.Prelude.{ℕ, ◌+◌, List, [], ◌∷◌, ◌++◌, length, take, drop}
+
+-- the n bytes of an image from an offset
+abbrev pub range : ℕ → ℕ → List ℕ → List ℕ
+range at n image = take n (drop at image)
+
+-- an image with these bytes over the range that begins at an offset; the range lies inside it
+unfoldable pub written : List ℕ → ℕ → List ℕ → List ℕ
+written image at bytes = take at image ++ bytes ++ drop (at + length bytes) image
+
+-- a write that waits or was let through: where it begins, and its bytes
+pub record HeldWrite : Type 0 where
+  pub at : ℕ
+  pub bytes : List ℕ
+
+-- an image with all these writes over it, in order, so that of two writes of one byte the later stands
+abbrev pub applied : List ℕ → List HeldWrite → List ℕ
+applied image [] = image
+applied image (w ∷ ws) = applied (written image w.at w.bytes) ws

@@ -1,0 +1,4 @@
+pub mod Image
+pub mod Rules
+pub mod OnDisk
+pub mod Letter

@@ -1,0 +1,12 @@
+//! What Recon says of an image and of an event: the words that all of its crates share.
+#![tactic(auto)]
+
+mod bytes;
+mod finding;
+mod key;
+mod machine;
+
+pub use bytes::{Bytes, NoMemory};
+pub use finding::{Family, Finding, Rule};
+pub use key::{Key, key_at};
+pub use machine::{Answer, Event, Stop};

@@ -1,0 +1,68 @@
+//! The events that the checking machine takes, and what it answers.
+
+use crate::{Bytes, Finding};
+
+/// One step of a file system's traffic with its device, which runs to its end before the next.
+#[derive(Debug, Drop)]
+pub enum Event {
+    /// Bytes to be written, 1 to 1,048,576 of them.
+    Write {
+        /// Who sent it. The number decides nothing.
+        submitter: u16,
+        /// The byte of the device where it begins.
+        at: u64,
+        /// What is written.
+        bytes: Bytes,
+    },
+    /// A request that all waiting writes be judged and let through.
+    Settle,
+    /// A request for bytes of the device as they read with all waiting writes over them.
+    Fetch {
+        /// The byte of the device where the range begins.
+        at: u64,
+        /// The number of bytes, 1 to 65,536.
+        len: u32,
+    },
+}
+
+/// What the checking machine answers to an event that it took.
+#[derive(Debug, Drop)]
+pub enum Answer {
+    /// The write waits.
+    Held,
+    /// The bytes asked for.
+    Fetched(Bytes),
+    /// The image that the event would make is one that the full check accepts, and the device
+    /// now holds it.
+    Passed {
+        /// The generation of the new superblock.
+        generation: u64,
+        /// How many live blocks the old and the new image do not share. 0 for now.
+        blocks: u64,
+        /// How many live blocks of the old image were written over. 0 for now.
+        hot: u64,
+    },
+    /// The full check's finding of the image that the event would make. The device stays as it
+    /// was, and nothing waits.
+    Rejected(Finding),
+}
+
+/// Why the checking machine did not answer an event.
+#[derive(Clone, Copy, Debug, PartialEq, Eq)]
+pub enum Stop {
+    /// The event's range passes the end of the device. All stays.
+    PastEnd {
+        /// The byte where the range begins.
+        at: u64,
+        /// The length of the range in bytes.
+        len: u64,
+        /// The length of the device in bytes.
+        end: u64,
+    },
+    /// A call of the device failed.
+    DiskFault,
+    /// An earlier event closed the machine.
+    Closed,
+    /// Memory was wanting.
+    NoMemory,
+}
