@@ -1,6 +1,6 @@
 -- What a call of an object outside the program may do: a disk, a source of bytes, a sink of bytes.
-use Rattle.std.specs.Prelude.{ℕ, ◌≡◌, ◌≢◌, ◌+◌, ◌-◌, ◌^◌, ◌≤◌, ◌⊎◌, Bool, List, [], ◌++◌, length, take, drop, min, Option, Some, None, Result, OnOk, OnErr, refl}
-use Rattle.verdict.specs.Image.{range, written}
+use Rattle.std.specs.Prelude.{ℕ, ◌≡◌, ◌+◌, ◌-◌, ◌^◌, ◌≤◌, ◌⊎◌, List, [], ◌++◌, length, take, drop, min, Option, Some, None, Result, OnOk, OnErr}
+use Rattle.verdict.specs.Image.{written}
 
 -- one more on a counter of 64 bits that stays at its greatest value
 abbrev pub counted : ℕ → ℕ

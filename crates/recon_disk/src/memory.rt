@@ -157,7 +157,8 @@ fn kept_of(at: u64, from: &[u8], keep: usize) -> usize
 #[tactic(auto, unfolding(verdict::specs::Image::written))]
 fn overwrite(bytes: &mut Vec<u8>, at: usize, from: &[u8])
     requires { at + length from.now ≤ length bytes.old.items }
-    ensures { bytes.new.items ≡ written bytes.old.items at from.now }
+    ensures bytes { bytes.new.items ≡ written bytes.old.items at from.now }
+    ensures len { length bytes.new.items ≡ length bytes.old.items }
 {
     bytes[at..at + from.len()].copy_from_slice(from);
 }

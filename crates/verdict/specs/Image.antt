@@ -1,5 +1,6 @@
 -- The image of a device: its bytes, as a list. A write puts bytes over a range of it.
 use Rattle.std.specs.Prelude.{ℕ, ◌+◌, List, [], ◌∷◌, ◌++◌, length, take, drop}
+use Rattle.verdict.specs.declared.machine.HeldWrite.{HeldWrite}
 
 -- the n bytes of an image from an offset
 abbrev pub range : ℕ → ℕ → List ℕ → List ℕ
@@ -8,11 +9,6 @@ range at n image = take n (drop at image)
 -- an image with these bytes over the range that begins at an offset; the range lies inside it
 unfoldable pub written : List ℕ → ℕ → List ℕ → List ℕ
 written image at bytes = take at image ++ bytes ++ drop (at + length bytes) image
-
--- a write that waits or was let through: where it begins, and its bytes
-pub record HeldWrite : Type 0 where
-  pub at : ℕ
-  pub bytes : List ℕ
 
 -- an image with all these writes over it, in order, so that of two writes of one byte the later stands
 abbrev pub applied : List ℕ → List HeldWrite → List ℕ

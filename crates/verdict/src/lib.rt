@@ -9,4 +9,4 @@ mod machine;
 pub use bytes::{Bytes, NoMemory};
 pub use finding::{Family, Finding, Rule};
 pub use key::{Key, key_at};
-pub use machine::{Answer, Event, Stop};
+pub use machine::{Answer, Event, HeldWrite, Stop};

@@ -25,6 +25,15 @@ pub enum Event {
     },
 }
 
+/// A write that waits: where it begins, and its bytes.
+#[derive(Debug, Drop)]
+pub struct HeldWrite {
+    /// The byte of the device where it begins.
+    pub at: u64,
+    /// What is to be written.
+    pub bytes: Bytes,
+}
+
 /// What the checking machine answers to an event that it took.
 #[derive(Debug, Drop)]
 pub enum Answer {
