@@ -1,0 +1,67 @@
+//! A writer as a sink.
+
+ghost use Rattle.std.specs.Prelude.{◌≡◌, None};
+
+use recon_disk::{Failed, Sink};
+use std::io::Write;
+
+/// A writer, as standard output, as a sink. It tells no bytes. What is written is handed on at once.
+#[derive(Drop)]
+pub struct StdSink<W: Write + Drop> {
+    writer: W,
+    faults: u64,
+}
+
+impl<W: Write + Drop> StdSink<W> {
+    /// The sink that writes to this writer.
+    pub fn new(writer: W) -> StdSink<W>
+        ensures untold { ⟦<StdSink<W> as Sink>⟧.kept result ≡ None }
+        ensures faults { ⟦<StdSink<W> as Sink>⟧.faults result ≡ 0 }
+    {
+        StdSink { writer, faults: 0 }
+    }
+}
+
+// Writes all the bytes and hands them on, and says whether it did.
+fn write_whole<W: Write>(writer: &mut W, from: &[u8]) -> bool {
+    let mut done = 0;
+    while done < from.len() {
+        match writer.write(&from[done..]) {
+            Ok(0) | Err(_) => return false,
+            Ok(n) => done += n,
+        }
+    }
+    writer.flush().is_ok()
+}
+
+impl<W: Write + Drop> Sink for StdSink<W> {
+    ghost use Rattle.std.specs.Prelude.{None};
+
+    ghost kept = { λ s. None };
+
+    ghost faults = { λ s. s.faults };
+
+    fn write(&mut self, from: &[u8]) -> Result<(), Failed> {
+        if write_whole(&mut self.writer, from) {
+            return Ok(());
+        }
+        self.faults = self.faults.saturating_add(1);
+        Err(Failed)
+    }
+}
+
+#[cfg(test)]
+mod tests {
+    use super::*;
+    use std::test::Fail;
+
+    #[test]
+    fn a_writer_takes_each_piece(rt: HostRuntime) -> Result<(), Fail> {
+        let mut sink = StdSink::new(Vec::new(rt.alloc()));
+        assert!(rt; sink.write(b"one ").is_ok());
+        assert!(rt; sink.write(b"").is_ok());
+        assert!(rt; sink.write(b"two").is_ok());
+        assert_eq!(rt; sink.writer.as_slice(), b"one two".as_slice());
+        Ok(())
+    }
+}

@@ -1,0 +1,73 @@
+//! A reader as a source.
+
+ghost use Rattle.std.specs.Prelude.{◌≡◌, None};
+
+use recon_disk::{Failed, Source};
+use std::io::Read;
+
+/// A reader, as standard input, as a source. It tells no bytes.
+#[derive(Drop)]
+pub struct StdSource<R: Read + Drop> {
+    reader: R,
+    ended: bool,
+    faults: u64,
+}
+
+impl<R: Read + Drop> StdSource<R> {
+    /// The source that reads this reader.
+    pub fn new(reader: R) -> StdSource<R>
+        ensures untold { ⟦<StdSource<R> as Source>⟧.left result ≡ None }
+        ensures faults { ⟦<StdSource<R> as Source>⟧.faults result ≡ 0 }
+    {
+        StdSource {
+            reader,
+            ended: false,
+            faults: 0,
+        }
+    }
+}
+
+impl<R: Read + Drop> Source for StdSource<R> {
+    ghost use Rattle.std.specs.Prelude.{None};
+
+    ghost left = { λ s. None };
+
+    ghost ended = { λ s. s.ended };
+
+    ghost faults = { λ s. s.faults };
+
+    fn read(&mut self, into: &mut [u8]) -> Result<usize, Failed> {
+        if self.ended {
+            return Ok(0);
+        }
+        match self.reader.read(into) {
+            Ok(n) => {
+                self.ended = n == 0;
+                Ok(n)
+            }
+            Err(_) => {
+                self.faults = self.faults.saturating_add(1);
+                Err(Failed)
+            }
+        }
+    }
+}
+
+#[cfg(test)]
+mod tests {
+    use super::*;
+
+    #[test]
+    fn a_reader_gives_its_bytes_and_then_none(rt: HostRuntime) {
+        let bytes = [1u8, 2, 3];
+        let mut source = StdSource::new(bytes.as_slice());
+        let mut first = [0u8; 2];
+        assert_eq!(rt; source.read(&mut first).ok(), Some(2));
+        assert_eq!(rt; first.as_slice(), [1u8, 2].as_slice());
+        let mut rest = [0u8; 4];
+        assert_eq!(rt; source.read(&mut rest).ok(), Some(1));
+        assert_eq!(rt; rest[0], 3);
+        assert_eq!(rt; source.read(&mut rest).ok(), Some(0));
+        assert_eq!(rt; source.read(&mut rest).ok(), Some(0));
+    }
+}
