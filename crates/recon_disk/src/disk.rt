@@ -25,7 +25,6 @@ pub trait Disk {
     /// The device's length in bytes.
     fn length(&mut self) -> Result<u64, Failed>
         ensures value { IfOk result (λ n. n ≡ len self.old) }
-        ensures told { OnOk result (IfSome (bytes self.old) (λ image. length image ≡ len self.old)) }
         ensures len { len self.new ≡ len self.old }
         ensures bytes { bytes self.new ≡ bytes self.old }
         ensures reads { reads self.new ≡ reads self.old }
@@ -60,4 +59,7 @@ pub trait Disk {
         ensures bytes { bytes self.new ≡ bytes self.old }
         ensures reads { reads self.new ≡ reads self.old }
         ensures cause { HasCause (faults self.old) (faults self.new) result };
+
+    /// Where the bytes are told, there are as many as the length says.
+    ghost told_length: { (disk : Self) → IfSome (bytes disk) (λ image. length image ≡ len disk) };
 }

@@ -1,6 +1,6 @@
 //! A disk in memory, of which calls can be made to fail.
 
-ghost use Rattle.std.specs.Prelude.{◌≡◌, ◌+◌, ◌≤◌, ◌⊎◌, Some, length};
+ghost use Rattle.std.specs.Prelude.{◌≡◌, ◌+◌, ◌≤◌, ◌⊎◌, Some, length, refl};
 ghost use Rattle.verdict.specs.Image.{written};
 
 use crate::{Disk, Failed};
@@ -97,6 +97,8 @@ impl Disk for MemDisk {
     ghost reads = { λ d. d.reads };
 
     ghost faults = { λ d. d.faults };
+
+    ghost told_length = { λ d. refl };
 
     fn length(&mut self) -> Result<u64, Failed> {
         self.lengths = self.lengths.saturating_add(1);

@@ -103,6 +103,8 @@ impl<F: Read + Write + Seek + OpenFile + Drop> Disk for FileDisk<F> {
 
     ghost faults = { λ d. d.faults };
 
+    ghost told_length = { λ d. tt };
+
     fn length(&mut self) -> Result<u64, Failed> {
         if self.file.is_none() {
             return self.failed();

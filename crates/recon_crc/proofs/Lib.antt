@@ -1,0 +1,2 @@
+pub mod Slicing
+pub mod Rows
