@@ -1,6 +1,7 @@
 //! A disk in memory, of which calls can be made to fail.
 
 ghost use Rattle.std.specs.Prelude.{◌≡◌, ◌+◌, ◌≤◌, ◌⊎◌, Some, length, refl};
+ghost use Rattle.recon_disk.specs.Memory.{listed_call, front_kept};
 ghost use Rattle.verdict.specs.Image.{written};
 
 use crate::{Disk, Failed};
@@ -43,11 +44,13 @@ pub struct MemDisk {
 }
 
 impl MemDisk {
-    ghost use Rattle.recon_disk.specs.Memory.{bytes_in, reads_of, faults_of};
+    ghost use Rattle.recon_disk.specs.Memory.{bytes_in, fails_of, calls_of, no_calls, reads_of, faults_of};
 
     /// A disk that holds these bytes, with the calls that are to fail. Nothing was called yet.
     pub fn new(bytes: Vec<u8>, fails: Vec<Fail>) -> MemDisk
         ensures bytes { bytes_in result ≡ bytes.items }
+        ensures fails { fails_of result ≡ fails.items }
+        ensures calls { calls_of result ≡ no_calls }
         ensures reads { reads_of result ≡ 0 }
         ensures faults { faults_of result ≡ 0 }
     {
@@ -85,11 +88,19 @@ impl MemDisk {
 }
 
 // The first entry of the list that names this call.
-fn listed(fails: &[Fail], op: Op, nth: u64) -> Option<Fail> {
+#[tactic(auto, unfolding(crate::specs::Memory::listed_call))]
+fn listed(fails: &[Fail], op: Op, nth: u64) -> Option<Fail>
+    ensures { result ≡ listed_call fails.now op nth }
+{
     fails.iter().copied().find(|f| f.op == op && f.nth == nth)
 }
 
 impl Disk for MemDisk {
+    ghost use Rattle.std.specs.Prelude.{◌<◌, IfOk, OnOk, OnErr};
+    ghost use Rattle.verdict.specs.Image.{range};
+    ghost use Rattle.recon_disk.specs.Outside.{HasCause, MayBeWritten, counted};
+    ghost use Rattle.recon_disk.specs.Memory.{bytes_in, reads_of, faults_of, IsCalled, left_by, fail_of_next};
+
     ghost len = { λ d. length d.bytes.items };
 
     ghost bytes = { λ d. Some d.bytes.items };
@@ -100,7 +111,14 @@ impl Disk for MemDisk {
 
     ghost told_length = { λ d. refl };
 
-    fn length(&mut self) -> Result<u64, Failed> {
+    fn length(&mut self) -> Result<u64, Failed>
+        ensures value { IfOk result (λ n. n ≡ length (bytes_in self.old)) }
+        ensures len { length (bytes_in self.new) ≡ length (bytes_in self.old) }
+        ensures bytes { Some (bytes_in self.new) ≡ Some (bytes_in self.old) }
+        ensures reads { reads_of self.new ≡ reads_of self.old }
+        ensures cause { HasCause (faults_of self.old) (faults_of self.new) result }
+        ensures called { IsCalled Op.Length self.old self.new result }
+    {
         self.lengths = self.lengths.saturating_add(1);
         if listed(&self.fails, Op::Length, self.lengths).is_some() {
             self.faults = self.faults.saturating_add(1);
@@ -109,7 +127,17 @@ impl Disk for MemDisk {
         Ok(self.bytes.len() as u64)
     }
 
-    fn read(&mut self, at: u64, into: &mut [u8]) -> Result<(), Failed> {
+    fn read(&mut self, at: u64, into: &mut [u8]) -> Result<(), Failed>
+        requires some { 0 < length into.old }
+        requires few { length into.old ≤ 65536 }
+        requires inside { at + length into.old ≤ length (bytes_in self.old) }
+        ensures told { OnOk result (into.new ≡ range at (length into.old) (bytes_in self.old)) }
+        ensures len { length (bytes_in self.new) ≡ length (bytes_in self.old) }
+        ensures bytes { Some (bytes_in self.new) ≡ Some (bytes_in self.old) }
+        ensures reads { reads_of self.new ≡ counted (reads_of self.old) }
+        ensures cause { HasCause (faults_of self.old) (faults_of self.new) result }
+        ensures called { IsCalled Op.Read self.old self.new result }
+    {
         self.reads = self.reads.saturating_add(1);
         if listed(&self.fails, Op::Read, self.reads).is_some() {
             self.faults = self.faults.saturating_add(1);
@@ -120,7 +148,18 @@ impl Disk for MemDisk {
         Ok(())
     }
 
-    fn write(&mut self, at: u64, from: &[u8]) -> Result<(), Failed> {
+    fn write(&mut self, at: u64, from: &[u8]) -> Result<(), Failed>
+        requires some { 0 < length from.now }
+        requires few { length from.now ≤ 1048576 }
+        requires inside { at + length from.now ≤ length (bytes_in self.old) }
+        ensures written { OnOk result (Some (bytes_in self.new) ≡ Some (written (bytes_in self.old) at from.now)) }
+        ensures partly { OnErr result (MayBeWritten (Some (bytes_in self.old)) at from.now (Some (bytes_in self.new))) }
+        ensures len { length (bytes_in self.new) ≡ length (bytes_in self.old) }
+        ensures reads { reads_of self.new ≡ reads_of self.old }
+        ensures cause { HasCause (faults_of self.old) (faults_of self.new) result }
+        ensures called { IsCalled Op.Write self.old self.new result }
+        ensures left { bytes_in self.new ≡ left_by (fail_of_next Op.Write self.old) (bytes_in self.old) at from.now }
+    {
         self.writes = self.writes.saturating_add(1);
         if let Some(fail) = listed(&self.fails, Op::Write, self.writes) {
             self.faults = self.faults.saturating_add(1);
@@ -132,7 +171,13 @@ impl Disk for MemDisk {
         Ok(())
     }
 
-    fn flush(&mut self) -> Result<(), Failed> {
+    fn flush(&mut self) -> Result<(), Failed>
+        ensures len { length (bytes_in self.new) ≡ length (bytes_in self.old) }
+        ensures bytes { Some (bytes_in self.new) ≡ Some (bytes_in self.old) }
+        ensures reads { reads_of self.new ≡ reads_of self.old }
+        ensures cause { HasCause (faults_of self.old) (faults_of self.new) result }
+        ensures called { IsCalled Op.Flush self.old self.new result }
+    {
         self.flushes = self.flushes.saturating_add(1);
         if listed(&self.fails, Op::Flush, self.flushes).is_some() {
             self.faults = self.faults.saturating_add(1);
@@ -144,6 +189,7 @@ impl Disk for MemDisk {
 
 // How many bytes of a failing write stay.
 fn kept_of(at: u64, from: &[u8], keep: usize) -> usize
+    ensures front { result ≡ front_kept at (length from.now) keep }
     ensures within { result ≤ length from.now }
     ensures whole { at ≡ 65536 → length from.now ≡ 4096 → (result ≡ 0) ⊎ (result ≡ 4096) }
 {

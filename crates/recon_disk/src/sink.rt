@@ -1,7 +1,8 @@
 //! A stream of bytes that goes out.
 
-ghost use Rattle.std.specs.Prelude.{ℕ, ◌≡◌, ◌++◌, ◌≤◌, [], List, Option, IfOk, IfSome, OnOk, OnErr, option_map, vec_len, vec_capacity};
+ghost use Rattle.std.specs.Prelude.{ℕ, ◌≡◌, ◌++◌, ◌≤◌, [], List, Option, IfOk, IfSome, OnOk, OnErr, option_map, min, vec_len, vec_capacity};
 ghost use Rattle.recon_disk.specs.Outside.{HasCause, MayBeAppended};
+ghost use Rattle.recon_disk.specs.Listed.{listed_piece};
 
 use crate::Failed;
 use std::alloc::Global;
@@ -35,13 +36,17 @@ pub struct MemSink {
 }
 
 impl MemSink {
-    ghost use Rattle.recon_disk.specs.Memory.{bytes_kept};
+    ghost use Rattle.recon_disk.specs.Memory.{bytes_kept, room_of, fails_of_sink, sink_calls, sink_faults};
 
     /// An empty sink with room for so many bytes. A write that would pass the room fails and keeps
     /// nothing; the call with a listed number, counted from 1, fails and keeps that many bytes of its
     /// piece, at most all.
     pub fn new(alloc: Global, room: usize, fails: Vec<(u64, usize)>) -> Result<MemSink, NoMemory>
-        ensures { IfOk result (λ s. bytes_kept s ≡ []) }
+        ensures empty { IfOk result (λ s. bytes_kept s ≡ []) }
+        ensures room { IfOk result (λ s. room_of s ≡ room) }
+        ensures fails { IfOk result (λ s. fails_of_sink s ≡ fails.items) }
+        ensures calls { IfOk result (λ s. sink_calls s ≡ 0) }
+        ensures faults { IfOk result (λ s. sink_faults s ≡ 0) }
     {
         match Vec::with_capacity(alloc, room) {
             Ok(bytes) => Ok(MemSink {
@@ -63,26 +68,39 @@ impl MemSink {
     }
 }
 
+// The first entry of the list that names this call.
+#[tactic(auto, unfolding(crate::specs::Listed::listed_piece))]
+fn named(fails: &[(u64, usize)], call: u64) -> Option<(u64, usize)>
+    ensures { result ≡ listed_piece fails.now call }
+{
+    fails.iter().copied().find(|p| p.0 == call)
+}
+
 // How many bytes a listed call keeps, at most all of its piece.
 fn listed(fails: &[(u64, usize)], call: u64, len: usize) -> Option<usize>
-    ensures { IfSome result (λ keep. keep ≤ len) }
+    ensures which { result ≡ option_map (λ p. min p.1 len) (listed_piece fails.now call) }
+    ensures few { IfSome result (λ keep. keep ≤ len) }
 {
-    for (nth, keep) in fails {
-        if *nth == call {
-            return Some((*keep).min(len));
-        }
+    match named(fails, call) {
+        Some((_, keep)) => Some(keep.min(len)),
+        None => None,
     }
-    None
 }
 
 impl Sink for MemSink {
     ghost use Rattle.std.specs.Prelude.{Some};
+    ghost use Rattle.recon_disk.specs.Memory.{bytes_kept, sink_faults, IsGiven};
 
     ghost kept = { λ s. Some s.bytes.items };
 
     ghost faults = { λ s. s.faults };
 
-    fn write(&mut self, from: &[u8]) -> Result<(), Failed> {
+    fn write(&mut self, from: &[u8]) -> Result<(), Failed>
+        ensures appended { OnOk result (Some (bytes_kept self.new) ≡ Some (bytes_kept self.old ++ from.now)) }
+        ensures partly { OnErr result (MayBeAppended (Some (bytes_kept self.old)) from.now (Some (bytes_kept self.new))) }
+        ensures cause { HasCause (sink_faults self.old) (sink_faults self.new) result }
+        ensures given { IsGiven self.old from.now self.new result }
+    {
         self.calls = self.calls.saturating_add(1);
         if from.len() > self.room - self.bytes.len() {
             self.faults = self.faults.saturating_add(1);

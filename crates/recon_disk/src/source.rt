@@ -41,13 +41,17 @@ pub struct MemSource {
 }
 
 impl MemSource {
-    ghost use Rattle.recon_disk.specs.Memory.{bytes_left};
+    ghost use Rattle.recon_disk.specs.Memory.{bytes_left, step_of, fails_of_source, source_calls, source_faults};
 
     /// A source of these bytes, at most `step` of them a call. The calls whose numbers, counted from
     /// 1, stand in `fails` fail.
     pub fn new(bytes: Vec<u8>, step: usize, fails: Vec<u64>) -> MemSource
         requires { 0 < step }
-        ensures { bytes_left result ≡ bytes.items }
+        ensures left { bytes_left result ≡ bytes.items }
+        ensures step { step_of result ≡ step }
+        ensures fails { fails_of_source result ≡ fails.items }
+        ensures calls { source_calls result ≡ 0 }
+        ensures faults { source_faults result ≡ 0 }
     {
         MemSource {
             bytes,
@@ -61,7 +65,8 @@ impl MemSource {
 }
 
 impl Source for MemSource {
-    ghost use Rattle.std.specs.Prelude.{◌≡◌, Some, drop, length, nat_eq};
+    ghost use Rattle.std.specs.Prelude.{◌≡◌, Some, drop, length, min, nat_eq};
+    ghost use Rattle.recon_disk.specs.Memory.{bytes_left, is_at_end, step_of, source_faults, IsAsked};
 
     ghost left = { λ s. Some (drop s.at s.bytes.items) };
 
@@ -69,7 +74,18 @@ impl Source for MemSource {
 
     ghost faults = { λ s. s.faults };
 
-    fn read(&mut self, into: &mut [u8]) -> Result<usize, Failed> {
+    fn read(&mut self, into: &mut [u8]) -> Result<usize, Failed>
+        requires { 0 < length into.old }
+        ensures count { IfOk result (λ n. n ≤ length into.old) }
+        ensures given { IfOk result (λ n. Gives n into.new (Some (bytes_left self.old)) (Some (bytes_left self.new))) }
+        ensures end { IfOk result (λ n. n ≡ 0 → is_at_end self.new ≡ true) }
+        ensures stays { is_at_end self.old ≡ true → IfOk result (λ n. n ≡ 0) }
+        ensures goes_on { is_at_end self.old ≡ true → is_at_end self.new ≡ true }
+        ensures failed { OnErr result (Some (bytes_left self.new) ≡ Some (bytes_left self.old)) }
+        ensures cause { HasCause (source_faults self.old) (source_faults self.new) result }
+        ensures most { IfOk result (λ n. n ≡ min (min (length into.old) (step_of self.old)) (length (bytes_left self.old))) }
+        ensures asked { IsAsked self.old self.new result }
+    {
         self.calls = self.calls.saturating_add(1);
         if self.fails.contains(&self.calls) {
             self.faults = self.faults.saturating_add(1);

@@ -323,3 +323,15 @@ next-none ws k w q is h out none =
 pub next-covers : (ws : List HeldWrite) (k : ℕ) (w : HeldWrite) (q : ℕ) → w ≡ get_or ws k w → k < length ws → w.at ≤ q → q < w.at + length w.bytes → IsSome (get (cache_of ws) q)
 next-covers ws k w q is h low high =
     cache_of-covers ws k w q h (subst (λ u. u.at ≤ q) is low) (subst (λ u. q < u.at + length u.bytes) is high)
+
+-- the map that a list of no writes makes
+pub cache_of_none : (ws : List HeldWrite) → ws ≡ [] → cache_of ws ≡ empty
+cache_of_none ws e = ap cache_of e ∙ cache_of-none
+
+-- the map that a list makes to which a write was pushed, or not
+pub cache_of_pushed : (b : Bool) (ws vs : List HeldWrite) (w : HeldWrite) (m : FinMap nat_cmp ℕ) → vs ≡ cond b (ws ++ w ∷ []) ws → cache_of ws ≡ m → b ≡ true → cache_of vs ≡ with_bytes m w.at w.bytes
+cache_of_pushed b ws vs w m e is t =
+    ap cache_of (subst (λ c. vs ≡ cond c (ws ++ w ∷ []) ws) t e) ∙ cache_of-push ws w ∙ ap (λ k. with_bytes k w.at w.bytes) is
+
+-- what a push leaves
+pub ruleset pushes = (AllInside-pushed, cache_of_pushed)

@@ -38,6 +38,7 @@ impl Model for WriteCache {
 
 impl WriteCache {
     /// A cache in which nothing waits. It takes its memory from this allocator.
+    #[tactic(auto, using(crate::proofs::CacheLaws::cache_of_none))]
     pub fn new(alloc: Global) -> WriteCache
         ensures { result ≡ map.empty }
     {
@@ -60,6 +61,7 @@ impl WriteCache {
 
     /// Puts the bytes of this write, which are not copied, over what waits there. When memory is
     /// wanting, nothing changes.
+    #[tactic(auto, using(crate::proofs::CacheLaws::pushes))]
     pub fn hold(&mut self, write: HeldWrite) -> Result<(), NoMemory>
         requires { write.at + length write.bytes < 2 ^ 64 }
         ensures ok { OnOk result (self.new ≡ with_bytes self.old write.at write.bytes) }
@@ -94,6 +96,7 @@ impl WriteCache {
     }
 
     /// Lets go of all that waits.
+    #[tactic(auto, using(crate::proofs::CacheLaws::cache_of_none))]
     pub fn clear(&mut self)
         ensures { self.new ≡ map.empty }
     {

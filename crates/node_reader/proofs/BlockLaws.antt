@@ -1,0 +1,73 @@
+-- What callers need of a block that was read, and of the lists of its pointers and items.
+use Rattle.std.proofs.Common.{◌≡◌, ℕ, zero, suc, ◌+◌, ◌-◌, ◌<◌, ◌≤◌, List, [], ◌∷◌, length, get_or, drop, refl, sym, ap, ◌∙◌, arith}
+use Rattle.std.specs.Prelude.{Option, Some, None, Ok, Err}
+use Rattle.verdict.specs.declared.finding.Finding.{Finding}
+use Rattle.node_reader.specs.Places.{each_from}
+use Rattle.node_reader.specs.Faults.{block_fault, block_of, finding_or_block}
+use Rattle.node_reader.specs.declared.expect.Expect.{Expect}
+
+finding_or_block-ok : (found : Option Finding) (bytes block : List ℕ) → finding_or_block found bytes ≡ Ok block → (found ≡ None) × (block ≡ bytes)
+finding_or_block-ok None bytes block is = (refl, cc)
+finding_or_block-ok (Some finding) bytes block is = cc
+
+finding_or_block-err : (found : Option Finding) (bytes : List ℕ) (finding : Finding) → finding_or_block found bytes ≡ Err finding → found ≡ Some finding
+finding_or_block-err None bytes finding is = cc
+finding_or_block-err (Some first) bytes finding is = cc
+
+-- a block that is read breaks no rule, and is seen as the bytes
+pub block_read : (bytes fsid : List ℕ) (e : Expect) (block : List ℕ) → block_of bytes fsid e ≡ Ok block → (block_fault bytes fsid e ≡ None) × (block ≡ bytes)
+block_read bytes fsid e block is = finding_or_block-ok (block_fault bytes fsid e) bytes block is
+
+-- a block that is not read has the finding of the first rule that it breaks
+pub block_refused : (bytes fsid : List ℕ) (e : Expect) (finding : Finding) → block_of bytes fsid e ≡ Err finding → block_fault bytes fsid e ≡ Some finding
+block_refused bytes fsid e finding is = finding_or_block-err (block_fault bytes fsid e) bytes finding is
+
+each_of_some : {A : Type 0} (entry : ℕ → A) (at n : ℕ) → each_from entry at (suc n) ≡ entry at ∷ each_from entry (suc at) n
+unfolding each_from
+each_of_some entry at n = refl
+
+each_of_none : {A : Type 0} (entry : ℕ → A) (at : ℕ) → each_from entry at zero ≡ []
+unfolding each_from
+each_of_none entry at = refl
+
+-- as many stand there as there are places
+pub length_each : {A : Type 0} (entry : ℕ → A) (at n : ℕ) → length (each_from entry at n) ≡ n
+length_each entry at zero = ap length (each_of_none entry at)
+length_each entry at (suc n) = ap length (each_of_some entry at n) ∙ ap suc (length_each entry (suc at) n)
+
+-- what is left from a place on is what stands there, and what is left behind it
+pub each_left : {A : Type 0} (entry : ℕ → A) (at end : ℕ) → at < end → each_from entry at (end - at) ≡ entry at ∷ each_from entry (at + 1) (end - (at + 1))
+each_left entry at end inside =
+    let left : end - at ≡ suc (end - (at + 1)) = omega arith in
+    let next : at + 1 ≡ suc at = omega arith in
+    ap (each_from entry at) left ∙ each_of_some entry at (end - (at + 1)) ∙ ap (λ n. entry at ∷ each_from entry n (end - (at + 1))) (sym next)
+
+-- nothing is left from the end on
+pub each_left_none : {A : Type 0} (entry : ℕ → A) (at end : ℕ) → end ≤ at → each_from entry at (end - at) ≡ []
+each_left_none entry at end past =
+    let left : end - at ≡ zero = omega arith in
+    ap (each_from entry at) left ∙ each_of_none entry at
+
+-- what is left behind the first i of a list of all is what stands from place i on
+pub drop_each : {A : Type 0} (entry : ℕ → A) (i at n : ℕ) → drop i (each_from entry at n) ≡ each_from entry (at + i) (n - i)
+drop_each entry zero at n =
+    let start : at + 0 ≡ at = omega arith in
+    let all : n - 0 ≡ n = omega arith in
+    rw (start, all) refl
+drop_each entry (suc i) at zero =
+    let none : 0 - suc i ≡ zero = omega arith in
+    rw (none, each_of_none entry at, each_of_none entry (at + suc i)) refl
+drop_each entry (suc i) at (suc n) =
+    let start : at + suc i ≡ suc at + i = omega arith in
+    let rest : suc n - suc i ≡ n - i = omega arith in
+    rw (each_of_some entry at n, start, rest) (drop_each entry i (suc at) n)
+
+-- what stands at a place of the list
+pub get_each : {A : Type 0} (entry : ℕ → A) (i at n : ℕ) (default : A) → i < n → get_or (each_from entry at n) i default ≡ entry (at + i)
+get_each entry i at zero default inside = absurd (omega arith)
+get_each entry zero at (suc n) default inside =
+    let start : at + 0 ≡ at = omega arith in
+    rw (each_of_some entry at n, start) refl
+get_each entry (suc i) at (suc n) default inside =
+    let start : at + suc i ≡ suc at + i = omega arith in
+    rw (each_of_some entry at n, start) (get_each entry i (suc at) n default (omega arith))

@@ -1,0 +1,89 @@
+//! A tree block that breaks no rule, lent with its bytes.
+
+ghost use Rattle.std.specs.Prelude.{◌≡◌, ◌<◌, length, true, IfOk};
+ghost use Rattle.node_reader.specs.Layout.{is_block_size, count_of, level_of, pointer_of, item_of};
+ghost use Rattle.node_reader.specs.Faults.{block_of};
+
+use crate::fields::{key, long, word};
+use crate::rules::fault_of;
+use crate::{Expect, Pointer};
+use std::marker::Model;
+use verdict::{Finding, Key};
+
+/// A tree block that breaks no rule, seen as its bytes.
+#[derive(Drop)]
+pub struct Block<'a> {
+    bytes: &'a [u8],
+    count: u32,
+}
+
+impl<'a> Model for Block<'a> {
+    ghost use Rattle.std.specs.Prelude.{ℕ, List, ◌≡◌};
+    ghost use Rattle.node_reader.specs.Layout.{IsSound, count_of};
+
+    ghost Value = { List ℕ };
+
+    ghost view = { λ b. b.bytes.now };
+
+    ghost invariant = { λ b. IsSound b.bytes.now × (b.count ≡ count_of b.bytes.now) };
+}
+
+/// The block in these bytes, which have one of the five node sizes, where it breaks no rule for what is
+/// expected of it in the file system with this id. Else the finding of the first rule that it breaks, with
+/// the expected tree, the address as block and the low key, in the order checksum (N3), file system (N4),
+/// address (N5), relocation (U12), owner (N6), generation (N7), level (N8), number of entries (N9), first
+/// key (N10), order of keys (N11), last key (N12), a pointer's generation (N13), an item's place (N14).
+#[tactic(auto, using(crate::proofs::Sound::block_steps))]
+pub fn read_block<'a>(
+    bytes: &'a [u8],
+    fsid: &[u8; 16],
+    expect: &Expect,
+) -> Result<Block<'a>, Finding>
+    requires { is_block_size (length bytes.now) ≡ true }
+    ensures block { result ≡ block_of bytes.now fsid.now expect.now }
+    ensures level { IfOk result (λ b. level_of b ≡ expect.now.level) }
+{
+    match fault_of(bytes, fsid, expect) {
+        Some(finding) => Err(finding),
+        None => {
+            let count = word(bytes, 0x60);
+            Ok(Block { bytes, count })
+        },
+    }
+}
+
+impl<'a> Block<'a> {
+    /// How many pointers or items the block has.
+    pub fn count(&self) -> u32
+        ensures { result ≡ count_of self.now }
+    {
+        self.count
+    }
+
+    /// The pointer at place `i` of a node, counted from 0.
+    pub fn pointer(&self, i: u32) -> Pointer
+        requires node { 0 < level_of self.now }
+        requires below { i < count_of self.now }
+        ensures { result ≡ pointer_of self.now i }
+    {
+        let start = 101 + 33 * i as usize;
+        Pointer {
+            key: key(self.bytes, start),
+            address: long(self.bytes, start + 17),
+            generation: long(self.bytes, start + 25),
+        }
+    }
+
+    /// The item at place `i` of a leaf, counted from 0: its key, and its bytes, which are the block's own.
+    pub fn item(&self, i: u32) -> (Key, &'a [u8])
+        requires leaf { level_of self.now ≡ 0 }
+        requires below { i < count_of self.now }
+        ensures key { result.0 ≡ (item_of self.now i).key }
+        ensures bytes { result.1.now ≡ (item_of self.now i).bytes }
+    {
+        let entry = 101 + 25 * i as usize;
+        let start = 101 + word(self.bytes, entry + 17) as usize;
+        let size = word(self.bytes, entry + 21) as usize;
+        (key(self.bytes, entry), &self.bytes[start..start + size])
+    }
+}

@@ -1,0 +1,31 @@
+//! What the walk of a tree knows of a block before it reads it.
+
+use verdict::Key;
+
+/// What is expected of a tree block by whatever points to it.
+#[derive(Clone, Copy, Debug, PartialEq, Eq)]
+pub struct Expect {
+    /// The id of the tree that is walked.
+    pub tree: u64,
+    /// The block's logical address in bytes.
+    pub address: u64,
+    /// The generation in which it was written.
+    pub generation: u64,
+    /// Its level, 0 for a leaf.
+    pub level: u8,
+    /// Its first key, or `None` for the root of a tree.
+    pub low: Option<Key>,
+    /// The key that all its keys are below, or `None` on the rightmost path of a tree.
+    pub high: Option<Key>,
+}
+
+/// A pointer of a node to a block one level below: 33 bytes of the node.
+#[derive(Clone, Copy, Debug, PartialEq, Eq)]
+pub struct Pointer {
+    /// The first key of the block that it points to, at byte 0 of the pointer.
+    pub key: Key,
+    /// That block's logical address in bytes, at byte 17.
+    pub address: u64,
+    /// The generation in which that block was written, at byte 25.
+    pub generation: u64,
+}

@@ -1,0 +1,15 @@
+//! Tree blocks: the rules that a block must keep where the walk of a tree expects it, and what it
+//! holds, pointers in a node and items in a leaf.
+#![tactic(auto)]
+
+mod block;
+mod entries;
+mod expect;
+mod fields;
+mod rules;
+
+pub use block::{Block, read_block};
+pub use expect::{Expect, Pointer};
+
+#[cfg(test)]
+mod tests;

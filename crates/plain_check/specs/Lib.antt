@@ -1,0 +1,2 @@
+pub mod FullCheck
+pub mod Cause

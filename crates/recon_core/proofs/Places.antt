@@ -1,0 +1,220 @@
+-- What a disk holds while writes go out to it piece by piece.
+use Rattle.std.proofs.Common.{◌≡◌, ℕ, ◌+◌, ◌-◌, ◌<◌, ◌≤◌, ◌⊎◌, inl, inr, List, [], length, take, drop, get_or, refl, sym, ap, ◌∙◌, arith}
+use Rattle.std.proofs.lemmas.Bool.{cases_lt}
+use Rattle.std.proofs.lemmas.Grind.{common_steps}
+use Rattle.std.proofs.lemmas.List.{ext_get_or, length-take, length-drop, length-take-le, get_or-take, get_or-drop, take-append-drop}
+use Rattle.verdict.specs.Image.{range, written}
+use Rattle.verdict.proofs.Images.{length-written, get-written_in, get-written_before, get-written_behind}
+use Rattle.write_cache.proofs.CacheLaws.{length-range, get-range}
+use Rattle.recon_core.specs.Sending.{with_place_of}
+
+same_bytes : (xs ys : List ℕ) → length xs ≡ length ys → ((i : ℕ) → i < length xs → get_or xs i 0 ≡ get_or ys i 0) → xs ≡ ys
+same_bytes xs ys = ext_get_or 0 xs ys
+
+-- no byte written
+pub written-nil : (image : List ℕ) (at : ℕ) → written image at [] ≡ image
+unfolding written
+written-nil image at = grind (arith, common_steps, take-append-drop at image)
+
+-- a front was written, and then the bytes behind it
+pub written-more : (image bytes : List ℕ) (at done n : ℕ) → at + length bytes ≤ length image → done + n ≤ length bytes
+    → written (written image at (take done bytes)) (at + done) (take n (drop done bytes)) ≡ written image at (take (done + n) bytes)
+written-more image bytes at done n fits few =
+    let a : length (take done bytes) ≡ done = length-take-le done bytes (omega arith) in
+    let b : length (take n (drop done bytes)) ≡ n = omega (arith, length-take n (drop done bytes), length-drop done bytes) in
+    let c : length (take (done + n) bytes) ≡ done + n = length-take-le (done + n) bytes few in
+    let front : List ℕ = written image at (take done bytes) in
+    let same : length front ≡ length image = length-written image (take done bytes) at (omega arith) in
+    let left : length (written front (at + done) (take n (drop done bytes))) ≡ length image =
+    length-written front (take n (drop done bytes)) (at + done) (omega arith) ∙ same in
+    let right : length (written image at (take (done + n) bytes)) ≡ length image = length-written image (take (done + n) bytes) at (omega arith) in
+    same_bytes _ _ (left ∙ sym right) (λ i h. elim (cases_lt i at) [
+      | inl before ↦ get-written_before front (take n (drop done bytes)) (at + done) i (omega arith) (omega arith)
+          ∙ get-written_before image (take done bytes) at i (omega arith) before
+          ∙ sym (get-written_before image (take (done + n) bytes) at i (omega arith) before)
+      | inr from ↦ elim (cases_lt i (at + done)) [
+        | inl low ↦ get-written_before front (take n (drop done bytes)) (at + done) i (omega arith) low
+            ∙ get-written_in image (take done bytes) at i (omega arith) from (omega arith)
+            ∙ get_or-take done bytes (i - at) 0 (omega arith)
+            ∙ sym (get-written_in image (take (done + n) bytes) at i (omega arith) from (omega arith) ∙ get_or-take (done + n) bytes (i - at) 0 (omega arith))
+        | inr mid ↦ elim (cases_lt i (at + done + n)) [
+          | inl high ↦ get-written_in front (take n (drop done bytes)) (at + done) i (omega arith) mid (omega arith)
+              ∙ get_or-take n (drop done bytes) (i - (at + done)) 0 (omega arith)
+              ∙ get_or-drop done bytes (i - (at + done)) 0
+              ∙ ap (λ k. get_or bytes k 0) (omega arith)
+              ∙ sym (get-written_in image (take (done + n) bytes) at i (omega arith) from (omega arith) ∙ get_or-take (done + n) bytes (i - at) 0 (omega arith))
+          | inr behind ↦ get-written_behind front (take n (drop done bytes)) (at + done) i (omega arith) (omega arith)
+              ∙ get-written_behind image (take done bytes) at i (omega arith) (omega arith)
+              ∙ sym (get-written_behind image (take (done + n) bytes) at i (omega arith) (omega arith))
+        ]
+      ]
+    ])
+
+-- an image with the superblock place of another: its length, and each byte in and outside the place
+pub length-with_place_of : (other image : List ℕ) → length other ≡ length image → 69632 ≤ length image → length (with_place_of other image) ≡ length image
+unfolding with_place_of
+length-with_place_of other image same long =
+    let n : length (range 65536 4096 other) ≡ 4096 = omega (arith, length-range 65536 4096 other) in
+    length-written image (range 65536 4096 other) 65536 (omega arith)
+
+pub get-with_place_of_in : (other image : List ℕ) (i : ℕ) → length other ≡ length image → 69632 ≤ length image → 65536 ≤ i → i < 69632 → get_or (with_place_of other image) i 0 ≡ get_or other i 0
+unfolding with_place_of
+get-with_place_of_in other image i same long low high =
+    let n : length (range 65536 4096 other) ≡ 4096 = omega (arith, length-range 65536 4096 other) in
+    get-written_in image (range 65536 4096 other) 65536 i (omega arith) low (omega arith)
+    ∙ get-range 65536 4096 other (i - 65536) (omega arith) ∙ ap (λ k. get_or other k 0) (omega arith)
+
+pub get-with_place_of_out : (other image : List ℕ) (i : ℕ) → length other ≡ length image → 69632 ≤ length image → (i < 65536) ⊎ (69632 ≤ i) → get_or (with_place_of other image) i 0 ≡ get_or image i 0
+unfolding with_place_of
+get-with_place_of_out other image i same long (inl low) =
+    let n : length (range 65536 4096 other) ≡ 4096 = omega (arith, length-range 65536 4096 other) in
+    get-written_before image (range 65536 4096 other) 65536 i (omega arith) low
+get-with_place_of_out other image i same long (inr high) =
+    let n : length (range 65536 4096 other) ≡ 4096 = omega (arith, length-range 65536 4096 other) in
+    get-written_behind image (range 65536 4096 other) 65536 i (omega arith) (omega arith)
+
+-- in the superblock place or outside it
+pub data Where (i : ℕ) : Type 0 where
+  inside_place : 65536 ≤ i → i < 69632 → Where i
+  outside_place : (i < 65536) ⊎ (69632 ≤ i) → Where i
+
+pub where_is : (i : ℕ) → Where i
+where_is i = elim (cases_lt i 65536) [
+  | inl low ↦ outside_place (inl low)
+  | inr from ↦ elim (cases_lt i 69632) [ inl high ↦ inside_place from high | inr behind ↦ outside_place (inr behind) ]
+]
+
+-- an image is determined by its bytes in the place and those outside it
+pub place_ext : (xs other image : List ℕ) → length xs ≡ length image → length other ≡ length image → 69632 ≤ length image
+    → ((i : ℕ) → 65536 ≤ i → i < 69632 → get_or xs i 0 ≡ get_or other i 0)
+    → ((i : ℕ) → i < length image → (i < 65536) ⊎ (69632 ≤ i) → get_or xs i 0 ≡ get_or image i 0)
+    → xs ≡ with_place_of other image
+place_ext xs other image n same long in_ out =
+    same_bytes _ _ (n ∙ sym (length-with_place_of other image same long)) (λ i h. elim (where_is i) [
+      | inside_place low high ↦ in_ i low high ∙ sym (get-with_place_of_in other image i same long low high)
+      | outside_place w ↦ out i (omega arith) w ∙ sym (get-with_place_of_out other image i same long w)
+    ])
+
+-- a write that ends before the place
+pub sent_low : (image bytes : List ℕ) (at : ℕ) → 69632 ≤ length image → at + length bytes ≤ length image → length bytes ≤ 65536 - at → (at < 65536) ⊎ (length bytes ≡ 0) → written image at bytes ≡ with_place_of image (written image at bytes)
+sent_low image bytes at long fits low some =
+    let n : length (written image at bytes) ≡ length image = length-written image bytes at fits in
+    place_ext (written image at bytes) image (written image at bytes) refl (sym n) (omega arith)
+    (λ i l h. elim some [
+      | inl a ↦ get-written_behind image bytes at i fits (omega arith)
+      | inr z ↦ elim (cases_lt i at) [
+        | inl b ↦ get-written_before image bytes at i fits b
+        | inr b ↦ get-written_behind image bytes at i fits (omega arith)
+      ]
+    ])
+    (λ i h w. refl)
+
+-- a write of which the bytes before the place were written, and none lies behind it
+pub sent_front : (image bytes : List ℕ) (at : ℕ) → 69632 ≤ length image → at + length bytes ≤ length image → 65536 - at < length bytes → length bytes ≤ 69632 - at
+    → written image at (take (65536 - at) bytes) ≡ with_place_of image (written image at bytes)
+sent_front image bytes at long fits low high =
+    let k : length (take (65536 - at) bytes) ≡ 65536 - at = length-take-le (65536 - at) bytes (omega arith) in
+    let n : length (written image at bytes) ≡ length image = length-written image bytes at fits in
+    let m : length (written image at (take (65536 - at) bytes)) ≡ length image = length-written image (take (65536 - at) bytes) at (omega arith) in
+    place_ext (written image at (take (65536 - at) bytes)) image (written image at bytes) (m ∙ sym n) (sym n) (omega arith)
+    (λ i l h. elim (cases_lt i at) [
+      | inl b ↦ get-written_before image (take (65536 - at) bytes) at i (omega arith) b
+      | inr b ↦ get-written_behind image (take (65536 - at) bytes) at i (omega arith) (omega arith)
+    ])
+    (λ i h w. elim (cases_lt i at) [
+      | inl b ↦ get-written_before image (take (65536 - at) bytes) at i (omega arith) b ∙ sym (get-written_before image bytes at i fits b)
+      | inr b ↦ elim w [
+        | inl l ↦ get-written_in image (take (65536 - at) bytes) at i (omega arith) b (omega arith)
+            ∙ get_or-take (65536 - at) bytes (i - at) 0 (omega arith)
+            ∙ sym (get-written_in image bytes at i fits b (omega arith))
+        | inr l ↦ get-written_behind image (take (65536 - at) bytes) at i (omega arith) (omega arith)
+            ∙ sym (get-written_behind image bytes at i fits (omega arith))
+      ]
+    ])
+
+-- a write of which the bytes before and behind the place were written
+pub sent_both : (image bytes : List ℕ) (at : ℕ) → 69632 ≤ length image → at + length bytes ≤ length image → 65536 - at < length bytes → 69632 - at < length bytes
+    → written (written image at (take (65536 - at) bytes)) (at + (69632 - at)) (drop (69632 - at) bytes) ≡ with_place_of image (written image at bytes)
+sent_both image bytes at long fits low high =
+    let k : length (take (65536 - at) bytes) ≡ 65536 - at = length-take-le (65536 - at) bytes (omega arith) in
+    let d : length (drop (69632 - at) bytes) ≡ length bytes - (69632 - at) = length-drop (69632 - at) bytes in
+    let n : length (written image at bytes) ≡ length image = length-written image bytes at fits in
+    let front : List ℕ = written image at (take (65536 - at) bytes) in
+    let m : length front ≡ length image = length-written image (take (65536 - at) bytes) at (omega arith) in
+    let both : List ℕ = written front (at + (69632 - at)) (drop (69632 - at) bytes) in
+    let q : length both ≡ length image = length-written front (drop (69632 - at) bytes) (at + (69632 - at)) (omega arith) ∙ m in
+    place_ext both image (written image at bytes) (q ∙ sym n) (sym n) (omega arith)
+    (λ i l h. elim (cases_lt i (at + (69632 - at))) [
+      | inl b ↦ get-written_before front (drop (69632 - at) bytes) (at + (69632 - at)) i (omega arith) b
+          ∙ elim (cases_lt i at) [
+            | inl c ↦ get-written_before image (take (65536 - at) bytes) at i (omega arith) c
+            | inr c ↦ get-written_behind image (take (65536 - at) bytes) at i (omega arith) (omega arith)
+          ]
+      | inr b ↦ absurd (omega arith)
+    ])
+    (λ i h w. elim (cases_lt i (at + (69632 - at))) [
+      | inl b ↦ get-written_before front (drop (69632 - at) bytes) (at + (69632 - at)) i (omega arith) b
+          ∙ elim (cases_lt i at) [
+            | inl c ↦ get-written_before image (take (65536 - at) bytes) at i (omega arith) c ∙ sym (get-written_before image bytes at i fits c)
+            | inr c ↦ elim w [
+              | inl l ↦ get-written_in image (take (65536 - at) bytes) at i (omega arith) c (omega arith)
+                  ∙ get_or-take (65536 - at) bytes (i - at) 0 (omega arith)
+                  ∙ sym (get-written_in image bytes at i fits c (omega arith))
+              | inr l ↦ absurd (omega arith)
+            ]
+          ]
+      | inr b ↦ elim (cases_lt i (at + length bytes)) [
+        | inl e ↦ get-written_in front (drop (69632 - at) bytes) (at + (69632 - at)) i (omega arith) b (omega arith)
+            ∙ get_or-drop (69632 - at) bytes (i - (at + (69632 - at))) 0
+            ∙ ap (λ j. get_or bytes j 0) (omega arith)
+            ∙ sym (get-written_in image bytes at i fits (omega arith) e)
+        | inr e ↦ get-written_behind front (drop (69632 - at) bytes) (at + (69632 - at)) i (omega arith) (omega arith)
+            ∙ get-written_behind image (take (65536 - at) bytes) at i (omega arith) (omega arith)
+            ∙ sym (get-written_behind image bytes at i fits e)
+      ]
+    ])
+
+-- one more write over an image whose place is still another's
+pub sent_next : (image over bytes : List ℕ) (at : ℕ) → length over ≡ length image → 69632 ≤ length image → at + length bytes ≤ length image
+    → with_place_of (with_place_of image over) (written (with_place_of image over) at bytes) ≡ with_place_of image (written over at bytes)
+sent_next image over bytes at same long fits =
+    let n : length (with_place_of image over) ≡ length over = length-with_place_of image over (sym same) (omega arith) in
+    let m : length (written over at bytes) ≡ length over = length-written over bytes at (omega arith) in
+    let x : List ℕ = with_place_of image over in
+    let q : length (written x at bytes) ≡ length x = length-written x bytes at (omega arith) in
+    let left : length (with_place_of x (written x at bytes)) ≡ length (written x at bytes) = length-with_place_of x (written x at bytes) (sym q) (omega arith) in
+    place_ext (with_place_of x (written x at bytes)) image (written over at bytes) (left ∙ q ∙ n ∙ sym m) (sym (m ∙ same)) (omega arith)
+    (λ i l h. get-with_place_of_in x (written x at bytes) i (sym q) (omega arith) l h ∙ get-with_place_of_in image over i (sym same) (omega arith) l h)
+    (λ i h w. get-with_place_of_out x (written x at bytes) i (sym q) (omega arith) w ∙ elim (cases_lt i at) [
+      | inl b ↦ get-written_before x bytes at i (omega arith) b ∙ get-with_place_of_out image over i (sym same) (omega arith) w
+          ∙ sym (get-written_before over bytes at i (omega arith) b)
+      | inr b ↦ elim (cases_lt i (at + length bytes)) [
+        | inl e ↦ get-written_in x bytes at i (omega arith) b e ∙ sym (get-written_in over bytes at i (omega arith) b e)
+        | inr e ↦ get-written_behind x bytes at i (omega arith) e ∙ get-with_place_of_out image over i (sym same) (omega arith) w
+            ∙ sym (get-written_behind over bytes at i (omega arith) e)
+      ]
+    ])
+
+-- the place of an image itself is no change
+pub place_same : (image over : List ℕ) → length over ≡ length image → 69632 ≤ length image
+    → ((i : ℕ) → 65536 ≤ i → i < 69632 → get_or over i 0 ≡ get_or image i 0) → with_place_of image over ≡ over
+place_same image over same long agree = sym (place_ext over image over refl (sym same) (omega arith) agree (λ i h w. refl))
+
+-- the place last: it is that of the whole
+pub place_last : (image over : List ℕ) → length over ≡ length image → 69632 ≤ length image
+    → written (with_place_of image over) 65536 (range 65536 4096 over) ≡ over
+place_last image over same long =
+    let n : length (with_place_of image over) ≡ length over = length-with_place_of image over (sym same) (omega arith) in
+    let k : length (range 65536 4096 over) ≡ 4096 = omega (arith, length-range 65536 4096 over) in
+    let m : length (written (with_place_of image over) 65536 (range 65536 4096 over)) ≡ length over =
+    length-written (with_place_of image over) (range 65536 4096 over) 65536 (omega arith) ∙ n in
+    same_bytes _ _ m (λ i h. elim (where_is i) [
+      | inside_place low high ↦ get-written_in (with_place_of image over) (range 65536 4096 over) 65536 i (omega arith) low (omega arith)
+          ∙ get-range 65536 4096 over (i - 65536) (omega arith) ∙ ap (λ j. get_or over j 0) (omega arith)
+      | outside_place w ↦ elim w [
+        | inl l ↦ get-written_before (with_place_of image over) (range 65536 4096 over) 65536 i (omega arith) l
+            ∙ get-with_place_of_out image over i (sym same) (omega arith) (inl l)
+        | inr l ↦ get-written_behind (with_place_of image over) (range 65536 4096 over) 65536 i (omega arith) (omega arith)
+            ∙ get-with_place_of_out image over i (sym same) (omega arith) (inr l)
+      ]
+    ])

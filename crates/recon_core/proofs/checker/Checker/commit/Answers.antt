@@ -1,0 +1,16 @@
+use Rattle.std.proofs.Common.{sym, subst}
+use Rattle.recon_core.specs.Sending.{IsBelow}
+use Rattle.recon_core.proofs.Steps.{below_put, below_after}
+use Rattle.recon_core.proofs.checker.Checker.commit.Goals as goal
+
+pub settle-requires : goal.settle-requires
+settle-requires g c =
+    subst (IsBelow (g.D.Disk.len c.args.disk.now)) (sym c.in-Ok.ensures.ok)
+    (below_put (g.D.Disk.len c.args.disk.now) c.args.self.now.cache c.args.write.at c.args.write.bytes c.requires.below c.requires.inside)
+
+pub returns-clause-inside : goal.returns-clause-inside
+returns-clause-inside g c =
+    below_after (g.D.Disk.len c.args.disk.now) c.settle.result _ c.settle.new.self
+    (subst (IsBelow (g.D.Disk.len c.args.disk.now)) (sym c.in-Ok.ensures.ok)
+    (below_put (g.D.Disk.len c.args.disk.now) c.args.self.now.cache c.args.write.at c.args.write.bytes c.requires.below c.requires.inside))
+    c.settle.ensures.ok c.settle.ensures.err

@@ -1,0 +1,4 @@
+pub mod Machine
+pub mod Standing
+pub mod Sending
+pub mod Judged

@@ -1,0 +1,235 @@
+//! The checker: the machine's state over a disk.
+
+ghost use Rattle.std.specs.Prelude.{◌≡◌};
+ghost use Rattle.recon_core.specs.Judged.{stop_for};
+
+use crate::judged::{fetch, judge_waiting};
+use crate::range::{meets_superblock, range_of};
+use plain_check::{Fault, Verdict, judge};
+use recon_disk::{Disk, Steps};
+use std::alloc::Global;
+use verdict::{Answer, Event, Finding, HeldWrite, Stop};
+use write_cache::WriteCache;
+
+/// A checker over a disk: what waits, whether it is closed, and the disk's length in bytes. A closed
+/// checker is not used again.
+#[derive(Drop)]
+pub struct Checker {
+    /// The writes that wait.
+    pub cache: WriteCache,
+    /// Whether a fault closed it.
+    pub closed: bool,
+    /// The length of the disk in bytes.
+    pub length: u64,
+}
+
+/// What the start of a checker gives.
+#[derive(Drop)]
+pub enum Started {
+    /// The disk's image is accepted, and nothing waits.
+    Ready(Checker),
+    /// The full check's finding of the disk's image.
+    Refused(Finding),
+}
+
+impl Checker {
+    ghost use Rattle.std.specs.Prelude.{◌≡◌, ◌≢◌, ◌+◌, ◌^◌, ◌<◌, ◌≤◌, length, true, Some, None, Ok, Err, IfOk, IfErr, IfSome, IfNone, OnOk, OnErr, IsTrue, IsErrOf};
+    ghost use Rattle.std.specs.FinMap as map;
+    ghost use Rattle.verdict.specs.Image.{range};
+    ghost use Rattle.write_cache.specs.Cache.{overlaid, with_bytes};
+    ghost use Rattle.recon_core.specs.Judged.{IsSettled, StaysWhereFound};
+    ghost use Rattle.recon_core.specs.Machine.{MachineState, IsSized, machine_step};
+    ghost use Rattle.recon_core.specs.Sending.{IsBelow};
+    ghost use Rattle.recon_core.specs.Standing.{BeginsAt, BeginsOver, HasStopCause, IsAfterWant, IsNoRefusal, LetsNothingThrough, StandsFor, Takes, refusal_of, waits};
+
+    /// A checker over the disk, where the full check accepts its image. The disk's bytes stay. Its
+    /// stops are `DiskFault` and `NoMemory`.
+    pub fn start<D: Disk, L>(
+        alloc: Global,
+        disk: &mut D,
+        _steps: &mut Steps<L>,
+    ) -> Result<Started, Stop>
+        ensures told { IfOk result (λ started. IfSome (D.bytes disk.old) (λ image. BeginsOver image started)) }
+        ensures ready { IfOk result (BeginsAt (D.len disk.old)) }
+        ensures stops { IsNoRefusal result }
+        ensures bytes { D.bytes disk.new ≡ D.bytes disk.old }
+        ensures len { D.len disk.new ≡ D.len disk.old }
+        ensures cause { HasStopCause (D.faults disk.old) (D.faults disk.new) result }
+    {
+        let cache = WriteCache::new(alloc);
+        match judge(disk, &cache) {
+            Ok(Verdict::Found(finding)) => Ok(Started::Refused(finding)),
+            Ok(Verdict::Accept { .. }) => match disk.length() {
+                Ok(length) => Ok(Started::Ready(Checker {
+                    cache,
+                    closed: false,
+                    length,
+                })),
+                Err(_) => Err(Stop::DiskFault),
+            },
+            Err(Fault::Disk) => Err(Stop::DiskFault),
+            Err(Fault::NoMemory) => Err(Stop::NoMemory),
+        }
+    }
+
+    /// Takes one event. A write has 1 to 1,048,576 bytes and a fetch asks for 1 to 65,536.
+    ///
+    /// The refusals, in this order: `Closed` exactly where the checker is closed; `PastEnd` exactly
+    /// where the event's range passes the end of the disk; `NoMemory`, after which all stays, but a
+    /// judged event closes the checker; `DiskFault` only where a call of the disk failed, never at a
+    /// write that waits, and it closes the checker. The disk's bytes change only where the full check
+    /// accepts the judged image.
+    pub fn event<D: Disk, L>(
+        &mut self,
+        alloc: Global,
+        disk: &mut D,
+        ev: Event,
+        _steps: &mut Steps<L>,
+    ) -> Result<Answer, Stop>
+        requires length { self.old.length ≡ D.len disk.old }
+        requires below { IsBelow self.old.length self.old.cache }
+        requires sized { IsSized ev }
+
+        // The refusals before anything is done, after which all stays.
+        ensures refused { IfSome (refusal_of self.old ev) (λ stop. (result ≡ Err stop) × (self.new ≡ self.old) × (disk.new ≡ disk.old)) }
+        ensures only { refusal_of self.old ev ≡ None → IsNoRefusal result }
+
+        // The machine's step.
+        ensures step { (state : MachineState) → StandsFor self.old state → D.bytes disk.old ≡ Some state.image → refusal_of self.old ev ≡ None →
+            IfOk result (λ answer. Takes (machine_step state ev) answer self.new (D.bytes disk.new)) }
+        ensures kept { (state : MachineState) → StandsFor self.old state → D.bytes disk.old ≡ Some state.image →
+            LetsNothingThrough (machine_step state ev).answer → D.bytes disk.new ≡ D.bytes disk.old }
+
+        // What the other refusals leave.
+        ensures memory { IsErrOf result Stop.NoMemory → (D.bytes disk.new ≡ D.bytes disk.old) × IsAfterWant ev self.old self.new }
+        ensures fault { IsErrOf result Stop.DiskFault → self.new.closed ≡ true }
+        ensures held { IsTrue (waits ev) → (disk.new ≡ disk.old) × (result ≢ Err Stop.DiskFault) }
+        ensures cause { HasStopCause (D.faults disk.old) (D.faults disk.new) result }
+
+        // What each answer keeps.
+        ensures size { self.new.length ≡ self.old.length }
+        ensures inside { IsBelow self.old.length self.new.cache }
+        ensures len { D.len disk.new ≡ D.len disk.old }
+    {
+        if self.closed {
+            return Err(Stop::Closed);
+        }
+        let (at, len) = range_of(&ev);
+        if len > self.length || at > self.length - len {
+            return Err(Stop::PastEnd {
+                at,
+                len,
+                end: self.length,
+            });
+        }
+        match ev {
+            Event::Write { at, bytes, .. } => {
+                let write = HeldWrite { at, bytes };
+                if meets_superblock(at, len) {
+                    self.commit(disk, write)
+                } else {
+                    self.hold(write)
+                }
+            }
+            Event::Settle => self.settle(disk),
+            Event::Fetch { at, len } => self.fetch(alloc, disk, at, len),
+        }
+    }
+
+    // A write waits.
+    fn hold(&mut self, write: HeldWrite) -> Result<Answer, Stop>
+        requires fits { write.at + length write.bytes < 2 ^ 64 }
+        ensures answer { IfOk result (λ answer. answer ≡ Answer.Held) }
+        ensures ok { OnOk result (self.new ≡ record self.old { cache = with_bytes self.old.cache write.at write.bytes }) }
+        ensures err { IfErr result (λ stop. (stop ≡ Stop.NoMemory) × (self.new ≡ self.old)) }
+    {
+        match self.cache.hold(write) {
+            Ok(()) => Ok(Answer::Held),
+            Err(_) => Err(Stop::NoMemory),
+        }
+    }
+
+    // All that waits is judged.
+    fn settle<D: Disk>(&mut self, disk: &mut D) -> Result<Answer, Stop>
+        requires { IsBelow (D.len disk.old) self.old.cache }
+        ensures settled { IfOk result (λ answer. IfSome (D.bytes disk.old) (IsSettled self.old.cache answer (D.bytes disk.new))) }
+        ensures found { IfSome (D.bytes disk.old) (StaysWhereFound self.old.cache (D.bytes disk.new)) }
+        ensures ok { OnOk result (self.new ≡ record self.old { cache = map.empty }) }
+        ensures err { OnErr result (self.new ≡ record self.old { closed = true }) }
+        ensures stops { IsNoRefusal result }
+        ensures memory { IsErrOf result Stop.NoMemory → D.bytes disk.new ≡ D.bytes disk.old }
+        ensures len { D.len disk.new ≡ D.len disk.old }
+        ensures cause { HasStopCause (D.faults disk.old) (D.faults disk.new) result }
+    {
+        match judge_waiting(disk, &mut self.cache) {
+            Ok(answer) => Ok(answer),
+            Err(fault) => {
+                self.closed = true;
+                Err(stop_of(fault))
+            }
+        }
+    }
+
+    // A write that meets the superblock place is judged with all that waits, its own bytes last.
+    fn commit<D: Disk>(&mut self, disk: &mut D, write: HeldWrite) -> Result<Answer, Stop>
+        requires fits { write.at + length write.bytes < 2 ^ 64 }
+        requires below { IsBelow (D.len disk.old) self.old.cache }
+        requires inside { write.at + length write.bytes ≤ D.len disk.old }
+        ensures settled { IfOk result (λ answer. IfSome (D.bytes disk.old) (IsSettled (with_bytes self.old.cache write.at write.bytes) answer (D.bytes disk.new))) }
+        ensures found { IfSome (D.bytes disk.old) (StaysWhereFound (with_bytes self.old.cache write.at write.bytes) (D.bytes disk.new)) }
+        ensures ok { OnOk result (self.new ≡ record self.old { cache = map.empty }) }
+        ensures err { OnErr result ((self.new.closed ≡ true) × (self.new.length ≡ self.old.length)) }
+        ensures inside { IsBelow (D.len disk.old) self.new.cache }
+        ensures stops { IsNoRefusal result }
+        ensures memory { IsErrOf result Stop.NoMemory → D.bytes disk.new ≡ D.bytes disk.old }
+        ensures len { D.len disk.new ≡ D.len disk.old }
+        ensures cause { HasStopCause (D.faults disk.old) (D.faults disk.new) result }
+    {
+        let Ok(()) = self.cache.hold(write) else {
+            self.closed = true;
+            return Err(Stop::NoMemory);
+        };
+        self.settle(disk)
+    }
+
+    // The bytes of a range with all that waits over them.
+    fn fetch<D: Disk>(
+        &mut self,
+        alloc: Global,
+        disk: &mut D,
+        at: u64,
+        len: u32,
+    ) -> Result<Answer, Stop>
+        requires some { 1 ≤ len }
+        requires few { len ≤ 65536 }
+        requires inside { at + len ≤ D.len disk.old }
+        requires fits { at + len < 2 ^ 64 }
+        ensures bytes { IfOk result (λ answer. IfSome (D.bytes disk.old) (λ image. answer ≡ Answer.Fetched (range at len (overlaid self.old.cache 0 image)))) }
+        ensures ok { OnOk result (self.new ≡ self.old) }
+        ensures memory { IsErrOf result Stop.NoMemory → self.new ≡ self.old }
+        ensures fault { IsErrOf result Stop.DiskFault → self.new ≡ record self.old { closed = true } }
+        ensures stops { IsNoRefusal result }
+        ensures stays { D.bytes disk.new ≡ D.bytes disk.old }
+        ensures len { D.len disk.new ≡ D.len disk.old }
+        ensures cause { HasStopCause (D.faults disk.old) (D.faults disk.new) result }
+    {
+        match fetch(alloc, disk, &self.cache, at, len) {
+            Ok(bytes) => Ok(Answer::Fetched(bytes)),
+            Err(Fault::Disk) => {
+                self.closed = true;
+                Err(Stop::DiskFault)
+            }
+            Err(Fault::NoMemory) => Err(Stop::NoMemory),
+        }
+    }
+}
+
+// The stop that a fault of the judge makes.
+fn stop_of(fault: Fault) -> Stop
+    ensures { result ≡ stop_for fault }
+{
+    match fault {
+        Fault::Disk => Stop::DiskFault,
+        Fault::NoMemory => Stop::NoMemory,
+    }
+}

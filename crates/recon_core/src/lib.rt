@@ -1,0 +1,10 @@
+//! The checking machine: it holds writes back, judges each commit, and lets it reach the disk only
+//! where the full check accepts the image that it would make.
+#![tactic(auto)]
+
+mod checker;
+mod judged;
+mod range;
+mod send;
+
+pub use checker::{Checker, Started};

@@ -1,0 +1,124 @@
+//! Each line as it is to be printed.
+
+use crate::{Line, text_of};
+use std::alloc::AllocError;
+use verdict::{Bytes, Family, Finding, Key, NoMemory, Rule};
+
+// A finding of these numbers.
+fn finding(
+    family: Family,
+    number: u8,
+    tree: u64,
+    block: u64,
+    key: (u64, u8, u64),
+    detail: u64,
+) -> Finding {
+    Finding {
+        rule: Rule { family, number },
+        tree,
+        block,
+        key: Key {
+            objectid: key.0,
+            kind: key.1,
+            offset: key.2,
+        },
+        detail,
+    }
+}
+
+// Whether the text of the line is this one.
+fn prints(rt: &HostRuntime, line: &Line, want: &str) -> bool {
+    let printable = match line {
+        Line::BadTrace { number, .. } => 1 <= *number && *number <= 7,
+        _ => true,
+    };
+    printable && text_of(rt.alloc(), line).is_ok_and(|text| text.as_slice() == want.as_bytes())
+}
+
+#[test]
+fn each_line_has_its_text(rt: HostRuntime) -> Result<(), AllocError> {
+    let short = finding(Family::S, 1, 0, 0, (0, 0, 0), 16);
+    let lost = finding(Family::N, 3, 1, 5357568, (0, 0, 0), 4294967295);
+    let account = finding(Family::A, 6, 0, 0, (5242880, 192, 8388608), 36);
+    let fetched = Bytes::of(rt.alloc(), b"ABCD\x00\xff").map_err(|_| AllocError)?;
+    let rows = [
+        (
+            Line::Image { generation: 1 },
+            "image accepted generation 1\n",
+        ),
+        (
+            Line::Refused(short),
+            "image refused S1 tree 0 block 0 key 0 0 0 detail 16\n",
+        ),
+        (
+            Line::Passed {
+                settle: false,
+                number: 1,
+                generation: 2,
+                blocks: 6,
+                hot: 0,
+            },
+            "commit 1 passed generation 2 blocks 6 hot 0\n",
+        ),
+        (
+            Line::Passed {
+                settle: true,
+                number: 2,
+                generation: 1,
+                blocks: 2,
+                hot: 1,
+            },
+            "settle 2 passed generation 1 blocks 2 hot 1\n",
+        ),
+        (
+            Line::Rejected {
+                settle: false,
+                number: 1,
+                finding: lost,
+            },
+            "commit 1 rejected N3 tree 1 block 5357568 key 0 0 0 detail 4294967295\n",
+        ),
+        (
+            Line::Rejected {
+                settle: true,
+                number: 12,
+                finding: account,
+            },
+            "settle 12 rejected A6 tree 0 block 0 key 5242880 192 8388608 detail 36\n",
+        ),
+        (
+            Line::Fetched {
+                at: 30408704,
+                bytes: fetched,
+            },
+            "fetch 30408704 6 4142434400ff\n",
+        ),
+        (
+            Line::End {
+                passed: 200,
+                rejected: 1,
+            },
+            "end passed 200 rejected 1\n",
+        ),
+        (
+            Line::BadTrace {
+                number: 4,
+                place: 1,
+            },
+            "trace fault 4 Truncated record 1\n",
+        ),
+        (
+            Line::Past {
+                place: 1,
+                at: 33554425,
+                len: 8,
+                end: 33554432,
+            },
+            "trace past end record 1 at 33554425 len 8 end 33554432\n",
+        ),
+    ];
+    for (line, want) in &rows {
+        assert!(rt; prints(&rt, line, want), "{want}");
+    }
+    Ok(())
+}

@@ -1,0 +1,5 @@
+pub mod Fault
+pub mod Trace
+pub mod Reader
+pub mod Reading
+pub mod Pieces
