@@ -103,6 +103,7 @@ impl Checker {
         // What the other refusals leave.
         ensures memory { IsErrOf result Stop.NoMemory → (D.bytes disk.new ≡ D.bytes disk.old) × IsAfterWant ev self.old self.new }
         ensures fault { IsErrOf result Stop.DiskFault → self.new.closed ≡ true }
+        ensures answered { OnOk result (self.new.closed ≡ self.old.closed) }
         ensures held { IsTrue (waits ev) → (disk.new ≡ disk.old) × (result ≢ Err Stop.DiskFault) }
         ensures cause { HasStopCause (D.faults disk.old) (D.faults disk.new) result }
 

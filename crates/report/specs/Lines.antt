@@ -36,7 +36,7 @@ finding_text f =
     ++ codes " detail " ++ decimal f.detail
 
 -- the text of a line; the bytes of a fetch stand as two lower-case hexadecimal digits each
-abbrev pub text_line : Line → List ℕ
+unfoldable pub text_line : Line → List ℕ
 text_line (Image generation) =
     codes "image accepted generation " ++ decimal generation ++ line_feed
 text_line (Refused finding) =

@@ -20,6 +20,7 @@ pub fn text_of(alloc: Global, line: &Line) -> Result<Bytes, NoMemory>
 }
 
 // The line as a string.
+#[tactic(auto, unfolding(crate::specs::Lines::text_line))]
 fn printed(alloc: Global, line: &Line) -> Result<String, AllocError>
     requires { IsPrintable line.now }
     ensures { IfOk result (λ text. string_bytes text ≡ text_line line.now) }

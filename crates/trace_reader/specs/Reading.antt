@@ -6,7 +6,7 @@ use Rattle.trace_reader.specs.declared.reader.Item.{Item}
 use Rattle.trace_reader.specs.declared.reader.Item.TheVariants.{Event as an_event, End as the_end}
 use Rattle.trace_reader.specs.declared.fault.TraceFault.{TraceFault}
 use Rattle.trace_reader.specs.declared.fault.TraceFault.TheVariants.{Truncated, ReadFault, NoMemory}
-use Rattle.trace_reader.specs.Trace.{header_bytes, spelling_of, IsSpelled, IsWriteLength, write_length, Ending, Fault, HeaderEnds, EndsAs}
+use Rattle.trace_reader.specs.Trace.{header_bytes, spelling_of, HasLength, IsSpelled, IsWriteLength, write_length, Ending, Fault, HeaderEnds, EndsAs}
 use Rattle.trace_reader.specs.Reader.{ReaderState}
 
 -- what stands in front of the next record: the header, where it is still to be read
@@ -86,3 +86,8 @@ Tells s bytes (Err f) new after = MeetsEnding s bytes (Fault f new.number)
 abbrev pub HasReadCause : {T : Type 0} → ℕ → ℕ → Result T TraceFault → Type 0
 HasReadCause before now (Err ReadFault) = (before ≤ now) × (counted before ≤ now)
 HasReadCause before now _ = now ≡ before
+
+-- an event that was read has such a size, whether or not the source tells its bytes
+abbrev pub IsSizedItem : Item → Type 0
+IsSizedItem (an_event e) = HasLength e
+IsSizedItem the_end = Unit {0}

@@ -40,6 +40,12 @@ IsSpelled (Write submitter at bytes) =
 IsSpelled Settle = ⊥
 IsSpelled (Fetch at len) = ⊥
 
+-- the sizes of the events that a trace may hold
+abbrev pub HasLength : Event → Type 0
+HasLength (Write submitter at bytes) = IsWriteLength (length bytes)
+HasLength Settle = ⊥
+HasLength (Fetch at len) = ⊥
+
 -- how a trace ends: with its end tag, or with a fault at a record, the header being record 0
 pub data Ending : Type 0 where
   End : Ending

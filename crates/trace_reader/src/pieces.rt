@@ -1,8 +1,8 @@
 //! The pieces of a trace, as they come from a source.
 
-ghost use Rattle.std.specs.Prelude.{◌≡◌, ◌∷◌, ◌≤◌, None, IfSome};
+ghost use Rattle.std.specs.Prelude.{◌≡◌, ◌∷◌, ◌≤◌, None, IfOk, IfSome, length};
 ghost use Rattle.trace_reader.specs.Reading.{HasReadCause};
-ghost use Rattle.trace_reader.specs.Trace.{IsBytes};
+ghost use Rattle.trace_reader.specs.Trace.{HasLength, IsBytes};
 ghost use Rattle.trace_reader.specs.Pieces.{Fills, ReadsBytes, ReadsWrite};
 
 use crate::TraceFault;
@@ -35,6 +35,7 @@ pub fn fill<S: Source>(source: &mut S, piece: &mut [u8]) -> Result<(), TraceFaul
 // The bytes of a write, held. Nothing is read where there is no memory for them.
 fn read_bytes<S: Source>(alloc: Global, len: usize, source: &mut S) -> Result<Bytes, TraceFault>
     ensures told { IfSome (S.left source.old) (λ bytes. ReadsBytes len bytes result (S.left source.new)) }
+    ensures size { IfOk result (λ bytes. length bytes ≡ len) }
     ensures untold { S.left source.old ≡ None → S.left source.new ≡ None }
     ensures cause { HasReadCause (S.faults source.old) (S.faults source.new) result }
 {
@@ -48,6 +49,7 @@ fn read_bytes<S: Source>(alloc: Global, len: usize, source: &mut S) -> Result<By
 /// A write, whose tag was taken before.
 pub fn read_write<S: Source>(alloc: Global, source: &mut S) -> Result<Event, TraceFault>
     ensures told { IfSome (S.left source.old) (λ bytes. ReadsWrite (1 ∷ bytes) result (S.left source.new)) }
+    ensures sized { IfOk result HasLength }
     ensures untold { S.left source.old ≡ None → S.left source.new ≡ None }
     ensures cause { HasReadCause (S.faults source.old) (S.faults source.new) result }
 {

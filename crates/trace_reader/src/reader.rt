@@ -1,7 +1,7 @@
 //! The reader of a trace.
 
-ghost use Rattle.std.specs.Prelude.{◌≡◌, ◌+◌, ◌-◌, ◌^◌, ◌≤◌, true, None, min, IfSome, OnErr};
-ghost use Rattle.trace_reader.specs.Reading.{first_state, IsAfter, Tells, HasReadCause};
+ghost use Rattle.std.specs.Prelude.{◌≡◌, ◌+◌, ◌-◌, ◌^◌, ◌≤◌, true, None, min, IfOk, IfSome, OnErr};
+ghost use Rattle.trace_reader.specs.Reading.{first_state, IsAfter, IsSizedItem, Tells, HasReadCause};
 ghost use Rattle.trace_reader.specs.Pieces.{ReadsFront, ReadsRecord, HasRoom};
 
 use crate::TraceFault;
@@ -87,6 +87,7 @@ impl TraceReader {
         requires { self.old.live ≡ true }
         ensures told { IfSome (S.left source.old) (λ bytes. Tells self.old bytes result self.new (S.left source.new)) }
         ensures untold { S.left source.old ≡ None → S.left source.new ≡ None }
+        ensures sized { IfOk result IsSizedItem }
         ensures state { IsAfter self.old result self.new }
         ensures within { self.new.whole ≤ self.new.limit }
         ensures cause { HasReadCause (S.faults source.old) (S.faults source.new) result }
@@ -143,6 +144,7 @@ fn read_record<S: Source>(
 ) -> Result<Item, TraceFault>
     requires { whole ≤ limit }
     ensures room { HasRoom limit whole result }
+    ensures sized { IfOk result IsSizedItem }
     ensures told { IfSome (S.left source.old) (λ bytes. ReadsRecord limit whole bytes result (S.left source.new)) }
     ensures untold { S.left source.old ≡ None → S.left source.new ≡ None }
     ensures cause { HasReadCause (S.faults source.old) (S.faults source.new) result }

@@ -2,3 +2,5 @@ pub mod Image
 pub mod Rules
 pub mod OnDisk
 pub mod Letter
+pub mod Items
+pub mod Chunks

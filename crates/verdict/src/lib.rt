@@ -5,8 +5,10 @@ mod bytes;
 mod finding;
 mod key;
 mod machine;
+mod place;
 
 pub use bytes::{Bytes, NoMemory};
 pub use finding::{Family, Finding, Rule};
 pub use key::{Key, key_at};
 pub use machine::{Answer, Event, HeldWrite, Stop};
+pub use place::{At, Chunk, Place, TreeSort};

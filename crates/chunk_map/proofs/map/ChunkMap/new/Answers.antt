@@ -1,0 +1,5 @@
+use Rattle.chunk_map.proofs.Ordered.{none_in_order}
+use Rattle.chunk_map.proofs.map.ChunkMap.new.Goals as goal
+
+pub invariant_of-result : goal.invariant_of-result
+invariant_of-result c = none_in_order _ _ c.new.ensures.items c.new-2.ensures.items

@@ -1,0 +1,164 @@
+//! The list of chunks.
+
+ghost use Rattle.std.specs.Prelude.{◌≡◌, ◌+◌, ◌-◌, ◌≤◌, ◌<◌, ◌^◌, [], ◌∷◌, ◌++◌, length, IfOk, IfSome, OnOk, OnErr};
+ghost use Rattle.verdict.specs.Chunks.{home, place, logical_of};
+ghost use Rattle.chunk_map.specs.Order.{rank_by_start};
+ghost use Rattle.chunk_map.specs.MapRules.{map_finding};
+ghost use Rattle.chunk_map.specs.SystemArray.{chunks_of, sys_of};
+
+use crate::array::read_pair;
+use crate::copies::{holds, logical_in, place_of};
+use crate::rules::{array_fault, sorted_fault};
+use std::alloc::Global;
+use std::marker::Model;
+use super_reader::Super;
+use verdict::{Chunk, Finding, NoMemory, Place};
+
+/// A list of chunks, by which ranges of logical addresses stand on the device.
+#[derive(Debug, Drop)]
+pub struct ChunkMap {
+    chunks: Vec<Chunk>,
+    // The same chunks by start, those of one start in the order of the list.
+    sorted: Vec<Chunk>,
+}
+
+/// What the system chunk array of a superblock gives.
+#[derive(Debug, Drop)]
+pub enum Sys {
+    /// Its chunks, in the order of the array.
+    Map(ChunkMap),
+    /// The finding of the first pair that breaks a rule.
+    Found(Finding),
+}
+
+impl Model for ChunkMap {
+    ghost use Rattle.std.specs.Prelude.{List};
+    ghost use Rattle.verdict.specs.declared.place.Chunk.{Chunk};
+    ghost use Rattle.chunk_map.specs.Order.{InOrder};
+
+    ghost Value = { List Chunk };
+
+    ghost view = { λ m. m.chunks.items };
+
+    ghost invariant = { λ m. InOrder m.chunks.items m.sorted.items };
+}
+
+impl ChunkMap {
+    /// The empty list. It takes its memory from this allocator.
+    pub fn new(alloc: Global) -> ChunkMap
+        ensures { result ≡ [] }
+    {
+        ChunkMap {
+            chunks: Vec::new(alloc),
+            sorted: Vec::new(alloc),
+        }
+    }
+
+    /// The chunks of a superblock's system chunk array, or the finding of its first pair that breaks a
+    /// rule: that it is a pair of a key (256, 228, any) and a whole chunk item (S9), and then the rules
+    /// of the chunk item.
+    pub fn from_sys(alloc: Global, sup: &Super) -> Result<Sys, NoMemory>
+        requires { sup.now.array_size ≤ 2048 }
+        ensures { IfOk result (λ sys. sys ≡ sys_of (chunks_of sup.now)) }
+    {
+        let mut map = ChunkMap::new(alloc);
+        let mut at = 0;
+        while at < sup.array_size as usize {
+            let pair = match read_pair(sup, at) {
+                Ok(pair) => pair,
+                Err(finding) => return Ok(Sys::Found(finding)),
+            };
+            map.add(&pair.item.chunk())?;
+            at = pair.end;
+        }
+        Ok(Sys::Map(map))
+    }
+
+    /// Puts a chunk at the end of the list. When memory is wanting, nothing changes.
+    pub fn add(&mut self, chunk: &Chunk) -> Result<(), NoMemory>
+        requires { chunk.now.start + chunk.now.length < 2 ^ 64 }
+        ensures ok { OnOk result (self.new ≡ self.old ++ chunk.now ∷ []) }
+        ensures err { OnErr result (self.new ≡ self.old) }
+    {
+        let rank = rank_of(&self.sorted, chunk.start);
+        if self.sorted.insert(rank, *chunk).is_err() {
+            return Err(NoMemory);
+        }
+        if self.chunks.push(*chunk).is_err() {
+            self.sorted.remove(rank);
+            return Err(NoMemory);
+        }
+        Ok(())
+    }
+
+    /// Where `len` bytes from the logical address `addr` on stand, on a device of `end` bytes. The
+    /// first chunk of the list that holds them whole decides.
+    pub fn place(&self, addr: u64, len: u64, end: u64) -> Place
+        ensures { result ≡ place self.now addr len end }
+    {
+        match home_in(&self.chunks, addr, len) {
+            Some(chunk) => place_of(&chunk, addr - chunk.start, len, end),
+            None => Place::Nowhere,
+        }
+    }
+
+    /// The logical address whose copy stands at the byte `physical` of the device, in the first chunk
+    /// of the list that has one there.
+    pub fn logical_at(&self, physical: u64) -> Option<u64>
+        ensures { result ≡ logical_of self.now physical }
+    {
+        for chunk in &self.chunks {
+            if let Some(address) = logical_in(chunk, physical) {
+                return Some(address);
+            }
+        }
+        None
+    }
+
+    /// The chunks, in the order in which they were put.
+    pub fn chunks(&self) -> &[Chunk]
+        ensures { result.now ≡ self.now }
+    {
+        self.chunks.as_slice()
+    }
+
+    /// The first finding on these chunks as those of the chunk tree, beside those of the system array,
+    /// on a device of `end` bytes: a chunk of the array that is not one of these (S10), and then by
+    /// start a chunk that begins inside the one before it (M1), and each copy that passes the end (M3)
+    /// or meets an earlier copy (M2). All copies are on the one device.
+    pub fn map_fault(&self, sys: &ChunkMap, _devid: u64, end: u64) -> Option<Finding>
+        ensures { result ≡ map_finding self.now sys.now end }
+    {
+        if let Some(found) = array_fault(&self.chunks, &sys.chunks) {
+            return Some(found);
+        }
+        sorted_fault(&self.sorted, end)
+    }
+}
+
+/// The first chunk of a list that holds `len` bytes from a logical address on whole.
+fn home_in(chunks: &[Chunk], addr: u64, len: u64) -> Option<Chunk>
+    ensures home { result ≡ home chunks.now addr len }
+    ensures held { IfSome result (λ chunk. (chunk.start ≤ addr) × (addr - chunk.start + len < 2 ^ 64)) }
+{
+    for chunk in chunks {
+        if holds(chunk, addr, len) {
+            return Some(*chunk);
+        }
+    }
+    None
+}
+
+/// The place that a chunk with this start takes among chunks by start: behind those that do not start
+/// behind it.
+fn rank_of(sorted: &[Chunk], start: u64) -> usize
+    ensures rank { result ≡ rank_by_start start sorted.now }
+    ensures low { result ≤ length sorted.now }
+{
+    for (rank, chunk) in sorted.iter().enumerate() {
+        if chunk.start > start {
+            return rank;
+        }
+    }
+    sorted.len()
+}

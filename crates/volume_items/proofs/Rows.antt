@@ -1,0 +1,78 @@
+-- A table of rules in two parts: the first that fails is that of the first part, else of the second.
+use Rattle.std.proofs.Common.{◌≡◌, ℕ, zero, suc, ◌-◌, ◌*◌, ◌/◌, ◌<◌, ◌≤◌, List, [], ◌∷◌, ◌++◌, length, take, drop, true, false, refl, ap, sym, ◌∙◌, cond, arith, length-drop}
+use Rattle.std.proofs.lemmas.Grind.{common_steps}
+use Rattle.std.specs.Prelude.{Option, Some, None, Ok, Err}
+use Rattle.verdict.specs.Rules.{TableRow, first_failing}
+use Rattle.recon_bytes.specs.Field.{field}
+use Rattle.verdict.specs.declared.finding.Finding.{Finding}
+use Rattle.verdict.specs.declared.key.Key.{Key}
+use Rattle.verdict.specs.declared.place.At.{At}
+use Rattle.volume_items.specs.ChunkRow.{stripe_list, stripes_of, frame_rows, field_rows, stripe_rows, chunk_rows, chunk_row, chunk_fields, finding_or}
+
+abbrev pub found_or : Option Finding → Option Finding → Option Finding
+found_or (Some finding) rest = Some finding
+found_or None rest = rest
+
+pub first_failing_joined : (first second : List TableRow) → first_failing (first ++ second) ≡ found_or (first_failing first) (first_failing second)
+first_failing_joined [] second = refl
+first_failing_joined (row ∷ rows) second =
+    elim row.fails as (λ fails. cond fails (Some row.finding) (first_failing (rows ++ second)) ≡ found_or (cond fails (Some row.finding) (first_failing rows)) (first_failing second))
+    [ true ↦ refl | false ↦ first_failing_joined rows second ]
+
+-- one stripe more fits where 32 bytes are there, and none where fewer are
+pub stripes_more : (bytes : List ℕ) → 32 ≤ length bytes → stripes_of bytes ≡ record { devid = field 8 bytes 0; physical = field 8 bytes 8 } ∷ stripes_of (drop 32 bytes)
+stripes_more bytes h =
+    let count : length bytes / 32 ≡ suc (length (drop 32 bytes) / 32) = omega (arith, length-drop 32 bytes) in
+    ap (λ n. stripe_list n bytes) count
+
+pub stripes_none : (bytes : List ℕ) → length bytes < 32 → stripes_of bytes ≡ []
+stripes_none bytes h =
+    let count : length bytes / 32 ≡ 0 = omega arith in
+    ap (λ n. stripe_list n bytes) count
+
+pub ruleset next_stripe = (stripes_more, stripes_none)
+
+pub length-stripe_list : (n : ℕ) (bytes : List ℕ) → length (stripe_list n bytes) ≡ n
+length-stripe_list zero bytes = refl
+length-stripe_list (suc n) bytes = ap suc (length-stripe_list n (drop 32 bytes))
+
+-- so many stripes have room in the bytes
+pub stripes_fit : (bytes : List ℕ) → 32 * length (stripes_of bytes) ≤ length bytes
+stripes_fit bytes = omega (arith, length-stripe_list (length bytes / 32) bytes)
+
+-- the first of some stripes, as it is read, and those behind it
+pub stripes_step : (bytes rest : List ℕ) (devid physical : ℕ) → 32 ≤ length bytes → devid ≡ field 8 bytes 0 → physical ≡ field 8 bytes 8 → rest ≡ drop 32 bytes → stripes_of bytes ≡ record { devid = devid; physical = physical } ∷ stripes_of rest
+stripes_step bytes rest devid physical h d p r = rw (d, p, r) (stripes_more bytes h)
+
+three : (at : At) (key : Key) (bytes rest : List ℕ) (size : ℕ) (frame fields : Option Finding) → frame ≡ first_failing (frame_rows at key bytes) → frame ≡ None → fields ≡ first_failing (field_rows at key bytes) → fields ≡ None → size ≡ field 8 bytes 0 → rest ≡ drop 48 bytes → first_failing (chunk_rows at key bytes) ≡ first_failing (stripe_rows at key size 48 (stripes_of rest))
+three at key bytes rest size frame fields f f0 g g0 s r =
+    let last : List TableRow = stripe_rows at key (field 8 bytes 0) 48 (stripes_of (drop 48 bytes)) in
+    first_failing_joined (frame_rows at key bytes) (field_rows at key bytes ++ last)
+    ∙ ap (λ o. found_or o (first_failing (field_rows at key bytes ++ last))) (sym f ∙ f0)
+    ∙ first_failing_joined (field_rows at key bytes) last
+    ∙ ap (λ o. found_or o (first_failing last)) (sym g ∙ g0)
+    ∙ ap (λ n. first_failing (stripe_rows at key n 48 (stripes_of (drop 48 bytes)))) (sym s)
+    ∙ ap (λ b. first_failing (stripe_rows at key size 48 (stripes_of b))) (sym r)
+
+-- the finding of the last part of a chunk's rules, where the parts before it are kept
+pub row_at_stripes : (at : At) (key : Key) (bytes rest : List ℕ) (size : ℕ) (frame fields : Option Finding) (finding : Finding) → frame ≡ first_failing (frame_rows at key bytes) → frame ≡ None → fields ≡ first_failing (field_rows at key bytes) → fields ≡ None → size ≡ field 8 bytes 0 → rest ≡ drop 48 bytes → Some finding ≡ first_failing (stripe_rows at key size 48 (stripes_of rest)) → chunk_row at key bytes ≡ Err finding
+unfolding chunk_row
+row_at_stripes at key bytes rest size frame fields finding f f0 g g0 s r last =
+    ap (λ o. finding_or o (chunk_fields key bytes)) (three at key bytes rest size frame fields f f0 g g0 s r ∙ sym last)
+
+-- the fields, where all parts are kept
+pub row_kept : (at : At) (key : Key) (bytes rest : List ℕ) (size class : ℕ) (frame fields stripes : Option Finding) → frame ≡ first_failing (frame_rows at key bytes) → frame ≡ None → fields ≡ first_failing (field_rows at key bytes) → fields ≡ None → size ≡ field 8 bytes 0 → class ≡ field 8 bytes 24 → rest ≡ drop 48 bytes → stripes ≡ first_failing (stripe_rows at key size 48 (stripes_of rest)) → stripes ≡ None → chunk_row at key bytes ≡ Ok (record { key = key; length = size; class = class; stripes = stripes_of rest })
+unfolding chunk_row
+row_kept at key bytes rest size class frame fields stripes f f0 g g0 s k r last last0 =
+    ap (λ o. finding_or o (chunk_fields key bytes)) (three at key bytes rest size frame fields f f0 g g0 s r ∙ sym last ∙ last0)
+    ∙ rw (s, k, r) refl
+
+-- all bytes behind a place
+pub all_behind : (n : ℕ) (bytes : List ℕ) → take (length bytes - n) (drop n bytes) ≡ drop n bytes
+all_behind n bytes = grind (arith, common_steps)
+
+-- behind a stripe there are fewer
+pub stripes_fewer : (bytes : List ℕ) → 32 ≤ length bytes → length (stripes_of (take (length bytes - 32) (drop 32 bytes))) < length (stripes_of bytes)
+stripes_fewer bytes h =
+    let rest : List ℕ = take (length bytes - 32) (drop 32 bytes) in
+    omega (arith, length-stripe_list (length bytes / 32) bytes, length-stripe_list (length rest / 32) rest, ap length (all_behind 32 bytes), length-drop 32 bytes)

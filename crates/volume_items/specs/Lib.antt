@@ -1,0 +1,2 @@
+pub mod ChunkRow
+pub mod ChunkItems
