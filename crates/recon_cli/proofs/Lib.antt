@@ -1,0 +1,3 @@
+mod TwoWords
+pub mod Going
+pub mod Start

@@ -1,0 +1,76 @@
+-- How a replay begins, and what it comes to as a whole.
+use Rattle.std.proofs.Common.{◌≡◌, ℕ, List, ◌++◌, Option, Some, IfSome, option_map, Result, Ok, Err, sym, ap, ◌∙◌, subst, append_assoc}
+use Rattle.std.specs.Ordering.{nat_cmp}
+use Rattle.std.specs.FinMap.{FinMap, empty}
+use Rattle.verdict.specs.declared.finding.Finding.{Finding}
+use Rattle.super_reader.specs.declared.Super.{Super}
+use Rattle.write_cache.specs.Cache.{overlaid}
+use Rattle.write_cache.proofs.CacheLaws.{overlaid-empty}
+use Rattle.plain_check.specs.FullCheck.{full_check, superblock_in}
+use Rattle.plain_check.specs.declared.image.Verdict.TheVariants.{Accept, Found}
+use Rattle.plain_check.proofs.Told.{accepted_superblock}
+use Rattle.recon_core.specs.Standing.{IsAccepted, first_state}
+use Rattle.trace_reader.specs.Trace.{IsBytes}
+use Rattle.trace_reader.proofs.Records.{one}
+use Rattle.report.specs.Lines.{text_line}
+use Rattle.report.specs.declared.line.Line.TheVariants.{Image, Refused}
+use Rattle.recon_cli.specs.Outcome.{Outcome, no_tally, outcome_from, replay_by}
+use Rattle.recon_cli.specs.Run.{ComesOut, Replays, ReplaysAs, record_limit}
+
+in_image : (image : List ℕ) (m : FinMap nat_cmp ℕ) (told : Option (List ℕ)) (r : Result Super Finding) → m ≡ empty → told ≡ Some image
+    → IfSome told (λ i. r ≡ superblock_in (overlaid m 0 i)) → r ≡ superblock_in image
+in_image image m told r none is found =
+    subst (λ o. IfSome o (λ i. r ≡ superblock_in (overlaid m 0 i))) is found ∙ ap superblock_in (ap (λ k. overlaid k 0 image) none ∙ overlaid-empty 0 image)
+
+ok_not_err : (sup : Super) (finding : Finding) (r : Result Super Finding) → r ≡ Ok sup → r ≡ Err finding → ⊥
+ok_not_err sup finding r a b = cc
+
+ok_one : (a b : Super) (r : Result Super Finding) → r ≡ Ok a → r ≡ Ok b → a ≡ b
+ok_one a b r x y = cc
+
+-- the generation that is printed is that of the accepted image
+pub accepted_is : (image : List ℕ) (m : FinMap nat_cmp ℕ) (told : Option (List ℕ)) (r : Result Super Finding) (sup : Super) → m ≡ empty → told ≡ Some image
+    → IfSome told (λ i. r ≡ superblock_in (overlaid m 0 i)) → r ≡ Ok sup → IsAccepted image → full_check image ≡ Accept sup.generation
+accepted_is image m told r sup none is found ok accepted =
+    let has = accepted_superblock image accepted.0 accepted.1 in
+    let e : has.0 ≡ sup = ok_one has.0 sup r (in_image image m told r none is found ∙ has.1) ok in
+    accepted.1 ∙ ap Accept (sym has.2 ∙ ap (λ s. s.generation) e)
+
+pub not_found : (image : List ℕ) (m : FinMap nat_cmp ℕ) (told : Option (List ℕ)) (r : Result Super Finding) (finding : Finding) → m ≡ empty → told ≡ Some image
+    → IfSome told (λ i. r ≡ superblock_in (overlaid m 0 i)) → r ≡ Err finding → IsAccepted image → ⊥
+not_found image m told r finding none is found err accepted =
+    let has = accepted_superblock image accepted.0 accepted.1 in
+    ok_not_err has.0 finding r (in_image image m told r none is found ∙ has.1) err
+
+-- a replay over an accepted image
+pub replays_accepted : (image bytes kept : List ℕ) (generation status : ℕ) (disk left sink : Option (List ℕ)) → full_check image ≡ Accept generation → IsBytes bytes
+    → Replays (first_state image) bytes (kept ++ text_line (Image generation)) status disk left sink → ReplaysAs image bytes kept status disk left sink
+replays_accepted image bytes kept generation status disk left sink accepted lawful run events ending spelled =
+    let only = one record_limit bytes lawful in
+    let a : events ≡ run.events = (only.3 events ending spelled).0 ∙ sym (only.3 run.events run.ending run.spelled).0 in
+    let b : ending ≡ run.ending = (only.3 events ending spelled).1 ∙ sym (only.3 run.events run.ending run.spelled).1 in
+    let o : Outcome = outcome_from (first_state image) 0 no_tally run.events run.ending in
+    let whole : ComesOut (replay_by (Accept generation) image run.events run.ending) bytes kept status disk left sink = record {
+      text = run.comes.text ∙ ap Some (append_assoc kept (text_line (Image generation)) o.text);
+      status_is = run.comes.status_is;
+      device = run.comes.device;
+      taken = run.comes.taken;
+    } in
+    subst (λ v. ComesOut (replay_by v image events ending) bytes kept status disk left sink) (sym accepted)
+    (subst (λ x. ComesOut (replay_by (Accept generation) image events x) bytes kept status disk left sink) (sym b)
+    (subst (λ x. ComesOut (replay_by (Accept generation) image x run.ending) bytes kept status disk left sink) (sym a) whole))
+
+-- a refused image
+pub replays_refused : (image bytes kept : List ℕ) (finding : Finding) (status : ℕ) (disk left sink before : Option (List ℕ)) → full_check image ≡ Found finding
+    → disk ≡ Some image → left ≡ Some bytes → before ≡ Some kept → status ≡ 1 → sink ≡ option_map (λ k. k ++ text_line (Refused finding)) before
+    → ReplaysAs image bytes kept status disk left sink
+replays_refused image bytes kept finding status disk left sink before refused same unread was one_ printed events ending spelled =
+    subst (λ v. ComesOut (replay_by v image events ending) bytes kept status disk left sink) (sym refused) (record {
+      text = printed ∙ ap (option_map (λ k. k ++ text_line (Refused finding))) was;
+      status_is = one_;
+      device = same;
+      taken = unread;
+    })
+
+pub printed_at : (sink before : Option (List ℕ)) (kept line : List ℕ) → before ≡ Some kept → sink ≡ option_map (λ k. k ++ line) before → sink ≡ Some (kept ++ line)
+printed_at sink before kept line was printed = printed ∙ ap (option_map (λ k. k ++ line)) was

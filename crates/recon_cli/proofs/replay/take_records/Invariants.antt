@@ -1,0 +1,33 @@
+use Rattle.std.proofs.Common.{◌≡◌, ◌+◌, ◌-◌, ◌≤◌, false, true, List, ℕ, Some}
+use Rattle.recon_core.specs.Machine.{MachineState}
+use Rattle.recon_core.specs.Sending.{IsBelow}
+use Rattle.recon_core.specs.Standing.{StandsFor}
+use Rattle.trace_reader.specs.Trace.{IsBytes}
+use Rattle.recon_cli.specs.Run.{record_limit}
+use Rattle.recon_cli.proofs.Going.{Going}
+use Rattle.recon_cli.proofs.replay.take_records.Given as goal
+
+-- the replay so far, and that nothing failed
+abbrev pub invariant-records : goal.invariant-records
+invariant-records g l =
+    let disk = g.D.Disk in
+    let source = g.S.Source in
+    let sink = g.K.Sink in
+    record {
+      live : l.reader.live ≡ true;
+      limit : l.reader.limit ≡ record_limit;
+      few : l.reader.whole ≤ l.reader.limit;
+      count : l.tally.passed + l.tally.rejected ≤ l.reader.whole;
+      open_ : l.checker.closed ≡ false;
+      size : l.checker.length ≡ disk.len l.disk;
+      below : IsBelow l.checker.length l.checker.cache;
+      disk_faults : disk.faults l.disk ≡ disk.faults l.fn.disk;
+      source_faults : source.faults l.trace ≡ source.faults l.fn.trace;
+      sink_faults : sink.faults l.out ≡ sink.faults l.fn.out;
+      going : (first : MachineState) (bytes kept : List ℕ) → StandsFor l.fn.checker first → disk.bytes l.fn.disk ≡ Some first.image →
+          IsBytes bytes → source.left l.fn.trace ≡ Some bytes → sink.kept l.fn.out ≡ Some kept →
+          Going first bytes kept l.reader l.tally l.checker (disk.bytes l.disk) (source.left l.trace) (sink.kept l.out);
+    }
+
+abbrev pub decreases-records : goal.decreases-records
+decreases-records g l = l.reader.limit - l.reader.whole

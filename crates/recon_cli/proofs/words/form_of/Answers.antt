@@ -1,0 +1,9 @@
+use Rattle.std.proofs.Common.{string_bytes, sym, ◌∙◌, arith}
+use Rattle.std.proofs.lemmas.Slice.Eq.{slice_eq-Decides}
+use Rattle.std.proofs.lemmas.Bool.Decides.{Decides-eqb}
+use Rattle.recon_cli.proofs.TwoWords.{two_words}
+use Rattle.recon_cli.proofs.words.form_of.Goals as goal
+
+pub returns-in-len2 : goal.returns-in-len2
+returns-in-len2 c =
+    two_words string_bytes c.args.words.now _ c.first-item.result (omega arith) c.first-item.is (sym c.as_str.ensures.value ∙ (slice_eq-Decides Decides-eqb _ _ _ c.eq.ensures).0 c.if-eq.true)

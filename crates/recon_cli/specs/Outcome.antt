@@ -1,0 +1,111 @@
+-- The outcome of a replay: what is printed, the status, what the device holds, and how much of the trace
+-- is taken. It says the machine's steps one after the other, up to the first event that passes the end.
+use Rattle.std.specs.Prelude.{ℕ, ◌+◌, Bool, true, false, ◌==◌, nat_lt, List, [], ◌∷◌, ◌++◌, length, Option, Some, None, option_map, if◌then◌else◌}
+use Rattle.verdict.specs.declared.machine.Event.{Event}
+use Rattle.verdict.specs.declared.machine.Event.TheVariants.{Write, Settle, Fetch}
+use Rattle.verdict.specs.declared.machine.Answer.{Answer}
+use Rattle.verdict.specs.declared.machine.Answer.TheVariants.{Held, Fetched, Passed, Rejected}
+use Rattle.plain_check.specs.FullCheck.{full_check}
+use Rattle.plain_check.specs.declared.image.Verdict.{Verdict}
+use Rattle.plain_check.specs.declared.image.Verdict.TheVariants.{Accept, Found}
+use Rattle.recon_core.specs.Machine.{MachineState, machine_step, end_of, begin_of, length_of}
+use Rattle.recon_core.specs.Standing.{first_state}
+use Rattle.trace_reader.specs.Fault.{fault_number}
+use Rattle.trace_reader.specs.Trace.{spelling_of, Ending, End, Fault}
+use Rattle.report.specs.Lines.{text_line}
+use Rattle.report.specs.declared.line.Line.TheVariants.{Image, Refused, Passed as passed_line, Rejected as rejected_line, Fetched as fetched_line, End as end_line, BadTrace, Past}
+use Rattle.recon_cli.specs.declared.tally.Tally.{Tally}
+
+-- how a replay comes out: the text that is printed, the status, the bytes of the device, and how many
+-- bytes of the trace are taken, where that is said
+pub record Outcome : Type 0 where
+  pub text : List ℕ
+  pub status : ℕ
+  pub device : List ℕ
+  pub taken : Option ℕ
+
+-- an outcome with this text printed and so many bytes taken before
+abbrev pub after_text : List ℕ → ℕ → Outcome → Outcome
+after_text text taken o = record {
+  text = text ++ o.text;
+  status = o.status;
+  device = o.device;
+  taken = option_map (λ n. taken + n) o.taken;
+}
+
+-- whether a judged event is a settle
+abbrev pub is_settle : Event → Bool
+is_settle (Write submitter at bytes) = false
+is_settle Settle = true
+is_settle (Fetch at len) = false
+
+-- how many events were judged, and were let through or rejected, after an answer
+abbrev pub tally_after : Tally → Answer → Tally
+tally_after t Held = t
+tally_after t (Fetched bytes) = t
+tally_after t (Passed generation blocks hot) = record { passed = t.passed + 1; rejected = t.rejected }
+tally_after t (Rejected finding) = record { passed = t.passed; rejected = t.rejected + 1 }
+
+-- the line of an answer to an event that begins at a byte and may be a settle; a write that waits has
+-- none. Judged events are numbered from 1.
+abbrev pub answer_text : Tally → ℕ → Bool → Answer → List ℕ
+answer_text t at settle Held = []
+answer_text t at settle (Fetched bytes) = text_line (fetched_line at bytes)
+answer_text t at settle (Passed generation blocks hot) =
+    text_line (passed_line settle (t.passed + t.rejected + 1) generation blocks hot)
+answer_text t at settle (Rejected finding) =
+    text_line (rejected_line settle (t.passed + t.rejected + 1) finding)
+
+-- the outcome at the end of the trace: the summary, or the line of the trace's fault
+abbrev pub ended : MachineState → Tally → Ending → Outcome
+ended s t End = record {
+  text = text_line (end_line t.passed t.rejected);
+  status = if t.rejected == 0 then 0 else 1;
+  device = s.image;
+  taken = Some 1;
+}
+ended s t (Fault fault place) = record {
+  text = text_line (BadTrace (fault_number fault) place);
+  status = 3;
+  device = s.image;
+  taken = None;
+}
+
+-- the outcome at an event that passes the end of the device, which is the record of this number
+abbrev pub past_end : MachineState → ℕ → Event → Outcome
+past_end s place event = record {
+  text = text_line (Past place (begin_of event) (length_of event) (length s.image));
+  status = 3;
+  device = s.image;
+  taken = Some (length (spelling_of event));
+}
+
+-- The outcome from a state on, after so many records, for the events that follow and the ending of the
+-- trace. The events are taken in order, up to the first that passes the end of the device.
+abbrev pub outcome_from : MachineState → ℕ → Tally → List Event → Ending → Outcome
+outcome_from s k t [] ending = ended s t ending
+outcome_from s k t (event ∷ events) ending =
+    if nat_lt (length s.image) (end_of event) then past_end s (k + 1) event
+    else after_text
+    (answer_text t (begin_of event) (is_settle event) (machine_step s event).answer)
+    (length (spelling_of event))
+    (outcome_from (machine_step s event).after (k + 1) (tally_after t (machine_step s event).answer) events ending)
+
+-- no event was judged yet
+abbrev pub no_tally : Tally
+no_tally = record { passed = 0; rejected = 0 }
+
+-- the outcome of a replay over an image that the full check accepts or not
+abbrev pub replay_by : Verdict → List ℕ → List Event → Ending → Outcome
+replay_by (Found finding) image events ending = record {
+  text = text_line (Refused finding);
+  status = 1;
+  device = image;
+  taken = Some 0;
+}
+replay_by (Accept generation) image events ending =
+    after_text (text_line (Image generation)) 16 (outcome_from (first_state image) 0 no_tally events ending)
+
+-- the outcome of a replay of a trace, of these events and this ending, over an image
+abbrev pub replay_outcome : List ℕ → List Event → Ending → Outcome
+replay_outcome image events ending = replay_by (full_check image) image events ending

@@ -1,0 +1,133 @@
+-- What a run of the program says of the objects that it is handed.
+use Rattle.std.specs.Prelude.{ℕ, ◌≡◌, ◌-◌, ◌^◌, ◌<◌, ◌≤◌, ◌⊎◌, true, false, nat_lt, List, [], ◌++◌, length, drop, Option, Some, None, IfSome, Result, Ok, Err}
+use Rattle.recon_disk.specs.Outside.{counted}
+use Rattle.verdict.specs.declared.machine.Event.{Event}
+use Rattle.recon_core.specs.declared.checker.Checker.{Checker}
+use Rattle.recon_core.specs.Machine.{MachineState, machine_step, end_of, begin_of}
+use Rattle.recon_core.specs.Standing.{StandsFor}
+use Rattle.recon_cli.specs.declared.tally.Tally.{Tally}
+use Rattle.recon_cli.specs.Outcome.{Outcome, after_text, answer_text, no_tally, outcome_from, is_settle, past_end, replay_outcome, tally_after}
+use Rattle.trace_reader.specs.Trace.{Ending, IsTrace}
+use Rattle.trace_reader.specs.declared.fault.TraceFault.{TraceFault}
+use Rattle.trace_reader.specs.declared.fault.TraceFault.TheVariants.{ReadFault, NoMemory}
+use Rattle.recon_cli.specs.declared.halt.Halt.{Halt}
+use Rattle.recon_cli.specs.declared.halt.Halt.TheVariants.{Device, Trace, Lines, Memory}
+
+-- the most records that a trace may have before its end tag
+abbrev pub record_limit : ℕ
+record_limit = 4294967296
+
+-- The sink has gained exactly the outcome's text, the status is the outcome's, the disk holds exactly its
+-- device, and the source was taken exactly as far as the outcome says.
+pub record ComesOut (o : Outcome) (trace kept : List ℕ) (status : ℕ) (disk left sink : Option (List ℕ)) : Type 0 where
+  pub text : sink ≡ Some (kept ++ o.text)
+  pub status_is : status ≡ o.status
+  pub device : disk ≡ Some o.device
+  pub taken : IfSome o.taken (λ n. left ≡ Some (drop n trace))
+
+-- the counts of faults of the disk, the source and the sink
+pub record Faults : Type 0 where
+  pub disk : ℕ
+  pub source : ℕ
+  pub sink : ℕ
+
+abbrev pub faults_are : ℕ → ℕ → ℕ → Faults
+faults_are disk source sink = record { disk = disk; source = source; sink = sink }
+
+-- a count rose, or stands at its greatest value
+abbrev pub Rose : ℕ → ℕ → Type 0
+Rose before now = (before ≤ now) × (counted before ≤ now)
+
+-- A run stops early for a fault of an object only where that object's count rose, and leaves the counts
+-- of the others. With every other end it leaves all three.
+abbrev pub HasHaltCause : {T : Type 0} → Faults → Faults → Result T Halt → Type 0
+HasHaltCause before now (Ok value) = now ≡ before
+HasHaltCause before now (Err Device) = Rose before.disk now.disk × (now.source ≡ before.source) × (now.sink ≡ before.sink)
+HasHaltCause before now (Err Trace) = (now.disk ≡ before.disk) × Rose before.source now.source × (now.sink ≡ before.sink)
+HasHaltCause before now (Err Lines) = (now.disk ≡ before.disk) × (now.source ≡ before.source) × Rose before.sink now.sink
+HasHaltCause before now (Err Memory) = now ≡ before
+
+-- no count of faults rose, and none stands at its greatest value
+pub record HadNoFault (before now : Faults) : Type 0 where
+  pub same : now ≡ before
+  pub disk_below : before.disk < 2 ^ 64 - 1
+  pub source_below : before.source < 2 ^ 64 - 1
+  pub sink_below : before.sink < 2 ^ 64 - 1
+
+-- the same by the status of the run
+pub record HasStatusCause (before now : Faults) (status : ℕ) : Type 0 where
+  pub disk : (status ≡ 4 → Rose before.disk now.disk) × ((status ≡ 4 → ⊥) → now.disk ≡ before.disk)
+  pub source : (status ≡ 5 → Rose before.source now.source) × ((status ≡ 5 → ⊥) → now.source ≡ before.source)
+  pub sink : (status ≡ 6 → Rose before.sink now.sink) × ((status ≡ 6 → ⊥) → now.sink ≡ before.sink)
+
+-- What one event did: it goes on as the machine's step says, with the line of the answer printed, or the
+-- event passes the end of the device, which is printed, and the run ends with status 3.
+pub record GoesOn (s : MachineState) (t : Tally) (event : Event) (kept : List ℕ) (checker : Checker) (new : Tally) (disk sink : Option (List ℕ)) : Type 0 where
+  pub inside : nat_lt (length s.image) (end_of event) ≡ false
+  pub stands : StandsFor checker (machine_step s event).after
+  pub image : disk ≡ Some (machine_step s event).after.image
+  pub tally : new ≡ tally_after t (machine_step s event).answer
+  pub printed : sink ≡ Some (kept ++ answer_text t (begin_of event) (is_settle event) (machine_step s event).answer)
+
+pub record EndsPast (s : MachineState) (place : ℕ) (event : Event) (kept : List ℕ) (status : ℕ) (disk sink : Option (List ℕ)) : Type 0 where
+  pub outside : nat_lt (length s.image) (end_of event) ≡ true
+  pub status_is : status ≡ 3
+  pub image : disk ≡ Some s.image
+  pub printed : sink ≡ Some (kept ++ (past_end s place event).text)
+
+abbrev pub Turns : MachineState → ℕ → Tally → Event → List ℕ → Option ℕ → Checker → Tally → Option (List ℕ) → Option (List ℕ) → Type 0
+Turns s place t event kept None checker new disk sink = GoesOn s t event kept checker new disk sink
+Turns s place t event kept (Some status) checker new disk sink = EndsPast s place event kept status disk sink
+
+-- a status that an outcome may have
+abbrev pub IsOutcomeStatus : ℕ → Type 0
+IsOutcomeStatus status = (status ≡ 0) ⊎ (status ≡ 1) ⊎ (status ≡ 3)
+
+-- a line is not printed for a fault of the sink only where the sink's count rose
+abbrev pub HasPrintCause : {T : Type 0} → ℕ → ℕ → Result T Halt → Type 0
+HasPrintCause before now (Ok value) = now ≡ before
+HasPrintCause before now (Err Device) = ⊥
+HasPrintCause before now (Err Trace) = ⊥
+HasPrintCause before now (Err Lines) = Rose before now
+HasPrintCause before now (Err Memory) = now ≡ before
+
+-- the cause of what one event gives, by the counts of the disk and of the sink
+abbrev pub HasTurnCause : {T : Type 0} → ℕ → ℕ → ℕ → ℕ → Result T Halt → Type 0
+HasTurnCause disk disk' sink sink' (Ok value) = (disk' ≡ disk) × (sink' ≡ sink)
+HasTurnCause disk disk' sink sink' (Err Device) = Rose disk disk' × (sink' ≡ sink)
+HasTurnCause disk disk' sink sink' (Err Trace) = ⊥
+HasTurnCause disk disk' sink sink' (Err Lines) = (disk' ≡ disk) × Rose sink sink'
+HasTurnCause disk disk' sink sink' (Err Memory) = (disk' ≡ disk) × (sink' ≡ sink)
+
+-- the trace's bytes are at fault, and not a read of them or want of memory
+abbrev pub IsOfBytes : TraceFault → Type 0
+IsOfBytes ReadFault = ⊥
+IsOfBytes NoMemory = ⊥
+IsOfBytes fault = Unit {0}
+
+-- the fault is no read that failed
+abbrev pub IsNoRead : TraceFault → Type 0
+IsNoRead ReadFault = ⊥
+IsNoRead fault = Unit {0}
+
+-- how the line of a fault is not printed: a read failed, or the sink's count rose, or memory was wanting
+abbrev pub HasFaultPrintCause : {T : Type 0} → TraceFault → ℕ → ℕ → Result T Halt → Type 0
+HasFaultPrintCause fault before now (Ok value) = IsNoRead fault × (now ≡ before)
+HasFaultPrintCause fault before now (Err Device) = ⊥
+HasFaultPrintCause fault before now (Err Trace) = (fault ≡ ReadFault) × (now ≡ before)
+HasFaultPrintCause fault before now (Err Lines) = IsNoRead fault × Rose before now
+HasFaultPrintCause fault before now (Err Memory) = IsNoRead fault × (now ≡ before)
+
+-- A replay of these bytes over the state comes out as the outcome of the events that they spell, and of
+-- their ending, says.
+pub record Replays (first : MachineState) (bytes kept : List ℕ) (status : ℕ) (disk left sink : Option (List ℕ)) : Type 0 where
+  pub events : List Event
+  pub ending : Ending
+  pub spelled : IsTrace record_limit bytes events ending
+  pub comes : ComesOut (after_text [] 16 (outcome_from first 0 no_tally events ending)) bytes kept status disk left sink
+
+-- the same as an outcome of a replay over the image, for the events and the ending that the bytes spell
+abbrev pub ReplaysAs : List ℕ → List ℕ → List ℕ → ℕ → Option (List ℕ) → Option (List ℕ) → Option (List ℕ) → Type 0
+ReplaysAs image bytes kept status disk left sink =
+    (events : List Event) (ending : Ending) → IsTrace record_limit bytes events ending
+    → ComesOut (replay_outcome image events ending) bytes kept status disk left sink

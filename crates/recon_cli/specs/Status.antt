@@ -1,0 +1,11 @@
+-- The status of a run that stops before its outcome.
+use Rattle.std.specs.Prelude.{ℕ}
+use Rattle.recon_cli.specs.declared.halt.Halt.{Halt}
+use Rattle.recon_cli.specs.declared.halt.Halt.TheVariants.{Device, Trace, Lines, Memory}
+
+-- 4 for a call of the disk, 5 for a read of the trace, 6 for a write of a line, 7 for want of memory
+abbrev pub halt_status : Halt → ℕ
+halt_status Device = 4
+halt_status Trace = 5
+halt_status Lines = 6
+halt_status Memory = 7

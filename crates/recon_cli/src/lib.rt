@@ -1,0 +1,13 @@
+//! The program's call: from its words, a disk, a trace and a place for lines to the lines, the disk's
+//! bytes and a status.
+#![tactic(auto)]
+
+mod halt;
+mod lines;
+mod replay;
+mod run;
+mod tally;
+mod turn;
+mod words;
+
+pub use run::recon_run;

@@ -1,0 +1,173 @@
+//! The replay of a trace.
+
+ghost use Rattle.std.specs.Prelude.{ℕ, ◌≡◌, ◌==◌, if◌then◌else◌, ◌+◌, ◌<◌, ◌≤◌, ◌++◌, false, List, Some, Ok, IfOk, OnOk, IfSome, option_map};
+ghost use Rattle.std.specs.FinMap as map;
+ghost use Rattle.recon_core.specs.Machine.{MachineState};
+ghost use Rattle.recon_core.specs.Sending.{IsBelow};
+ghost use Rattle.recon_core.specs.Standing.{StandsFor, first_state};
+ghost use Rattle.trace_reader.specs.Trace.{IsBytes};
+ghost use Rattle.report.specs.Lines.{text_line};
+ghost use Rattle.trace_reader.specs.Fault.{fault_number};
+ghost use Rattle.recon_cli.specs.Run.{ComesOut, HasFaultPrintCause, HasHaltCause, IsOfBytes, HasPrintCause, IsOutcomeStatus, Replays, ReplaysAs, faults_are};
+
+use crate::halt::Halt;
+use crate::lines::print;
+use crate::tally::Tally;
+use crate::turn::take_event;
+use plain_check::{Fault, superblock};
+use recon_core::{Checker, Started};
+use recon_disk::{Disk, Sink, Source, Steps};
+use report::Line;
+use std::alloc::Global;
+use trace_reader::{Item, TraceFault, TraceReader};
+use verdict::{Finding, Stop};
+
+/// The most records that a trace may have before its end tag.
+const RECORD_LIMIT: u64 = 4_294_967_296;
+
+// Prints the summary at the end tag.
+fn print_summary<K: Sink>(alloc: Global, tally: &Tally, out: &mut K) -> Result<u8, Halt>
+    ensures status { IfOk result (λ status. status ≡ (if tally.now.rejected == 0 then 0 else 1)) }
+    ensures printed { OnOk result (K.kept out.new ≡ option_map (λ kept. kept ++ text_line (Line.End tally.now.passed tally.now.rejected)) (K.kept out.old)) }
+    ensures cause { HasPrintCause (K.faults out.old) (K.faults out.new) result }
+{
+    print(
+        alloc,
+        out,
+        &Line::End {
+            passed: tally.passed,
+            rejected: tally.rejected,
+        },
+    )?;
+    Ok(if tally.rejected == 0 { 0 } else { 1 })
+}
+
+// Prints the line of a trace's fault at the record of this number. A read that failed and want of memory
+// are no faults of the trace.
+fn print_fault<K: Sink>(
+    alloc: Global,
+    fault: TraceFault,
+    place: u64,
+    out: &mut K,
+) -> Result<u8, Halt>
+    ensures printed { IfOk result (λ status. (status ≡ 3) × IsOfBytes fault × (K.kept out.new ≡ option_map (λ kept. kept ++ text_line (Line.BadTrace (fault_number fault) place)) (K.kept out.old))) }
+    ensures cause { HasFaultPrintCause fault (K.faults out.old) (K.faults out.new) result }
+{
+    match fault {
+        TraceFault::ReadFault => Err(Halt::Trace),
+        TraceFault::NoMemory => Err(Halt::Memory),
+        _ => {
+            print(
+                alloc,
+                out,
+                &Line::BadTrace {
+                    number: fault.number(),
+                    place,
+                },
+            )?;
+            Ok(3)
+        }
+    }
+}
+
+// Takes the records of a trace one by one, up to its end, its fault, or the first event that passes the end
+// of the device. What still waits then is dropped with the checker.
+fn take_records<D: Disk, S: Source, K: Sink, L>(
+    alloc: Global,
+    checker: &mut Checker,
+    disk: &mut D,
+    trace: &mut S,
+    out: &mut K,
+    steps: &mut Steps<L>,
+) -> Result<u8, Halt>
+    requires open { checker.old.closed ≡ false }
+    requires length { checker.old.length ≡ D.len disk.old }
+    requires below { IsBelow checker.old.length checker.old.cache }
+    ensures outcome { (first : MachineState) (bytes kept : List ℕ) → StandsFor checker.old first → D.bytes disk.old ≡ Some first.image →
+        IsBytes bytes → S.left trace.old ≡ Some bytes → K.kept out.old ≡ Some kept →
+        IfOk result (λ status. Replays first bytes kept status (D.bytes disk.new) (S.left trace.new) (K.kept out.new)) }
+    ensures status { IfOk result IsOutcomeStatus }
+    ensures cause { HasHaltCause (faults_are (D.faults disk.old) (S.faults trace.old) (K.faults out.old)) (faults_are (D.faults disk.new) (S.faults trace.new) (K.faults out.new)) result }
+{
+    let mut reader = TraceReader::new(RECORD_LIMIT);
+    let mut tally = Tally {
+        passed: 0,
+        rejected: 0,
+    };
+    'records: loop {
+        match reader.next(alloc, trace) {
+            Ok(Item::Event(event)) => {
+                let place = reader.record_number();
+                let turn = take_event(alloc, checker, &mut tally, place, event, disk, out, steps)?;
+                if let Some(status) = turn {
+                    return Ok(status);
+                }
+            }
+            Ok(Item::End) => return print_summary(alloc, &tally, out),
+            Err(fault) => return print_fault(alloc, fault, reader.record_number(), out),
+        }
+    }
+}
+
+// Prints that the image is refused.
+fn refuse<K: Sink>(alloc: Global, finding: Finding, out: &mut K) -> Result<u8, Halt>
+    ensures status { IfOk result (λ status. status ≡ 1) }
+    ensures printed { OnOk result (K.kept out.new ≡ option_map (λ kept. kept ++ text_line (Line.Refused finding)) (K.kept out.old)) }
+    ensures cause { HasPrintCause (K.faults out.old) (K.faults out.new) result }
+{
+    print(alloc, out, &Line::Refused(finding))?;
+    Ok(1)
+}
+
+// Replays the trace over an accepted image, whose generation is printed first.
+fn replay_over<D: Disk, S: Source, K: Sink, L>(
+    alloc: Global,
+    mut checker: Checker,
+    disk: &mut D,
+    trace: &mut S,
+    out: &mut K,
+    steps: &mut Steps<L>,
+) -> Result<u8, Halt>
+    requires empty { checker.cache ≡ map.empty }
+    requires open { checker.closed ≡ false }
+    requires length { checker.length ≡ D.len disk.old }
+    ensures outcome { (image bytes kept : List ℕ) → StandsFor checker (first_state image) → D.bytes disk.old ≡ Some image →
+        IsBytes bytes → S.left trace.old ≡ Some bytes → K.kept out.old ≡ Some kept →
+        IfOk result (λ status. ReplaysAs image bytes kept status (D.bytes disk.new) (S.left trace.new) (K.kept out.new)) }
+    ensures status { IfOk result IsOutcomeStatus }
+    ensures cause { HasHaltCause (faults_are (D.faults disk.old) (S.faults trace.old) (K.faults out.old)) (faults_are (D.faults disk.new) (S.faults trace.new) (K.faults out.new)) result }
+{
+    match superblock(disk, &checker.cache) {
+        Ok(Ok(sup)) => {
+            let generation = sup.generation;
+            print(alloc, out, &Line::Image { generation })?;
+            take_records(alloc, &mut checker, disk, trace, out, steps)
+        }
+        Ok(Err(finding)) => refuse(alloc, finding, out),
+        Err(Fault::Disk) => Err(Halt::Device),
+        Err(Fault::NoMemory) => Err(Halt::Memory),
+    }
+}
+
+// Replays the trace over the disk's image, or refuses the image. A refused image leaves the trace unread.
+pub fn replay<D: Disk, S: Source, K: Sink, L>(
+    alloc: Global,
+    disk: &mut D,
+    trace: &mut S,
+    out: &mut K,
+    steps: &mut Steps<L>,
+) -> Result<u8, Halt>
+    ensures outcome { (image bytes kept : List ℕ) → D.bytes disk.old ≡ Some image →
+        IsBytes bytes → S.left trace.old ≡ Some bytes → K.kept out.old ≡ Some kept →
+        IfOk result (λ status. ReplaysAs image bytes kept status (D.bytes disk.new) (S.left trace.new) (K.kept out.new)) }
+    ensures status { IfOk result IsOutcomeStatus }
+    ensures cause { HasHaltCause (faults_are (D.faults disk.old) (S.faults trace.old) (K.faults out.old)) (faults_are (D.faults disk.new) (S.faults trace.new) (K.faults out.new)) result }
+{
+    match Checker::start(alloc, disk, steps) {
+        Ok(Started::Ready(checker)) => replay_over(alloc, checker, disk, trace, out, steps),
+        Ok(Started::Refused(finding)) => refuse(alloc, finding, out),
+        Err(Stop::DiskFault) => Err(Halt::Device),
+        Err(Stop::NoMemory) => Err(Halt::Memory),
+        Err(Stop::PastEnd { .. } | Stop::Closed) => unreachable!(),
+    }
+}

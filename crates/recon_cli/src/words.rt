@@ -1,0 +1,21 @@
+//! The words of the command line.
+
+ghost use Rattle.std.specs.Prelude.{map, string_bytes, MatchOption};
+ghost use Rattle.recon_cli.specs.Words.{IsForm, IsNoForm};
+
+/// What the words ask for.
+#[derive(Clone, Copy, Debug, PartialEq, Eq)]
+pub enum Form {
+    /// `replay IMAGE`: a trace is replayed over the image.
+    Replay,
+}
+
+// The form of the words behind the program's name.
+pub fn form_of(words: &[String]) -> Option<Form>
+    ensures { MatchOption result (IsNoForm (map string_bytes words.now)) (λ form. IsForm form (map string_bytes words.now)) }
+{
+    match words {
+        [first, _image] if first.as_str() == "replay" => Some(Form::Replay),
+        _ => None,
+    }
+}
