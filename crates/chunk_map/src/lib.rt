@@ -6,6 +6,8 @@ mod array;
 mod copies;
 mod map;
 mod rules;
+#[cfg(test)]
+mod tests;
 
 pub use map::{ChunkMap, Sys};
 pub use verdict::{Chunk, Place};

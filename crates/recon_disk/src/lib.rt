@@ -13,3 +13,6 @@ pub use memory::{Fail, MemDisk, Op};
 pub use sink::{MemSink, Sink};
 pub use source::{MemSource, Source};
 pub use steps::Steps;
+
+#[cfg(test)]
+mod tests;

@@ -6,6 +6,8 @@ mod finding;
 mod key;
 mod machine;
 mod place;
+#[cfg(test)]
+mod tests;
 
 pub use bytes::{Bytes, NoMemory};
 pub use finding::{Family, Finding, Rule};

@@ -1,0 +1,55 @@
+#!/usr/bin/env bash
+# Measures the replay of a long trace onto a file: MIB mebibytes in writes of 128 KiB with a commit after each
+# 32 MiB, beside `cp` of the same bytes and `sync`. Prints seconds, peak memory and the ratio.
+# Usage: bench/replay.sh [MIB]. It wants python3, GNU time where it is there, and three times MIB of room.
+set -eu
+cd "$(dirname "$0")/.."
+mib=${1:-1024}
+folder=$(mktemp -d)
+trap 'rm -rf "$folder"' EXIT
+(cd crates/recon && rt run -- replay data/short.img < /dev/null > /dev/null 2>&1) || true
+program=$PWD/crates/recon/out/recon
+examples/replay.sh "$folder" > /dev/null 2>&1 || true
+
+python3 - "$folder" "$mib" <<'PYTHON'
+import os, struct, sys
+folder, mib = sys.argv[1], int(sys.argv[2])
+with open(f'{folder}/small.img', 'rb') as f:
+    f.seek(65536)
+    superblock = f.read(4096)
+with open(f'{folder}/big.img', 'wb') as f:
+    f.truncate((mib + 8) << 20)
+    f.seek(65536)
+    f.write(superblock)
+size = 128 << 10
+with open(f'{folder}/big.trace', 'wb') as f, open(f'{folder}/bytes', 'wb') as copy:
+    f.write(b'RECONTRC' + struct.pack('<II', 1, 0))
+    for k in range(mib * 8):
+        block = os.urandom(4096) * 32
+        f.write(b'\x01' + struct.pack('<HQI', 0, (4 << 20) + k * size, size) + block)
+        copy.write(block)
+        if k % 256 == 255:
+            f.write(b'\x01' + struct.pack('<HQI', 0, 65536, 4096) + superblock)
+    f.write(b'\xff')
+PYTHON
+
+timed() { # NAME COMMAND..: seconds, and peak memory in MiB
+  local name=$1; shift
+  python3 - "$name" "$@" <<'PYTHON'
+import resource, subprocess, sys, time
+name, command = sys.argv[1], ' '.join(sys.argv[2:])
+start = time.time()
+subprocess.run(['bash', '-c', command], check=False, stdout=subprocess.DEVNULL)
+seconds = time.time() - start
+peak = resource.getrusage(resource.RUSAGE_CHILDREN).ru_maxrss / 1024
+print(f'{name} {seconds:.2f} {peak:.1f}')
+PYTHON
+}
+
+sync
+copy=$(timed cp "cp '$folder/bytes' '$folder/copied' && sync '$folder/copied'")
+sync
+replay=$(timed replay "'$program' replay '$folder/big.img' < '$folder/big.trace'")
+echo "$copy" | awk '{ printf "cp and sync: %s s\n", $2 }'
+echo "$replay" | awk '{ printf "replay: %s s, peak memory %s MiB\n", $2, $3 }'
+echo "$copy $replay" | awk '{ printf "ratio: %.2f\n", $5 / $2 }'

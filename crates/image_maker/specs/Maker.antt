@@ -1,0 +1,18 @@
+-- What a maker of leaves holds.
+use Rattle.std.specs.Prelude.{ℕ, ◌≡◌, ◌+◌, ◌≤◌, ◌<◌, List, [], ◌∷◌, ◌++◌, length}
+use Rattle.verdict.specs.declared.key.Key.{Key}
+use Rattle.image_maker.specs.declared.leaf_item.LeafItem.{LeafItem}
+use Rattle.image_maker.specs.declared.leaf.LeafMaker.{LeafMaker}
+use Rattle.image_maker.specs.Leaf.{space_of}
+
+-- the items so far
+abbrev pub items_of : LeafMaker → List LeafItem
+items_of m = m.items.items
+
+-- the size of the leaf in bytes
+abbrev pub nodesize_of : LeafMaker → ℕ
+nodesize_of m = m.nodesize
+
+-- an item
+abbrev pub item : Key → List ℕ → LeafItem
+item key bytes = record { key = key; bytes = bytes }
