@@ -1,5 +1,5 @@
 -- The room that the items of a leaf take.
-use Rattle.std.proofs.Common.{◌≡◌, ℕ, ◌+◌, ◌<◌, ◌≤◌, List, [], ◌∷◌, ◌++◌, length, get_or, drop, refl, ap, arith, add-one, drop-cons}
+use Rattle.std.proofs.Common.{◌≡◌, ℕ, ◌+◌, ◌<◌, ◌≤◌, List, [], ◌∷◌, ◌++◌, length, get_or, drop, refl, arith, add-one, drop-cons}
 use Rattle.image_maker.specs.declared.leaf_item.LeafItem.{LeafItem}
 use Rattle.image_maker.specs.Leaf.{space_of}
 

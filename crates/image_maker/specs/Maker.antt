@@ -1,9 +1,8 @@
 -- What a maker of leaves holds.
-use Rattle.std.specs.Prelude.{ℕ, ◌≡◌, ◌+◌, ◌≤◌, ◌<◌, List, [], ◌∷◌, ◌++◌, length}
+use Rattle.std.specs.Prelude.{ℕ, List}
 use Rattle.verdict.specs.declared.key.Key.{Key}
 use Rattle.image_maker.specs.declared.leaf_item.LeafItem.{LeafItem}
 use Rattle.image_maker.specs.declared.leaf.LeafMaker.{LeafMaker}
-use Rattle.image_maker.specs.Leaf.{space_of}
 
 -- the items so far
 abbrev pub items_of : LeafMaker → List LeafItem

@@ -23,3 +23,6 @@ pub use leaf::LeafMaker;
 pub use leaf_item::LeafItem;
 pub use node::{ChildPointer, node_block};
 pub use superblock::{base_superblock, superblock_of};
+
+#[cfg(test)]
+mod tests;

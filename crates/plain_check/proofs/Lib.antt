@@ -1,1 +1,4 @@
 pub mod Told
+pub mod Blocks
+pub mod Walking
+pub mod Alike

@@ -7,6 +7,8 @@ mod lines;
 mod replay;
 mod run;
 mod tally;
+#[cfg(test)]
+mod tests;
 mod turn;
 mod words;
 

@@ -1,3 +1,4 @@
 pub mod Places
 pub mod Told
 pub mod Steps
+pub mod Nothing

@@ -6,5 +6,7 @@ mod checker;
 mod judged;
 mod range;
 mod send;
+#[cfg(test)]
+mod tests;
 
 pub use checker::{Checker, Started};

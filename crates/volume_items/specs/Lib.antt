@@ -1,2 +1,3 @@
+pub mod RootRow
 pub mod ChunkRow
 pub mod ChunkItems

@@ -1,9 +1,11 @@
-//! The readers of the items that describe the volume: chunks.
+//! The readers of the items that describe the volume: chunks and roots.
 #![tactic(auto)]
 
 mod chunk;
+mod root;
 
 pub use chunk::{ChunkItem, Stripe, Stripes, read_chunk};
+pub use root::{RootItem, read_root};
 
 #[cfg(test)]
 mod tests {
@@ -136,5 +138,86 @@ mod tests {
             second: Some(13631488),
         };
         assert_eq!(rt; read.chunk(), chunk);
+    }
+
+    // A root item of 439 bytes: generation, bytenr, refs, level.
+    fn root(generation: u64, drop_offset: u64, level: u8) -> [u8; 439] {
+        let mut bytes = [0; 439];
+        put_u64(&mut bytes, 160, generation);
+        put_u64(&mut bytes, 176, 5292032);
+        put_u16(&mut bytes, 216, 1);
+        put_u64(&mut bytes, 229, drop_offset);
+        bytes[238] = level;
+        bytes
+    }
+
+    #[test]
+    fn a_root_item_gives_its_first_broken_rule(rt: HostRuntime) {
+        let place = At {
+            tree: 1,
+            sort: TreeSort::Root,
+            ..PLACE
+        };
+        for (id, size, bytes, family, number, detail) in [
+            (3, 438, root(2, 1, 8), Family::U, 7, 3),
+            (6, 439, root(1, 0, 0), Family::U, 7, 6),
+            (11, 439, root(1, 0, 0), Family::U, 7, 11),
+            (255, 439, root(1, 0, 0), Family::U, 7, 255),
+            (
+                18446744073709551361,
+                439,
+                root(1, 0, 0),
+                Family::U,
+                7,
+                18446744073709551361,
+            ),
+            (5, 438, root(2, 1, 8), Family::I, 1, 438),
+            (5, 238, root(2, 1, 8), Family::I, 1, 238),
+            (5, 439, root(2, 1, 8), Family::I, 3, 160),
+            (5, 439, root(1, 1, 8), Family::U, 8, 0),
+            (5, 439, root(1, 1 << 56, 0), Family::U, 8, 0),
+            (5, 239, root(1, 0, 8), Family::I, 3, 238),
+        ] {
+            let key = Key {
+                objectid: id,
+                kind: 132,
+                offset: 0,
+            };
+            let found = read_root(&place, key, &bytes[..size.min(439)]).err();
+            assert_eq!(rt;
+                found.map(|f| (f.rule, f.detail)),
+                Some((Rule { family, number }, detail))
+            );
+        }
+    }
+
+    #[test]
+    fn a_root_item_gives_its_fields(rt: HostRuntime) {
+        for id in [
+            2,
+            4,
+            5,
+            7,
+            8,
+            9,
+            10,
+            256,
+            18446744073709551360,
+            18446744073709551607,
+        ] {
+            let key = Key {
+                objectid: id,
+                kind: 132,
+                offset: 7,
+            };
+            let item = RootItem {
+                key,
+                generation: 1,
+                bytenr: 5292032,
+                refs: 1,
+                level: 7,
+            };
+            assert_eq!(rt; read_root(&PLACE, key, &root(1, 0, 7)).ok(), Some(item));
+        }
     }
 }
