@@ -1,6 +1,6 @@
 //! Walks of a tree of three levels that the tests build: chunk items in four leaves.
 
-ghost use Rattle.std.specs.Prelude.{◌≡◌, length, true, IfOk};
+ghost use Rattle.std.specs.Prelude.{◌≡◌, ◌≤◌, length, true, IfOk};
 ghost use Rattle.node_reader.specs.Layout.{is_block_size};
 
 use crate::{Fault, Found, Volume, walk_tree};
