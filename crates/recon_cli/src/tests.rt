@@ -6,19 +6,29 @@ use recon_disk::{Fail as DiskFail, MemDisk, MemSink, MemSource, Op, Steps};
 use std::alloc::{AllocError, Global};
 use std::test::Fail;
 
-const HEADER: &[u8] = b"RECONTRC\x01\0\0\0\0\0\0\0";
+// A piece of a trace: the bytes themselves, the base superblock, the same with its first magic byte 0,
+// or the image's first MiB.
+#[derive(Clone, Copy)]
+enum Piece {
+    Bytes(&'static [u8]),
+    Place,
+    NoMagic,
+    FirstMib,
+}
 
-const END: &[u8] = b"\xff";
+const HEADER: Piece = Piece::Bytes(b"RECONTRC\x01\0\0\0\0\0\0\0");
+
+const END: Piece = Piece::Bytes(b"\xff");
 
 // The front of a write of exactly the superblock place, and of one of the image's first MiB.
-const AT_PLACE: &[u8] = b"\x01\0\0\0\0\x01\0\0\0\0\0\0\x10\0\0";
+const AT_PLACE: Piece = Piece::Bytes(b"\x01\0\0\0\0\x01\0\0\0\0\0\0\x10\0\0");
 
-const AT_START: &[u8] = b"\x01\0\0\0\0\0\0\0\0\0\0\0\0\x10\0";
+const AT_START: Piece = Piece::Bytes(b"\x01\0\0\0\0\0\0\0\0\0\0\0\0\x10\0");
 
 // A write of the small image's last eight bytes, and one a byte further on.
-const AT_LAST: &[u8] = b"\x01\0\0\xf8\xff\x0f\0\0\0\0\0\x08\0\0\0abcdefgh";
+const AT_LAST: Piece = Piece::Bytes(b"\x01\0\0\xf8\xff\x0f\0\0\0\0\0\x08\0\0\0abcdefgh");
 
-const PAST_LAST: &[u8] = b"\x01\0\0\xf9\xff\x0f\0\0\0\0\0\x08\0\0\0abcdefgh";
+const PAST_LAST: Piece = Piece::Bytes(b"\x01\0\0\xf9\xff\x0f\0\0\0\0\0\x08\0\0\0abcdefgh");
 
 const REPLAY: &[&str] = &["replay", "image"];
 
@@ -90,13 +100,30 @@ fn disk_of(alloc: Global, fails: &[DiskFail]) -> Result<MemDisk, AllocError> {
     Ok(MemDisk::new(image(alloc, SMALL)?, Vec::from_slice(alloc, fails)?))
 }
 
+// Appends a piece to a trace.
+fn put_piece(alloc: Global, bytes: &mut Vec<u8>, piece: Piece) -> Result<(), AllocError> {
+    match piece {
+        Piece::Bytes(given) => bytes.extend_from_slice(given),
+        Piece::Place => bytes.extend_from_slice(&base()),
+        Piece::NoMagic => {
+            let mut place = base();
+            place[0x40] = 0;
+            bytes.extend_from_slice(&place)
+        }
+        Piece::FirstMib => {
+            let start = image(alloc, SMALL)?;
+            bytes.extend_from_slice(&start)
+        }
+    }
+}
+
 // The status of a run and the sink that holds its lines. The trace has these pieces, and the calls of
 // the source and of the sink with these numbers fail.
 fn run_over(
     alloc: Global,
     words: &[&str],
     disk: &mut MemDisk,
-    trace: &[&[u8]],
+    trace: &[Piece],
     source_fails: &[u64],
     sink_fails: &[(u64, usize)],
 ) -> Result<(u8, MemSink), Fail> {
@@ -106,7 +133,7 @@ fn run_over(
     }
     let mut bytes = Vec::new(alloc);
     for piece in trace {
-        bytes.extend_from_slice(piece)?;
+        put_piece(alloc, &mut bytes, *piece)?;
     }
     let mut source = MemSource::new(bytes, 1_048_576, Vec::from_slice(alloc, source_fails)?);
     let mut out = MemSink::new(alloc, 1000, Vec::from_slice(alloc, sink_fails)?)?;
@@ -123,71 +150,82 @@ fn run_over(
 
 #[test]
 fn each_trace_has_its_lines(rt: HostRuntime) -> Result<(), Fail> {
-    let place = base();
-    let mut no_magic = base();
-    no_magic[0x40] = 0;
     let start = image(rt.alloc(), SMALL)?;
-    let rows: [(&[&[u8]], u8, &str); 17] = [
+    let rows: [(&[Piece], u8, &str); 17] = [
         (&[HEADER, END], 0, "end passed 0 rejected 0\n"),
         (&[HEADER], 3, "trace fault 4 Truncated record 1\n"),
         (
-            &[b"RECONTRC\x02\0\0\0\0\0\0\0", END],
+            &[Piece::Bytes(b"RECONTRC\x02\0\0\0\0\0\0\0"), END],
             3,
             "trace fault 1 BadHeader record 0\n",
         ),
         (
-            &[HEADER, b"\x09", END],
+            &[HEADER, Piece::Bytes(b"\x09"), END],
             3,
             "trace fault 2 BadTag record 1\n",
         ),
         (
-            &[HEADER, b"\x02", END],
+            &[HEADER, Piece::Bytes(b"\x02"), END],
             3,
             "trace fault 2 BadTag record 1\n",
         ),
         (
-            &[HEADER, b"\x03", END],
+            &[HEADER, Piece::Bytes(b"\x03"), END],
             3,
             "trace fault 2 BadTag record 1\n",
         ),
         (
-            &[HEADER, AT_PLACE, &place, END],
+            &[HEADER, AT_PLACE, Piece::Place, END],
             0,
             "commit 1 passed generation 1 blocks 0 hot 0\nend passed 1 rejected 0\n",
         ),
         (
-            &[HEADER, AT_PLACE, &no_magic, END],
+            &[HEADER, AT_PLACE, Piece::NoMagic, END],
             1,
             "commit 1 rejected S2 tree 0 block 0 key 0 0 0 detail 0\nend passed 0 rejected 1\n",
         ),
         (
-            &[HEADER, AT_PLACE, &no_magic, AT_PLACE, &place, END],
+            &[
+                HEADER,
+                AT_PLACE,
+                Piece::NoMagic,
+                AT_PLACE,
+                Piece::Place,
+                END,
+            ],
             1,
             "commit 1 rejected S2 tree 0 block 0 key 0 0 0 detail 0\ncommit 2 passed generation 1 blocks 0 hot 0\nend passed 1 rejected 1\n",
         ),
         (
-            &[HEADER, AT_START, &start, END],
+            &[HEADER, AT_START, Piece::FirstMib, END],
             0,
             "commit 1 passed generation 1 blocks 0 hot 0\nend passed 1 rejected 0\n",
         ),
         (
             &[
                 HEADER,
-                b"\x01\0\0\0\0\0\0\0\0\0\0\x01\0\x10\0",
-                &start,
-                b"\0",
+                Piece::Bytes(b"\x01\0\0\0\0\0\0\0\0\0\0\x01\0\x10\0"),
+                Piece::FirstMib,
+                Piece::Bytes(b"\0"),
                 END,
             ],
             3,
             "trace fault 3 BadLength record 1\n",
         ),
         (
-            &[HEADER, b"\x01\0\0\0\0\0\0\0\0\0\0\0\0\0\0", END],
+            &[
+                HEADER,
+                Piece::Bytes(b"\x01\0\0\0\0\0\0\0\0\0\0\0\0\0\0"),
+                END,
+            ],
             3,
             "trace fault 3 BadLength record 1\n",
         ),
         (
-            &[HEADER, b"\x01\0\0\0\0\0\0\0\0\0\0\x0a\0\0\0123456789"],
+            &[
+                HEADER,
+                Piece::Bytes(b"\x01\0\0\0\0\0\0\0\0\0\0\x0a\0\0\0123456789"),
+            ],
             3,
             "trace fault 4 Truncated record 1\n",
         ),
@@ -197,13 +235,13 @@ fn each_trace_has_its_lines(rt: HostRuntime) -> Result<(), Fail> {
             "trace past end record 1 at 1048569 len 8 end 1048576\n",
         ),
         (
-            &[HEADER, AT_PLACE, &place, PAST_LAST, END],
+            &[HEADER, AT_PLACE, Piece::Place, PAST_LAST, END],
             3,
             "commit 1 passed generation 1 blocks 0 hot 0\ntrace past end record 2 at 1048569 len 8 end 1048576\n",
         ),
         (&[HEADER, AT_LAST, END], 0, "end passed 0 rejected 0\n"),
         (
-            &[HEADER, AT_LAST, AT_PLACE, &no_magic, END],
+            &[HEADER, AT_LAST, AT_PLACE, Piece::NoMagic, END],
             1,
             "commit 1 rejected S2 tree 0 block 0 key 0 0 0 detail 0\nend passed 0 rejected 1\n",
         ),
@@ -221,7 +259,7 @@ fn each_trace_has_its_lines(rt: HostRuntime) -> Result<(), Fail> {
 
 #[test]
 fn a_commit_lets_what_waits_through(rt: HostRuntime) -> Result<(), Fail> {
-    let trace: &[&[u8]] = &[HEADER, AT_LAST, AT_PLACE, &base(), END];
+    let trace: &[Piece] = &[HEADER, AT_LAST, AT_PLACE, Piece::Place, END];
     let mut want = image(rt.alloc(), SMALL)?;
     assert!(rt; want.len() == SMALL);
     want[SMALL - 8..].copy_from_slice(b"abcdefgh");
@@ -234,9 +272,9 @@ fn a_commit_lets_what_waits_through(rt: HostRuntime) -> Result<(), Fail> {
 
 #[test]
 fn the_end_of_a_whole_image_counts(rt: HostRuntime) -> Result<(), Fail> {
-    let last = b"\x01\0\0\xf8\xff\xff\x01\0\0\0\0\x08\0\0\0abcdefgh";
-    let past = b"\x01\0\0\xf9\xff\xff\x01\0\0\0\0\x08\0\0\0abcdefgh";
-    let rows: [(&[u8], u8, &str); 2] = [
+    let last = Piece::Bytes(b"\x01\0\0\xf8\xff\xff\x01\0\0\0\0\x08\0\0\0abcdefgh");
+    let past = Piece::Bytes(b"\x01\0\0\xf9\xff\xff\x01\0\0\0\0\x08\0\0\0abcdefgh");
+    let rows: [(Piece, u8, &str); 2] = [
         (last, 0, "end passed 0 rejected 0\n"),
         (
             past,
@@ -246,7 +284,7 @@ fn the_end_of_a_whole_image_counts(rt: HostRuntime) -> Result<(), Fail> {
     ];
     let mut disk = MemDisk::new(image(rt.alloc(), WHOLE)?, Vec::new(rt.alloc()));
     for (write, status, lines) in rows {
-        let trace: &[&[u8]] = &[HEADER, write, END];
+        let trace: &[Piece] = &[HEADER, write, END];
         let want = format!(in rt.alloc(); "image accepted generation 1\n{lines}")?;
         let (got, out) = run_over(rt.alloc(), REPLAY, &mut disk, trace, &[], &[])?;
         assert_eq!(rt; got, status, "{lines}");
@@ -291,7 +329,7 @@ fn other_words_do_nothing(rt: HostRuntime) -> Result<(), Fail> {
 
 #[test]
 fn a_failing_call_of_the_disk_has_status_4(rt: HostRuntime) -> Result<(), Fail> {
-    let trace: &[&[u8]] = &[HEADER, AT_LAST, AT_PLACE, &base(), END];
+    let trace: &[Piece] = &[HEADER, AT_LAST, AT_PLACE, Piece::Place, END];
     let accepted = "image accepted generation 1\n";
     for (op, nth, lines) in [
         (Op::Length, 1, ""),
@@ -317,7 +355,7 @@ fn a_failing_call_of_the_disk_has_status_4(rt: HostRuntime) -> Result<(), Fail> 
 
 #[test]
 fn a_failing_source_or_sink_has_status_5_or_6(rt: HostRuntime) -> Result<(), Fail> {
-    let trace: &[&[u8]] = &[HEADER, AT_PLACE, &base(), END];
+    let trace: &[Piece] = &[HEADER, AT_PLACE, Piece::Place, END];
     let accepted = "image accepted generation 1\n";
     let passed = "image accepted generation 1\ncommit 1 passed generation 1 blocks 0 hot 0\n";
     let all =
