@@ -1,11 +1,10 @@
 -- Two walks that read the visited blocks alike are one.
 use Rattle.std.proofs.Common.{◌≡◌, ℕ, zero, suc, List, [], ◌∷◌, ◌++◌, Option, Some, None, Result, Ok, Err, refl, sym, ap, ◌∙◌, subst}
 use Rattle.verdict.specs.declared.finding.Finding.{Finding}
-use Rattle.node_reader.specs.Layout.{LeafItem, Parts}
+use Rattle.node_reader.specs.Layout.{Parts}
 use Rattle.node_reader.specs.Layout.Parts.{Pointers, Items}
 use Rattle.node_reader.specs.declared.expect.Expect.{Expect}
-use Rattle.node_reader.specs.declared.expect.Pointer.{Pointer}
-use Rattle.plain_check.specs.Walk.{Visited, Read, ReadItem, children_of, first_of_items, finding_or_visits, then_walk, walk_each, walk_parts, nothing_below, walk_from, walk_below}
+use Rattle.plain_check.specs.Walk.{Visited, Read, ReadItem, children_of, first_of_items, finding_or_visits, then_walk, walk_each, walk_parts, nothing_below, walk_from}
 use Rattle.plain_check.specs.WalkLaw.{ReadAlike, VisitsDecide}
 use Rattle.plain_check.proofs.Walking.{walk_at_leaf, walk_at_node}
 

@@ -1,6 +1,5 @@
 -- The bytes of a block, from the copies that were read.
-use Rattle.std.proofs.Common.{IfOk, ◌≡◌, ℕ, ◌+◌, ◌-◌, ◌%◌, ◌<◌, ◌≤◌, ◌==◌, Bool, true, false, not, cond, List, length, take, drop, get_or, Option, Some, None, IfSome, Result, Ok, Err, refl, sym, ap, ◌∙◌, arith, subst}
-use Rattle.std.proofs.lemmas.List.{take_at}
+use Rattle.std.proofs.Common.{IfOk, ◌≡◌, ℕ, ◌+◌, ◌-◌, ◌%◌, ◌==◌, Bool, true, false, not, cond, List, length, Option, Some, None, IfSome, Result, Ok, Err, refl, sym, ap, ◌∙◌, arith}
 use Rattle.std.specs.Ordering.{nat_cmp}
 use Rattle.std.specs.FinMap.{FinMap}
 use Rattle.std.specs.Prelude.{nat_le, ◌&&◌, slice_index}
@@ -17,7 +16,7 @@ use Rattle.volume_items.specs.ChunkRow.{is_multiple}
 use Rattle.node_reader.specs.Faults.{finding_or_block, block_finding}
 use Rattle.node_reader.specs.declared.expect.Expect.{Expect}
 use Rattle.node_reader.proofs.Steps.{least_from_here, least_from_past, least_from_end}
-use Rattle.plain_check.specs.BlockBytes.{differs_at, least_difference, alike, nowhere, bytes_at, block_bytes, FitsIn}
+use Rattle.plain_check.specs.BlockBytes.{differs_at, nowhere, bytes_at, block_bytes, FitsIn}
 
 pub differs_is : (first second : List ℕ) (place : ℕ) → differs_at first second place ≡ not (slice_index first place == slice_index second place)
 unfolding differs_at

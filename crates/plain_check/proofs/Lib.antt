@@ -2,3 +2,4 @@ pub mod Told
 pub mod Blocks
 pub mod Walking
 pub mod Alike
+pub mod Judging

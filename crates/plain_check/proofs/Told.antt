@@ -1,5 +1,5 @@
 -- What is found in the image of a disk that may not tell its bytes.
-use Rattle.std.proofs.Common.{Ok, ◌≡◌, ℕ, ◌<◌, ◌≤◌, true, false, List, length, Option, Some, None, IfSome, Result, Err, refl, sym, ap, ◌∙◌, arith, subst, cond}
+use Rattle.std.proofs.Common.{◌≡◌, ℕ, ◌<◌, ◌≤◌, true, false, List, length, Option, Some, None, IfSome, Result, Err, sym, ap, ◌∙◌, arith, subst, cond}
 use Rattle.std.specs.Ordering.{nat_cmp}
 use Rattle.std.specs.FinMap.{FinMap}
 use Rattle.std.specs.Prelude.{nat_lt}
@@ -11,9 +11,8 @@ use Rattle.super_reader.specs.declared.Super.{Super}
 use Rattle.super_reader.specs.Superblock.{superblock_of}
 use Rattle.write_cache.specs.Cache.{overlaid}
 use Rattle.write_cache.proofs.CacheLaws.{length-overlaid, range-overlaid_image}
-use Rattle.plain_check.specs.FullCheck.{full_check, superblock_in, verdict_of}
-use Rattle.plain_check.specs.declared.image.Verdict.{Verdict}
-use Rattle.plain_check.specs.declared.image.Verdict.TheVariants.{Accept}
+use Rattle.plain_check.specs.Superblock.{superblock_in}
+pub use Rattle.plain_check.proofs.Judging.{accepted_superblock}
 
 lt_true : (m n : ℕ) → m < n → nat_lt m n ≡ true
 lt_true m n h = grind arith
@@ -47,22 +46,3 @@ read_found (Some image) now len m read place r size long same was over is =
     let n : length (overlaid m 0 image) ≡ len = length-overlaid m 0 image ∙ size in
     is ∙ ap superblock_of (over ∙ ap (overlaid m 65536) read_is ∙ sym (range-overlaid_image m image 65536 4096))
     ∙ sym (in_long (overlaid m 0 image) (omega arith))
-
-full : (image : List ℕ) → full_check image ≡ verdict_of (superblock_in image)
-unfolding full_check
-full image = refl
-
--- what a superblock's check says of the image
-pub checked : (told : Option (List ℕ)) (m : FinMap nat_cmp ℕ) (r : Result Super Finding) (v : Verdict) → v ≡ verdict_of r
-    → IfSome told (λ image. r ≡ superblock_in (overlaid m 0 image)) → IfSome told (λ image. v ≡ full_check (overlaid m 0 image))
-checked None m r v is found = tt
-checked (Some image) m r v is found = is ∙ ap verdict_of found ∙ sym (full (overlaid m 0 image))
-
-generation_of : (r : Result Super Finding) (generation : ℕ) → verdict_of r ≡ Accept generation → (sup : Super) × (r ≡ Ok sup) × (sup.generation ≡ generation)
-generation_of (Ok sup) generation h = (sup, refl, cc)
-generation_of (Err finding) generation h = absurd (cc)
-
--- an accepted image has a superblock that keeps its rules, and the generation is that superblock's
-pub accepted_superblock : (image : List ℕ) (generation : ℕ) → full_check image ≡ Accept generation
-    → (sup : Super) × (superblock_in image ≡ Ok sup) × (sup.generation ≡ generation)
-accepted_superblock image generation h = generation_of (superblock_in image) generation (sym (full image) ∙ h)

@@ -1,5 +1,5 @@
 -- The walk's steps: a block that was read, its items or its children one after the other.
-use Rattle.std.proofs.Common.{◌≡◌, ℕ, zero, suc, ◌+◌, ◌-◌, ◌<◌, ◌≤◌, ◌==◌, Bool, true, false, cond, List, [], ◌∷◌, ◌++◌, length, take, drop, Option, Some, None, IfSome, IfOk, Result, Ok, Err, refl, sym, ap, ◌∙◌, arith, subst, append_assoc, append-nil}
+use Rattle.std.proofs.Common.{◌≡◌, ℕ, zero, suc, ◌+◌, ◌-◌, ◌<◌, ◌≤◌, ◌==◌, Bool, true, false, cond, List, [], ◌∷◌, ◌++◌, length, take, drop, Option, Some, None, IfSome, Result, Ok, Err, refl, sym, ap, ◌∙◌, arith, subst, append_assoc, append-nil}
 use Rattle.std.proofs.lemmas.List.{take_at}
 use Rattle.std.specs.Ordering.{nat_cmp}
 use Rattle.std.specs.FinMap.{FinMap}
@@ -11,16 +11,18 @@ use Rattle.verdict.specs.declared.place.Chunk.{Chunk}
 use Rattle.super_reader.specs.declared.Super.{Super}
 use Rattle.write_cache.specs.Cache.{overlaid}
 use Rattle.volume_items.specs.ChunkRow.{ChunkFields, chunk_row, chunk_rows, chunk_fields, chunk_of, finding_or}
+use Rattle.volume_items.specs.RootRow.{root_row, root_rows, root_fields, finding_or_root}
+use Rattle.volume_items.specs.declared.root.RootItem.{RootItem}
 use Rattle.node_reader.specs.Places.{each_from}
-use Rattle.node_reader.specs.Layout.{LeafItem, Parts, count_of, level_of, pointer_of, pointers_of, item_of, items_of, block_parts}
+use Rattle.node_reader.specs.Layout.{LeafItem, count_of, level_of, pointer_of, pointers_of, item_of, items_of, block_parts}
 use Rattle.node_reader.specs.Layout.Parts.{Pointers, Items}
 use Rattle.node_reader.specs.Faults.{block_of, finding_or_block}
 use Rattle.node_reader.specs.declared.expect.Expect.{Expect}
 use Rattle.node_reader.specs.declared.expect.Pointer.{Pointer}
-use Rattle.node_reader.proofs.BlockLaws.{each_left, each_left_none, block_read}
+use Rattle.node_reader.proofs.BlockLaws.{each_left, each_left_none}
 use Rattle.plain_check.specs.BlockBytes.{block_bytes}
 use Rattle.plain_check.specs.Walk.{Visited, Read, ReadItem, high_of, child_of, children_of, or_later, first_of_items, finding_or_visits, then_walk, walk_each, walk_parts, nothing_below, walk_from, walk_below}
-use Rattle.plain_check.specs.Found.{parts_of, parts_by, block_reading, leaf_place, is_chunk_item, finding_of, item_fault, item_reading, walk_in, chunk_at, leaf_item, chunks_of_items, chunks_of_parts, chunks_of_visits, FoundItems, with_visits, with_items, finding_or_found, with_walk, AddsChunk}
+use Rattle.plain_check.specs.Found.{parts_of, parts_by, block_reading, leaf_place, is_chunk_item, is_root_item, finding_of, item_fault, item_reading, walk_in, chunk_at, root_at, FoundItems, nothing_found, and_found, found_in_item, found_in_items, found_in_parts, found_in_visits, finding_or_found, with_walk, AddsChunk, AddsRoot}
 
 pub high_here : (pointer : ℕ → Pointer) (i count : ℕ) (high : Option Key) → i < count → high_of (each_from pointer i (count - i)) high ≡ Some (pointer i).key
 high_here pointer i count high inside = ap (λ ps. high_of ps high) (each_left pointer i count inside)
@@ -38,6 +40,14 @@ row_fields : (at : At) (key : Key) (bytes : List ℕ) (given : ChunkFields) → 
 unfolding chunk_row
 row_fields at key bytes given is = finding_or-fields (first_failing (chunk_rows at key bytes)) (chunk_fields key bytes) given is
 
+finding_or-root : (found : Option Finding) (fields given : RootItem) → finding_or_root found fields ≡ Ok given → given ≡ fields
+finding_or-root None fields given is = cc
+finding_or-root (Some finding) fields given is = cc
+
+root_row_fields : (at : At) (key : Key) (bytes : List ℕ) (given : RootItem) → root_row at key bytes ≡ Ok given → given ≡ root_fields key bytes
+unfolding root_row
+root_row_fields at key bytes given is = finding_or-root (first_failing (root_rows at key bytes)) (root_fields key bytes) given is
+
 -- a chunk item that was read, and whose chunk was put behind the others
 pub chunk_added : (at : At) (key : Key) (bytes : List ℕ) (given : ChunkFields) (chunk : Chunk) (before after : List Chunk)
     → chunk_row at key bytes ≡ Ok given → chunk ≡ chunk_of given → after ≡ before ++ chunk ∷ [] → AddsChunk at key bytes None before after
@@ -45,70 +55,96 @@ chunk_added at key bytes given chunk before after row is put =
     let fields : given ≡ chunk_fields key bytes = row_fields at key bytes given row in
     (row ∙ ap Ok fields, put ∙ ap (λ k. before ++ k ∷ []) (is ∙ ap chunk_of fields))
 
-fault_is : (at : At) (key : Key) (bytes : List ℕ) → item_fault at key bytes ≡ cond (is_chunk_item at.tree key) (finding_of (chunk_row at key bytes)) None
+-- a root item that was read, and put behind the others
+pub root_added : (at : At) (key : Key) (bytes : List ℕ) (given : RootItem) (before after : List RootItem)
+    → Ok given ≡ root_row at key bytes → after ≡ before ++ given ∷ [] → AddsRoot at key bytes None before after
+root_added at key bytes given before after row put =
+    let fields : given ≡ root_fields key bytes = root_row_fields at key bytes given (sym row) in
+    (sym row ∙ ap Ok fields, put ∙ ap (λ k. before ++ k ∷ []) fields)
+
+-- what is found joins as lists do
+pub found_assoc : (a b c : FoundItems) → and_found (and_found a b) c ≡ and_found a (and_found b c)
+found_assoc a b c =
+    ap (λ l. record { chunks = l; roots = (a.roots ++ b.roots) ++ c.roots }) (append_assoc a.chunks b.chunks c.chunks)
+    ∙ ap (λ l. record { chunks = a.chunks ++ (b.chunks ++ c.chunks); roots = l }) (append_assoc a.roots b.roots c.roots)
+
+pub found_nothing : (a : FoundItems) → and_found a nothing_found ≡ a
+found_nothing a =
+    ap (λ l. record { chunks = l; roots = a.roots ++ [] }) (append-nil a.chunks) ∙ ap (λ l. record { chunks = a.chunks; roots = l }) (append-nil a.roots)
+
+fault_is : (at : At) (key : Key) (bytes : List ℕ) → item_fault at key bytes ≡ cond (is_chunk_item at.tree key) (finding_of (chunk_row at key bytes)) (cond (is_root_item at.tree key) (finding_of (root_row at key bytes)) None)
 unfolding item_fault
 fault_is at key bytes = refl
 
-items_none : (tree : ℕ) → chunks_of_items tree [] ≡ []
-unfolding chunks_of_items
+item_is : (tree : ℕ) (key : Key) (bytes : List ℕ) → found_in_item tree key bytes ≡ cond (is_chunk_item tree key) (chunk_at key bytes) (cond (is_root_item tree key) (root_at key bytes) nothing_found)
+unfolding found_in_item
+item_is tree key bytes = refl
+
+items_none : (tree : ℕ) → found_in_items tree [] ≡ nothing_found
+unfolding found_in_items
 items_none tree = refl
 
-items_some : (tree : ℕ) (item : LeafItem) (items : List LeafItem) → chunks_of_items tree (item ∷ items) ≡ cond (is_chunk_item tree item.key) (chunk_at item ∷ chunks_of_items tree items) (chunks_of_items tree items)
-unfolding chunks_of_items
+items_some : (tree : ℕ) (item : LeafItem) (items : List LeafItem) → found_in_items tree (item ∷ items) ≡ and_found (found_in_item tree item.key item.bytes) (found_in_items tree items)
+unfolding found_in_items
 items_some tree item items = refl
 
-items_one : (tree : ℕ) (item : LeafItem) → chunks_of_items tree (item ∷ []) ≡ cond (is_chunk_item tree item.key) (chunk_at item ∷ []) []
-items_one tree item = items_some tree item [] ∙ ap (λ l. cond (is_chunk_item tree item.key) (chunk_at item ∷ l) l) (items_none tree)
+by_tests : (at : At) (key : Key) (bytes : List ℕ) (before : FoundItems) (b c : Bool) → is_chunk_item at.tree key ≡ b → is_root_item at.tree key ≡ c
+    → finding_or_found (item_fault at key bytes) (and_found before (found_in_item at.tree key bytes))
+    ≡ finding_or_found (cond b (finding_of (chunk_row at key bytes)) (cond c (finding_of (root_row at key bytes)) None)) (and_found before (cond b (chunk_at key bytes) (cond c (root_at key bytes) nothing_found)))
+by_tests at key bytes before b c is_b is_c =
+    ap (λ o. finding_or_found o (and_found before (found_in_item at.tree key bytes))) (fault_is at key bytes)
+    ∙ ap (λ f. finding_or_found (cond (is_chunk_item at.tree key) (finding_of (chunk_row at key bytes)) (cond (is_root_item at.tree key) (finding_of (root_row at key bytes)) None)) (and_found before f)) (item_is at.tree key bytes)
+    ∙ ap (λ t. finding_or_found (cond t (finding_of (chunk_row at key bytes)) (cond (is_root_item at.tree key) (finding_of (root_row at key bytes)) None)) (and_found before (cond t (chunk_at key bytes) (cond (is_root_item at.tree key) (root_at key bytes) nothing_found)))) is_b
+    ∙ ap (λ t. finding_or_found (cond b (finding_of (chunk_row at key bytes)) (cond t (finding_of (root_row at key bytes)) None)) (and_found before (cond b (chunk_at key bytes) (cond t (root_at key bytes) nothing_found)))) is_c
 
-front_of : (b : Bool) (chunk : Chunk) (chunks : List Chunk) → cond b (chunk ∷ chunks) chunks ≡ cond b (chunk ∷ []) [] ++ chunks
-front_of true chunk chunks = refl
-front_of false chunk chunks = refl
+-- an item that is a chunk item, one that is a root item, and one that is neither
+pub item_chunk : (at : At) (key : Key) (bytes : List ℕ) (answer : Option Finding) (before after : List Chunk) (roots : List RootItem) → is_chunk_item at.tree key ≡ true → AddsChunk at key bytes answer before after
+    → finding_or_found answer (record { chunks = after; roots = roots }) ≡ finding_or_found (item_fault at key bytes) (and_found (record { chunks = before; roots = roots }) (found_in_item at.tree key bytes))
+item_chunk at key bytes (Some finding) before after roots test adds =
+    sym (by_tests at key bytes (record { chunks = before; roots = roots }) true (is_root_item at.tree key) test refl
+    ∙ ap (λ r. finding_or_found (finding_of r) (and_found (record { chunks = before; roots = roots }) (chunk_at key bytes))) adds)
+item_chunk at key bytes None before after roots test adds =
+    ap (λ l. finding_or_found None (record { chunks = l; roots = roots })) adds.1
+    ∙ ap (λ l. finding_or_found None (record { chunks = before ++ chunk_of (chunk_fields key bytes) ∷ []; roots = l })) (sym (append-nil roots))
+    ∙ sym (by_tests at key bytes (record { chunks = before; roots = roots }) true (is_root_item at.tree key) test refl
+    ∙ ap (λ r. finding_or_found (finding_of r) (and_found (record { chunks = before; roots = roots }) (chunk_at key bytes))) adds.0)
 
-items_more : (tree : ℕ) (item : LeafItem) (items : List LeafItem) → chunks_of_items tree (item ∷ items) ≡ chunks_of_items tree (item ∷ []) ++ chunks_of_items tree items
-items_more tree item items =
-    items_some tree item items ∙ front_of (is_chunk_item tree item.key) (chunk_at item) (chunks_of_items tree items)
-    ∙ ap (λ l. l ++ chunks_of_items tree items) (sym (items_one tree item))
+pub item_root : (at : At) (key : Key) (bytes : List ℕ) (answer : Option Finding) (chunks : List Chunk) (before after : List RootItem) → is_chunk_item at.tree key ≡ false → is_root_item at.tree key ≡ true → AddsRoot at key bytes answer before after
+    → finding_or_found answer (record { chunks = chunks; roots = after }) ≡ finding_or_found (item_fault at key bytes) (and_found (record { chunks = chunks; roots = before }) (found_in_item at.tree key bytes))
+item_root at key bytes (Some finding) chunks before after no_chunk test adds =
+    sym (by_tests at key bytes (record { chunks = chunks; roots = before }) false true no_chunk test
+    ∙ ap (λ r. finding_or_found (finding_of r) (and_found (record { chunks = chunks; roots = before }) (root_at key bytes))) adds)
+item_root at key bytes None chunks before after no_chunk test adds =
+    ap (λ l. finding_or_found None (record { chunks = chunks; roots = l })) adds.1
+    ∙ ap (λ l. finding_or_found None (record { chunks = l; roots = before ++ root_fields key bytes ∷ [] })) (sym (append-nil chunks))
+    ∙ sym (by_tests at key bytes (record { chunks = chunks; roots = before }) false true no_chunk test
+    ∙ ap (λ r. finding_or_found (finding_of r) (and_found (record { chunks = chunks; roots = before }) (root_at key bytes))) adds.0)
 
--- an item that is a chunk item, and one that is not
-pub item_read : (at : At) (key : Key) (bytes : List ℕ) (answer : Option Finding) (before after : List Chunk) → is_chunk_item at.tree key ≡ true → AddsChunk at key bytes answer before after
-    → finding_or_found answer (record { chunks = after }) ≡ finding_or_found (item_fault at key bytes) (with_items (record { chunks = before }) at.tree (leaf_item key bytes ∷ []))
-item_read at key bytes (Some finding) before after test adds =
-    sym (ap (λ o. finding_or_found o (with_items (record { chunks = before }) at.tree (leaf_item key bytes ∷ [])))
-    (fault_is at key bytes ∙ ap (λ b. cond b (finding_of (chunk_row at key bytes)) None) test ∙ ap finding_of adds))
-item_read at key bytes None before after test adds =
-    ap (λ l. finding_or_found None (record { chunks = l })) (adds.1 ∙ ap (λ l. before ++ l) (sym (items_one at.tree (leaf_item key bytes) ∙ ap (λ b. cond b (chunk_at (leaf_item key bytes) ∷ []) []) test)))
-    ∙ sym (ap (λ o. finding_or_found o (with_items (record { chunks = before }) at.tree (leaf_item key bytes ∷ [])))
-    (fault_is at key bytes ∙ ap (λ b. cond b (finding_of (chunk_row at key bytes)) None) test ∙ ap finding_of adds.0))
-
-pub item_passed : (at : At) (key : Key) (bytes : List ℕ) (before : List Chunk) → is_chunk_item at.tree key ≡ false
-    → finding_or_found None (record { chunks = before }) ≡ finding_or_found (item_fault at key bytes) (with_items (record { chunks = before }) at.tree (leaf_item key bytes ∷ []))
-item_passed at key bytes before test =
-    ap (λ l. finding_or_found None (record { chunks = l })) (sym (append-nil before) ∙ ap (λ l. before ++ l) (sym (items_one at.tree (leaf_item key bytes) ∙ ap (λ b. cond b (chunk_at (leaf_item key bytes) ∷ []) []) test)))
-    ∙ sym (ap (λ o. finding_or_found o (with_items (record { chunks = before }) at.tree (leaf_item key bytes ∷ [])))
-    (fault_is at key bytes ∙ ap (λ b. cond b (finding_of (chunk_row at key bytes)) None) test))
-
-same_item : (item : LeafItem) (key : Key) (bytes : List ℕ) → key ≡ item.key → bytes ≡ item.bytes → leaf_item key bytes ≡ item
-same_item item key bytes k b = ap (λ x. leaf_item x bytes) k ∙ ap (leaf_item item.key) b
+pub item_passed : (at : At) (key : Key) (bytes : List ℕ) (before : FoundItems) → is_chunk_item at.tree key ≡ false → is_root_item at.tree key ≡ false
+    → finding_or_found None before ≡ finding_or_found (item_fault at key bytes) (and_found before (found_in_item at.tree key bytes))
+item_passed at key bytes before no_chunk no_root =
+    ap (finding_or_found None) (sym (found_nothing before)) ∙ sym (by_tests at key bytes before false false no_chunk no_root)
 
 -- what an item of a leaf gives
 item_gives : (sup : Super) (e : Expect) (item : LeafItem) (at : At) (key : Key) (bytes : List ℕ) (answer : Option Finding) (before after : FoundItems)
     → at ≡ leaf_place sup e → key ≡ item.key → bytes ≡ item.bytes
-    → finding_or_found answer after ≡ finding_or_found (item_fault at key bytes) (with_items before at.tree (leaf_item key bytes ∷ []))
-    → finding_or_found answer after ≡ finding_or_found (item_reading sup e item) (with_items before e.tree (item ∷ []))
+    → finding_or_found answer after ≡ finding_or_found (item_fault at key bytes) (and_found before (found_in_item at.tree key bytes))
+    → finding_or_found answer after ≡ finding_or_found (item_reading sup e item) (and_found before (found_in_item e.tree item.key item.bytes))
 item_gives sup e item at key bytes answer before after a k b is =
-    is ∙ ap (λ it. finding_or_found (item_fault at it.key it.bytes) (with_items before at.tree (it ∷ []))) (same_item item key bytes k b)
-    ∙ ap (λ x. finding_or_found (item_fault x item.key item.bytes) (with_items before x.tree (item ∷ []))) a
+    is ∙ ap (λ x. finding_or_found (item_fault at x bytes) (and_found before (found_in_item at.tree x bytes))) k
+    ∙ ap (λ x. finding_or_found (item_fault at item.key x) (and_found before (found_in_item at.tree item.key x))) b
+    ∙ ap (λ x. finding_or_found (item_fault x item.key item.bytes) (and_found before (found_in_item x.tree item.key item.bytes))) a
 
 step_of : (found : Option Finding) (items : List LeafItem) (tree : ℕ) (item : LeafItem) (rest : Option Finding) (before after : FoundItems)
-    → finding_or_found None after ≡ finding_or_found found (with_items before tree (item ∷ []))
-    → finding_or_found (or_later found rest) (with_items before tree (item ∷ items)) ≡ finding_or_found rest (with_items after tree items)
+    → finding_or_found None after ≡ finding_or_found found (and_found before (found_in_item tree item.key item.bytes))
+    → finding_or_found (or_later found rest) (and_found before (found_in_items tree (item ∷ items))) ≡ finding_or_found rest (and_found after (found_in_items tree items))
 step_of (Some finding) items tree item rest before after is = cc
 step_of None items tree item rest before after is =
-    let same : after ≡ with_items before tree (item ∷ []) = cc in
-    ap (finding_or_found rest) (ap (λ l. record { chunks = l })
-    (ap (λ l. before.chunks ++ l) (items_more tree item items)
-    ∙ sym (append_assoc before.chunks (chunks_of_items tree (item ∷ [])) (chunks_of_items tree items))
-    ∙ ap (λ f. f.chunks ++ chunks_of_items tree items) (sym same)))
+    let same : after ≡ and_found before (found_in_item tree item.key item.bytes) = cc in
+    ap (finding_or_found rest)
+    (ap (and_found before) (items_some tree item items)
+    ∙ sym (found_assoc before (found_in_item tree item.key item.bytes) (found_in_items tree items))
+    ∙ ap (λ f. and_found f (found_in_items tree items)) (sym same))
 
 stop_of : (found : Option Finding) (finding : Finding) (rest : Option Finding) (before after whole : FoundItems)
     → finding_or_found (Some finding) after ≡ finding_or_found found before → Err finding ≡ finding_or_found (or_later found rest) whole
@@ -118,24 +154,24 @@ stop_of None finding rest before after whole is = cc
 -- the items of a leaf from a place on decide, with what was found before them
 pub items_left : Super → Expect → List ℕ → ℕ → FoundItems → Result FoundItems Finding
 items_left sup e block i before =
-    finding_or_found (first_of_items (item_reading sup e) (each_from (item_of block) i (count_of block - i))) (with_items before e.tree (each_from (item_of block) i (count_of block - i)))
+    finding_or_found (first_of_items (item_reading sup e) (each_from (item_of block) i (count_of block - i))) (and_found before (found_in_items e.tree (each_from (item_of block) i (count_of block - i))))
 
 -- all items are left at the start
 pub items_begin : (sup : Super) (e : Expect) (block : List ℕ) (before : FoundItems)
-    → items_left sup e block 0 before ≡ finding_or_found (first_of_items (item_reading sup e) (items_of block)) (with_items before e.tree (items_of block))
+    → items_left sup e block 0 before ≡ finding_or_found (first_of_items (item_reading sup e) (items_of block)) (and_found before (found_in_items e.tree (items_of block)))
 unfolding items_left
 items_begin sup e block before =
-    ap (λ n. finding_or_found (first_of_items (item_reading sup e) (each_from (item_of block) 0 n)) (with_items before e.tree (each_from (item_of block) 0 n))) (omega arith)
+    ap (λ n. finding_or_found (first_of_items (item_reading sup e) (each_from (item_of block) 0 n)) (and_found before (found_in_items e.tree (each_from (item_of block) 0 n)))) (omega arith)
 
 left_is : (sup : Super) (e : Expect) (block : List ℕ) (i : ℕ) (before : FoundItems) (items : List LeafItem) → each_from (item_of block) i (count_of block - i) ≡ items
-    → items_left sup e block i before ≡ finding_or_found (first_of_items (item_reading sup e) items) (with_items before e.tree items)
+    → items_left sup e block i before ≡ finding_or_found (first_of_items (item_reading sup e) items) (and_found before (found_in_items e.tree items))
 unfolding items_left
-left_is sup e block i before items is = ap (λ l. finding_or_found (first_of_items (item_reading sup e) l) (with_items before e.tree l)) is
+left_is sup e block i before items is = ap (λ l. finding_or_found (first_of_items (item_reading sup e) l) (and_found before (found_in_items e.tree l))) is
 
 -- one more item was read without a finding
 pub items_go_on : (sup : Super) (e : Expect) (block : List ℕ) (i : ℕ) (at : At) (key : Key) (bytes : List ℕ) (before after : FoundItems)
     → i < count_of block → at ≡ leaf_place sup e → key ≡ (item_of block i).key → bytes ≡ (item_of block i).bytes
-    → finding_or_found None after ≡ finding_or_found (item_fault at key bytes) (with_items before at.tree (leaf_item key bytes ∷ []))
+    → finding_or_found None after ≡ finding_or_found (item_fault at key bytes) (and_found before (found_in_item at.tree key bytes))
     → items_left sup e block i before ≡ items_left sup e block (i + 1) after
 items_go_on sup e block i at key bytes before after inside a k b is =
     let rest : List LeafItem = each_from (item_of block) (i + 1) (count_of block - (i + 1)) in
@@ -146,11 +182,11 @@ items_go_on sup e block i at key bytes before after inside a k b is =
 -- an item has a finding
 pub items_stop : (sup : Super) (e : Expect) (block : List ℕ) (i : ℕ) (at : At) (key : Key) (bytes : List ℕ) (finding : Finding) (before after : FoundItems)
     → i < count_of block → at ≡ leaf_place sup e → key ≡ (item_of block i).key → bytes ≡ (item_of block i).bytes
-    → finding_or_found (Some finding) after ≡ finding_or_found (item_fault at key bytes) (with_items before at.tree (leaf_item key bytes ∷ []))
+    → finding_or_found (Some finding) after ≡ finding_or_found (item_fault at key bytes) (and_found before (found_in_item at.tree key bytes))
     → Err finding ≡ items_left sup e block i before
 items_stop sup e block i at key bytes finding before after inside a k b is =
     let rest : List LeafItem = each_from (item_of block) (i + 1) (count_of block - (i + 1)) in
-    stop_of (item_reading sup e (item_of block i)) finding (first_of_items (item_reading sup e) rest) (with_items before e.tree (item_of block i ∷ [])) after (with_items before e.tree (item_of block i ∷ rest))
+    stop_of (item_reading sup e (item_of block i)) finding (first_of_items (item_reading sup e) rest) (and_found before (found_in_item e.tree (item_of block i).key (item_of block i).bytes)) after (and_found before (found_in_items e.tree (item_of block i ∷ rest)))
     (item_gives sup e (item_of block i) at key bytes (Some finding) before after a k b is)
     ∙ sym (left_is sup e block i before (item_of block i ∷ rest) (each_left (item_of block) i (count_of block) inside))
 
@@ -158,7 +194,7 @@ items_stop sup e block i at key bytes finding before after inside a k b is =
 pub items_end : (sup : Super) (e : Expect) (block : List ℕ) (i : ℕ) (before : FoundItems) → count_of block ≤ i → Ok before ≡ items_left sup e block i before
 items_end sup e block i before past =
     sym (left_is sup e block i before [] (each_left_none (item_of block) i (count_of block) past)
-    ∙ ap (λ l. Ok (record { chunks = before.chunks ++ l })) (items_none e.tree) ∙ ap (λ l. Ok (record { chunks = l })) (append-nil before.chunks))
+    ∙ ap (λ f. Ok (and_found before f)) (items_none e.tree) ∙ ap Ok (found_nothing before))
 
 reading_is : (image : List ℕ) (chunks : List Chunk) (sup : Super) (n : ℕ) (e : Expect) (r : Result (List ℕ) Finding) → n ≡ sup.nodesize → r ≡ block_bytes image chunks n e
     → block_reading image chunks sup e ≡ parts_by sup.fsid e r
@@ -209,35 +245,35 @@ walk_of_pointers read item (suc level) parent e pointers same node is =
     ∙ ap (then_walk (Ok (record { expect = e; parent = parent; parts = Pointers pointers } ∷ [])))
     (ap (λ n. walk_each (walk_from read item n e.address) (children_of e pointers)) k ∙ each_below read item e.address e pointers)
 
-visits_none : chunks_of_visits [] ≡ []
-unfolding chunks_of_visits
+visits_none : found_in_visits [] ≡ nothing_found
+unfolding found_in_visits
 visits_none = refl
 
-visits_some : (visit : Visited) (visits : List Visited) → chunks_of_visits (visit ∷ visits) ≡ chunks_of_parts visit.expect.tree visit.parts ++ chunks_of_visits visits
-unfolding chunks_of_visits
+visits_some : (visit : Visited) (visits : List Visited) → found_in_visits (visit ∷ visits) ≡ and_found (found_in_parts visit.expect.tree visit.parts) (found_in_visits visits)
+unfolding found_in_visits
 visits_some visit visits = refl
 
-visits_joined : (visits others : List Visited) → chunks_of_visits (visits ++ others) ≡ chunks_of_visits visits ++ chunks_of_visits others
-visits_joined [] others = ap (λ l. l ++ chunks_of_visits others) (sym visits_none)
+visits_joined : (visits others : List Visited) → found_in_visits (visits ++ others) ≡ and_found (found_in_visits visits) (found_in_visits others)
+visits_joined [] others = ap (λ f. and_found f (found_in_visits others)) (sym visits_none)
 visits_joined (visit ∷ visits) others =
-    visits_some visit (visits ++ others) ∙ ap (λ l. chunks_of_parts visit.expect.tree visit.parts ++ l) (visits_joined visits others)
-    ∙ sym (append_assoc (chunks_of_parts visit.expect.tree visit.parts) (chunks_of_visits visits) (chunks_of_visits others))
-    ∙ ap (λ l. l ++ chunks_of_visits others) (sym (visits_some visit visits))
+    visits_some visit (visits ++ others) ∙ ap (and_found (found_in_parts visit.expect.tree visit.parts)) (visits_joined visits others)
+    ∙ sym (found_assoc (found_in_parts visit.expect.tree visit.parts) (found_in_visits visits) (found_in_visits others))
+    ∙ ap (λ f. and_found f (found_in_visits others)) (sym (visits_some visit visits))
 
 -- what a leaf's walk gives to one who found something before
 with_leaf : (before : FoundItems) (found : Option Finding) (e : Expect) (parent : ℕ) (items : List LeafItem)
-    → with_walk before (finding_or_visits found (record { expect = e; parent = parent; parts = Items items } ∷ [])) ≡ finding_or_found found (with_items before e.tree items)
+    → with_walk before (finding_or_visits found (record { expect = e; parent = parent; parts = Items items } ∷ [])) ≡ finding_or_found found (and_found before (found_in_items e.tree items))
 with_leaf before (Some finding) e parent items = refl
 with_leaf before None e parent items =
-    ap (λ l. Ok (record { chunks = before.chunks ++ l }))
-    (visits_some (record { expect = e; parent = parent; parts = Items items }) [] ∙ ap (λ l. chunks_of_items e.tree items ++ l) visits_none ∙ append-nil (chunks_of_items e.tree items))
+    ap (λ f. Ok (and_found before f))
+    (visits_some (record { expect = e; parent = parent; parts = Items items }) [] ∙ ap (and_found (found_in_items e.tree items)) visits_none ∙ found_nothing (found_in_items e.tree items))
 
 -- a node adds nothing of its own
 with_node : (before : FoundItems) (e : Expect) (parent : ℕ) (pointers : List Pointer) (below : Result (List Visited) Finding)
     → with_walk before (then_walk (Ok (record { expect = e; parent = parent; parts = Pointers pointers } ∷ [])) below) ≡ with_walk before below
 with_node before e parent pointers (Err finding) = refl
 with_node before e parent pointers (Ok visits) =
-    ap (λ l. Ok (record { chunks = before.chunks ++ l })) (visits_some (record { expect = e; parent = parent; parts = Pointers pointers }) visits)
+    ap (λ f. Ok (and_found before f)) (visits_some (record { expect = e; parent = parent; parts = Pointers pointers }) visits)
 
 -- one walk more, and what follows
 with_more : (before after : FoundItems) (walk later : Result (List Visited) Finding) → finding_or_found None after ≡ with_walk before walk
@@ -245,10 +281,10 @@ with_more : (before after : FoundItems) (walk later : Result (List Visited) Find
 with_more before after (Err finding) later is = cc
 with_more before after (Ok visits) (Err finding) is = refl
 with_more before after (Ok visits) (Ok others) is =
-    let same : after ≡ with_visits before visits = cc in
-    ap (λ l. Ok (record { chunks = l }))
-    (ap (λ l. before.chunks ++ l) (visits_joined visits others) ∙ sym (append_assoc before.chunks (chunks_of_visits visits) (chunks_of_visits others))
-    ∙ ap (λ f. f.chunks ++ chunks_of_visits others) (sym same))
+    let same : after ≡ and_found before (found_in_visits visits) = cc in
+    ap Ok
+    (ap (and_found before) (visits_joined visits others) ∙ sym (found_assoc before (found_in_visits visits) (found_in_visits others))
+    ∙ ap (λ f. and_found f (found_in_visits others)) (sym same))
 
 with_stop : (before after : FoundItems) (finding : Finding) (walk later : Result (List Visited) Finding) → finding_or_found (Some finding) after ≡ with_walk before walk
     → Err finding ≡ with_walk before (then_walk walk later)
@@ -315,7 +351,7 @@ pub node_ends : (told : Option (List ℕ)) (m : FinMap nat_cmp ℕ) (chunks : Li
 node_ends None m chunks sup e block i before found past left = tt
 node_ends (Some image) m chunks sup e block i before found past left =
     sym (children_are (overlaid m 0 image) chunks sup e block i found [] (each_left_none (pointer_of block) i (count_of block) past)
-    ∙ ap (λ l. Ok (record { chunks = found.chunks ++ l })) visits_none ∙ ap (λ l. Ok (record { chunks = l })) (append-nil found.chunks))
+    ∙ ap (λ f. Ok (and_found found f)) visits_none ∙ ap Ok (found_nothing found))
     ∙ left
 
 -- what the walk of the block that is expected gives, where the image is told
@@ -362,7 +398,7 @@ parts_of_node block is = ap (λ b. cond b (Items (items_of block)) (Pointers (po
 -- a leaf whose items were read
 pub leaf_walked : (told : Option (List ℕ)) (m : FinMap nat_cmp ℕ) (chunks : List Chunk) (sup : Super) (e : Expect) (block : List ℕ) (answer : Option Finding) (before after : FoundItems)
     → e.level ≡ 0 → level_of block ≡ e.level → IfSome told (λ image. block_reading (overlaid m 0 image) chunks sup e ≡ parts_of (Ok block))
-    → finding_or_found answer after ≡ finding_or_found (first_of_items (item_reading sup e) (items_of block)) (with_items before e.tree (items_of block))
+    → finding_or_found answer after ≡ finding_or_found (first_of_items (item_reading sup e) (items_of block)) (and_found before (found_in_items e.tree (items_of block)))
     → WalkGives told m chunks sup e before (finding_or_found answer after)
 leaf_walked None m chunks sup e block answer before after leaf level read says = tt
 leaf_walked (Some image) m chunks sup e block answer before after leaf level read says =

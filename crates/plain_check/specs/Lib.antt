@@ -1,6 +1,9 @@
+pub mod Superblock
 pub mod FullCheck
 pub mod Cause
 pub mod BlockBytes
 pub mod Walk
-pub mod Found
 pub mod WalkLaw
+pub mod Found
+pub mod Contents
+pub mod Judging

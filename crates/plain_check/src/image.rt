@@ -4,9 +4,13 @@ ghost use Rattle.std.specs.Prelude.{ℕ, ◌≡◌, ◌≤◌, List, IfOk, OnOk,
 ghost use Rattle.verdict.specs.Rules.{image_finding};
 ghost use Rattle.write_cache.specs.Cache.{overlaid};
 ghost use Rattle.plain_check.specs.Cause.{HasFaultCause};
-ghost use Rattle.plain_check.specs.FullCheck.{HasRoom, full_check, superblock_in};
+ghost use Rattle.plain_check.specs.FullCheck.{HasRoom, full_check};
+ghost use Rattle.plain_check.specs.Judging.{IsReadable};
+ghost use Rattle.plain_check.specs.Superblock.{superblock_in};
 
+use crate::contents::judge_contents;
 use recon_disk::Disk;
+use std::alloc::Global;
 use super_reader::{Super, read_super};
 use verdict::{Family, Finding, Key, Rule};
 use write_cache::WriteCache;
@@ -60,6 +64,7 @@ pub fn superblock<D: Disk>(
 ) -> Result<Result<Super, Finding>, Fault>
     ensures found { IfOk result (λ r. IfSome (D.bytes disk.old) (λ image. r ≡ superblock_in (overlaid cache.now 0 image))) }
     ensures room { IfOk result (λ r. OnOk r (69632 ≤ D.len disk.old)) }
+    ensures readable { IfOk result (λ r. IfOk r IsReadable) }
     ensures len { D.len disk.new ≡ D.len disk.old }
     ensures bytes { D.bytes disk.new ≡ D.bytes disk.old }
     ensures cause { HasFaultCause (D.faults disk.old) (D.faults disk.new) result }
@@ -79,7 +84,7 @@ pub fn superblock<D: Disk>(
 }
 
 /// The full check of the disk's bytes with the waiting writes over them. The disk's bytes stay.
-pub fn judge<D: Disk>(disk: &mut D, cache: &WriteCache) -> Result<Verdict, Fault>
+pub fn judge<D: Disk>(alloc: Global, disk: &mut D, cache: &WriteCache) -> Result<Verdict, Fault>
     ensures verdict { IfOk result (λ v. IfSome (D.bytes disk.old) (λ image. v ≡ full_check (overlaid cache.now 0 image))) }
     ensures room { IfOk result (λ v. HasRoom (D.len disk.old) v) }
     ensures len { D.len disk.new ≡ D.len disk.old }
@@ -87,9 +92,7 @@ pub fn judge<D: Disk>(disk: &mut D, cache: &WriteCache) -> Result<Verdict, Fault
     ensures cause { HasFaultCause (D.faults disk.old) (D.faults disk.new) result }
 {
     match superblock(disk, cache)? {
-        Ok(sup) => Ok(Verdict::Accept {
-            generation: sup.generation,
-        }),
+        Ok(sup) => judge_contents(alloc, disk, cache, &sup),
         Err(finding) => Ok(Verdict::Found(finding)),
     }
 }

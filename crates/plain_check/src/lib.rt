@@ -2,6 +2,7 @@
 #![tactic(auto)]
 
 mod block;
+mod contents;
 mod image;
 mod law;
 mod walk;
@@ -11,6 +12,8 @@ pub use image::{Fault, Verdict, judge, superblock};
 pub use law::visits_decide;
 pub use walk::{Found, walk_tree};
 
+#[cfg(test)]
+mod contents_tests;
 #[cfg(test)]
 mod tests;
 #[cfg(test)]

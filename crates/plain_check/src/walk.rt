@@ -6,7 +6,7 @@ ghost use Rattle.node_reader.specs.Places.{each_from};
 ghost use Rattle.node_reader.specs.Layout.{is_block_size, level_of, count_of, pointer_of, pointers_of, items_of, LeafItem};
 ghost use Rattle.plain_check.specs.Cause.{HasFaultCause};
 ghost use Rattle.plain_check.specs.Walk.{child_of, high_of, first_of_items};
-ghost use Rattle.plain_check.specs.Found.{leaf_place, sort_of, item_fault, item_reading, walk_in, found_in, with_items, finding_or_found, with_walk, leaf_item, is_chunk_item, AddsChunk};
+ghost use Rattle.plain_check.specs.Found.{leaf_place, sort_of, item_fault, item_reading, walk_in, found_in, nothing_found, and_found, found_in_item, found_in_items, finding_or_found, with_walk, is_chunk_item, is_root_item, AddsChunk, AddsRoot};
 
 use crate::Fault;
 use crate::block::{Volume, read_bytes};
@@ -16,13 +16,27 @@ use recon_disk::Disk;
 use std::alloc::Global;
 use super_reader::Super;
 use verdict::{At, Finding, Key, NoMemory, TreeSort};
-use volume_items::read_chunk;
+use volume_items::{RootItem, read_chunk, read_root};
 
 /// What walks found in the items that they read.
 #[derive(Debug, Drop)]
 pub struct Found {
     /// The chunks of the chunk tree, in the order of its items.
     pub chunks: ChunkMap,
+    /// The root items of the root tree, in their order.
+    pub roots: Vec<RootItem>,
+}
+
+impl Found {
+    /// Nothing yet. It takes its memory from this allocator.
+    pub fn new(alloc: Global) -> Found
+        ensures { found_in result ≡ nothing_found }
+    {
+        Found {
+            chunks: ChunkMap::new(alloc),
+            roots: Vec::new(alloc),
+        }
+    }
 }
 
 /// Walks the block that is expected and all below it: a node before its children, and these in the order
@@ -111,7 +125,7 @@ fn read_items(
     found: &mut Found,
 ) -> Result<Option<Finding>, NoMemory>
     requires { level_of block.now ≡ 0 }
-    ensures { IfOk result (λ answer. finding_or_found answer (found_in found.new) ≡ finding_or_found (first_of_items (item_reading sup.now e.now) (items_of block.now)) (with_items (found_in found.old) e.now.tree (items_of block.now))) }
+    ensures { IfOk result (λ answer. finding_or_found answer (found_in found.new) ≡ finding_or_found (first_of_items (item_reading sup.now e.now) (items_of block.now)) (and_found (found_in found.old) (found_in_items e.now.tree (items_of block.now)))) }
 {
     let at = place_of(sup, e);
     for i in 0..block.count() {
@@ -155,17 +169,20 @@ fn sort(tree: u64) -> TreeSort
 }
 
 // Reads an item at its place: its finding, if there is one, else what it says is put behind what was
-// found before. All items but chunk items of the chunk tree are passed over.
+// found before. All items but chunk items of the chunk tree and root items of the root tree are passed over.
 fn read_item(
     at: &At,
     key: Key,
     bytes: &[u8],
     found: &mut Found,
 ) -> Result<Option<Finding>, NoMemory>
-    ensures { IfOk result (λ answer. finding_or_found answer (found_in found.new) ≡ finding_or_found (item_fault at.now key bytes.now) (with_items (found_in found.old) at.now.tree (leaf_item key bytes.now ∷ []))) }
+    ensures { IfOk result (λ answer. finding_or_found answer (found_in found.new) ≡ finding_or_found (item_fault at.now key bytes.now) (and_found (found_in found.old) (found_in_item at.now.tree key bytes.now))) }
 {
     if is_chunk(at, key) {
         return add_chunk(at, key, bytes, &mut found.chunks);
+    }
+    if is_root(at, key) {
+        return add_root(at, key, bytes, &mut found.roots);
     }
     Ok(None)
 }
@@ -175,6 +192,13 @@ fn is_chunk(at: &At, key: Key) -> bool
     ensures { result ≡ is_chunk_item at.now.tree key }
 {
     at.tree == 3 && key.kind == 228
+}
+
+// Whether an item is a root item of the root tree.
+fn is_root(at: &At, key: Key) -> bool
+    ensures { result ≡ is_root_item at.now.tree key }
+{
+    at.tree == 1 && key.kind == 132
 }
 
 // Reads a chunk item at its place: its finding, if there is one, else its chunk is put behind the others.
@@ -192,5 +216,23 @@ fn add_chunk(
             chunks.add(&item.chunk())?;
             Ok(None)
         }
+    }
+}
+
+// Reads a root item at its place: its finding, if there is one, else it is put behind the others.
+fn add_root(
+    at: &At,
+    key: Key,
+    bytes: &[u8],
+    roots: &mut Vec<RootItem>,
+) -> Result<Option<Finding>, NoMemory>
+    ensures { IfOk result (λ answer. AddsRoot at.now key bytes.now answer roots.old.items roots.new.items) }
+{
+    match read_root(at, key, bytes) {
+        Err(finding) => Ok(Some(finding)),
+        Ok(root) => match roots.push(root) {
+            Ok(()) => Ok(None),
+            Err(_) => Err(NoMemory),
+        },
     }
 }

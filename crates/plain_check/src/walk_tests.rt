@@ -1,6 +1,6 @@
 //! Walks of a tree of three levels that the tests build: chunk items in four leaves.
 
-ghost use Rattle.std.specs.Prelude.{◌≡◌, ◌≤◌, length, true, IfOk};
+ghost use Rattle.std.specs.Prelude.{◌≡◌, ◌≤◌, true};
 ghost use Rattle.node_reader.specs.Layout.{is_block_size};
 
 use crate::{Fault, Found, Volume, walk_tree};
@@ -33,11 +33,11 @@ struct Node {
     children: [u64; 2],
 }
 
-/// A tree, where the second copy of its last block stands, a byte 255 in its image, a byte that waits,
-/// and which read of the disk fails.
+/// A tree of large or small blocks, where the second copy of its last block stands, a byte 255 in its
+/// image, a byte that waits, and which read of the disk fails.
 #[derive(Clone, Copy)]
 struct Case {
-    nodesize: u32,
+    large: bool,
     nodes: [Node; 7],
     second: u64,
     hurt: Option<u64>,
@@ -71,11 +71,9 @@ fn make_node(place: u64, level: u8, starts: [u64; 2], children: [u64; 2]) -> Nod
 }
 
 /// The root at place 0 has the nodes at 1 and 4, and these the leaves at 2 and 3, 5 and 6.
-fn three_levels() -> Case
-    ensures { result.nodesize ≡ 4096 }
-{
+fn three_levels() -> Case {
     Case {
-        nodesize: 4096,
+        large: false,
         nodes: [
             make_node(0, 2, [40960, 122880], [1, 4]),
             make_node(1, 1, [40960, 81920], [2, 3]),
@@ -156,15 +154,20 @@ fn copy(image: &mut [u8], at: u64, block: &[u8]) {
     }
 }
 
-/// The image of 262,144 bytes with both copies of each block, and one byte of it changed.
-fn image_of(alloc: Global, case: &Case) -> Result<Vec<u8>, Fault>
-    ensures { IfOk result (λ v. length v.items ≡ 262144) }
+/// The size of the tree's blocks in bytes.
+fn nodesize(case: &Case) -> u32
+    ensures { is_block_size result ≡ true }
 {
+    if case.large { 16384 } else { 4096 }
+}
+
+/// The image of 262,144 bytes with both copies of each block, and one byte of it changed.
+fn image_of(alloc: Global, case: &Case) -> Result<Vec<u8>, Fault> {
     let Ok(mut image) = vec![in alloc; 0u8; 262_144] else {
         return Err(Fault::NoMemory);
     };
     for node in &case.nodes {
-        let Ok(mut block) = vec![in alloc; 0u8; case.nodesize as usize] else {
+        let Ok(mut block) = vec![in alloc; 0u8; nodesize(case) as usize] else {
             return Err(Fault::NoMemory);
         };
         put_block(&mut block, node);
@@ -212,10 +215,9 @@ fn root() -> Expect {
 }
 
 /// The walk of the case's tree.
-fn walk_of(alloc: Global, case: &Case) -> Result<Walked, Fault>
-    requires { is_block_size case.now.nodesize ≡ true }
-{
+fn walk_of(alloc: Global, case: &Case) -> Result<Walked, Fault> {
     let image = image_of(alloc, case)?;
+    let end = image.len() as u64;
     let mut fails = Vec::new(alloc);
     let fail = Fail {
         op: Op::Read,
@@ -231,16 +233,14 @@ fn walk_of(alloc: Global, case: &Case) -> Result<Walked, Fault>
     let Ok(()) = fill(case, &mut map, &mut cache) else {
         return Err(Fault::NoMemory);
     };
-    let sup = sup(case.nodesize);
+    let sup = sup(nodesize(case));
     let volume = Volume {
         cache: &cache,
         map: &map,
         sup: &sup,
-        end: 262_144,
+        end,
     };
-    let mut found = Found {
-        chunks: ChunkMap::new(alloc),
-    };
+    let mut found = Found::new(alloc);
     let finding = walk_tree(alloc, &mut disk, &volume, &root(), &mut found)?;
     let Ok(starts) = found
         .chunks
@@ -365,11 +365,11 @@ fn copies_are_compared_under_what_waits(rt: HostRuntime) {
         (None, Some((second, 1)), differ),
         (None, Some((first, 1)), differ),
     ] {
-        let mut large = three_levels();
-        large.nodesize = 16384;
-        large.hurt = hurt;
-        large.waits = waits;
-        let Ok(walk) = walk_of(rt.alloc(), &large) else {
+        let mut hurt_tree = three_levels();
+        hurt_tree.large = true;
+        hurt_tree.hurt = hurt;
+        hurt_tree.waits = waits;
+        let Ok(walk) = walk_of(rt.alloc(), &hurt_tree) else {
             panic!(rt; "a fault");
         };
         assert!(rt; walk.finding == wanted);

@@ -57,7 +57,7 @@ impl Checker {
         ensures cause { HasStopCause (D.faults disk.old) (D.faults disk.new) result }
     {
         let cache = WriteCache::new(alloc);
-        match judge(disk, &cache) {
+        match judge(alloc, disk, &cache) {
             Ok(Verdict::Found(finding)) => Ok(Started::Refused(finding)),
             Ok(Verdict::Accept { .. }) => match disk.length() {
                 Ok(length) => Ok(Started::Ready(Checker {
@@ -127,12 +127,12 @@ impl Checker {
             Event::Write { at, bytes, .. } => {
                 let write = HeldWrite { at, bytes };
                 if meets_superblock(at, len) {
-                    self.commit(disk, write)
+                    self.commit(alloc, disk, write)
                 } else {
                     self.hold(write)
                 }
             }
-            Event::Settle => self.settle(disk),
+            Event::Settle => self.settle(alloc, disk),
             Event::Fetch { at, len } => self.fetch(alloc, disk, at, len),
         }
     }
@@ -151,7 +151,7 @@ impl Checker {
     }
 
     // All that waits is judged.
-    fn settle<D: Disk>(&mut self, disk: &mut D) -> Result<Answer, Stop>
+    fn settle<D: Disk>(&mut self, alloc: Global, disk: &mut D) -> Result<Answer, Stop>
         requires { IsBelow (D.len disk.old) self.old.cache }
         ensures settled { IfOk result (λ answer. IfSome (D.bytes disk.old) (IsSettled self.old.cache answer (D.bytes disk.new))) }
         ensures found { IfSome (D.bytes disk.old) (StaysWhereFound self.old.cache (D.bytes disk.new)) }
@@ -162,7 +162,7 @@ impl Checker {
         ensures len { D.len disk.new ≡ D.len disk.old }
         ensures cause { HasStopCause (D.faults disk.old) (D.faults disk.new) result }
     {
-        match judge_waiting(disk, &mut self.cache) {
+        match judge_waiting(alloc, disk, &mut self.cache) {
             Ok(answer) => Ok(answer),
             Err(fault) => {
                 self.closed = true;
@@ -172,7 +172,12 @@ impl Checker {
     }
 
     // A write that meets the superblock place is judged with all that waits, its own bytes last.
-    fn commit<D: Disk>(&mut self, disk: &mut D, write: HeldWrite) -> Result<Answer, Stop>
+    fn commit<D: Disk>(
+        &mut self,
+        alloc: Global,
+        disk: &mut D,
+        write: HeldWrite,
+    ) -> Result<Answer, Stop>
         requires fits { write.at + length write.bytes < 2 ^ 64 }
         requires below { IsBelow (D.len disk.old) self.old.cache }
         requires inside { write.at + length write.bytes ≤ D.len disk.old }
@@ -190,7 +195,7 @@ impl Checker {
             self.closed = true;
             return Err(Stop::NoMemory);
         };
-        self.settle(disk)
+        self.settle(alloc, disk)
     }
 
     // The bytes of a range with all that waits over them.

@@ -19,7 +19,11 @@ use write_cache::WriteCache;
 
 /// Judges the image that all that waits would make. Where the full check accepts, it goes out to the
 /// disk; then nothing waits any more. After a fault all waits as before.
-pub fn judge_waiting<D: Disk>(disk: &mut D, cache: &mut WriteCache) -> Result<Answer, Fault>
+pub fn judge_waiting<D: Disk>(
+    alloc: Global,
+    disk: &mut D,
+    cache: &mut WriteCache,
+) -> Result<Answer, Fault>
     requires { IsBelow (D.len disk.old) cache.old }
     ensures settled { IfOk result (λ answer. IfSome (D.bytes disk.old) (IsSettled cache.old answer (D.bytes disk.new))) }
     ensures found { IfSome (D.bytes disk.old) (StaysWhereFound cache.old (D.bytes disk.new)) }
@@ -29,7 +33,7 @@ pub fn judge_waiting<D: Disk>(disk: &mut D, cache: &mut WriteCache) -> Result<An
     ensures len { D.len disk.new ≡ D.len disk.old }
     ensures cause { HasFaultCause (D.faults disk.old) (D.faults disk.new) result }
 {
-    match judge(disk, cache)? {
+    match judge(alloc, disk, cache)? {
         Verdict::Found(finding) => {
             cache.clear();
             Ok(Answer::Rejected(finding))

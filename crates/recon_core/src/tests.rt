@@ -1,64 +1,39 @@
 //! What a device holds after a few events, and what happens where one of its calls fails.
 
-ghost use Rattle.std.specs.Prelude.{◌≡◌, IfSome};
+ghost use Rattle.std.specs.Prelude.{◌≡◌, length, IfOk, IfSome};
 ghost use Rattle.std.specs.FinMap as map;
 ghost use Rattle.recon_core.specs.Machine.{IsSized};
 ghost use Rattle.recon_core.specs.Sending.{IsBelow};
 
 use crate::{Checker, Started};
+use image_maker::{base_image, base_superblock, create_writes, superblock_of, with_checksum};
 use recon_disk::{Disk, Fail, MemDisk, Op, Steps};
 use std::alloc::{AllocError, Global};
 use verdict::{Answer, Bytes, Event, Family, Finding, Stop};
 
-// The superblock of the base image, but for its checksum and its generation: each run of bytes that are
-// not 0, with the place where it begins.
-const FIELDS: [(usize, &[u8]); 34] = [
-    (
-        0x20,
-        &[1, 2, 3, 4, 5, 6, 7, 8, 9, 10, 11, 12, 13, 14, 15, 16],
-    ),
-    (0x32, &[0x01]),
-    (0x38, &[0x01]),
-    (0x40, b"_BHRfS_M"),
-    (0x52, &[0x50]),
-    (0x5a, &[0x10]),
-    (0x73, &[0x02]),
-    (0x79, &[0x80, 0x01]),
-    (0x80, &[0x06]),
-    (0x88, &[0x01]),
-    (0x91, &[0x10]),
-    (0x95, &[0x40]),
-    (0xa0, &[0x61]),
-    (0xa4, &[0x01]),
-    (0xbc, &[0x61, 0x03]),
-    (0xc9, &[0x01]),
-    (0xd4, &[0x02]),
-    (0xdb, &[0xc0, 0x01]),
-    (0x10b, &[0x33; 16]),
-    (
-        0x11b,
-        &[1, 2, 3, 4, 5, 6, 7, 8, 9, 10, 11, 12, 13, 14, 15, 16],
-    ),
-    (0x32c, &[0x01]),
-    (0x333, &[0xe4]),
-    (0x336, &[0x10]),
-    (0x33e, &[0x40]),
-    (0x344, &[0x02]),
-    (0x34e, &[0x01]),
-    (0x354, &[0x02]),
-    (0x35e, &[0x01]),
-    (0x362, &[0x01]),
-    (0x365, &[0x10]),
-    (0x368, &[0x01]),
-    (0x36c, &[0x01]),
-    (0x376, &[0x10]),
-    (0x37c, &[0x33; 16]),
-];
+// The superblocks that the tests know, all of the base image: as it is, with a label, with the generation 2,
+// and that of the writes of a new file.
+#[derive(Clone, Copy, Debug, PartialEq, Eq)]
+enum Superblock {
+    Base,
+    Labelled,
+    Second,
+    Created,
+}
 
-// The generation and the checksum of the base image, and those of the same superblock a generation on.
-const FIRST: (u8, [u8; 4]) = (1, [0xb7, 0x96, 0xec, 0x93]);
-
-const NEXT: (u8, [u8; 4]) = (2, [0x26, 0x95, 0xc7, 0xfe]);
+fn superblock_bytes(which: Superblock) -> [u8; 4096] {
+    match which {
+        Superblock::Base => base_superblock(),
+        Superblock::Labelled => {
+            let mut bytes = base_superblock();
+            put(&mut bytes, 0x12b, b"label");
+            with_checksum(&mut bytes);
+            bytes
+        }
+        Superblock::Second => superblock_of(2, 5_242_880),
+        Superblock::Created => superblock_of(2, 5_357_568),
+    }
+}
 
 // Puts bytes at a place, where they lie inside.
 fn put(bytes: &mut [u8], at: usize, from: &[u8]) {
@@ -67,31 +42,73 @@ fn put(bytes: &mut [u8], at: usize, from: &[u8]) {
     }
 }
 
-// A write of 8,192 bytes whose second half is a superblock, and whose first half is of sevens.
-fn superblock(of: (u8, [u8; 4])) -> [u8; 8192] {
-    let mut bytes = [0; 8192];
-    put(&mut bytes, 0, &[7; 4096]);
-    for (at, field) in FIELDS {
-        put(&mut bytes[4096..], at, field);
+// Puts the three blocks of a new file, which stand one behind the other, from a place on.
+fn put_blocks(alloc: Global, bytes: &mut [u8], from: u64) -> Result<(), AllocError> {
+    let Ok(events) = create_writes(alloc) else {
+        return Err(AllocError);
+    };
+    for event in &events {
+        if let Event::Write {
+            at,
+            bytes: block,
+            ..
+        } = event
+            && *at != 65_536
+        {
+            let place = at.saturating_sub(5_324_800).saturating_add(from);
+            put(bytes, place as usize, block.as_slice());
+        }
     }
-    put(&mut bytes[4096..], 0, &of.1);
-    put(&mut bytes[4096..], 0x48, &[of.0]);
-    bytes
+    Ok(())
 }
 
-// An image of zeros with a superblock, and these bytes put over it.
-fn image(
+// What is written in the tests: 4,096 sevens, the four superblocks with the labelled one first, and the
+// three blocks of a new file.
+fn pieces(alloc: Global) -> Result<Vec<u8>, AllocError>
+    ensures { IfOk result (λ bytes. length bytes.items ≡ 69632) }
+{
+    let mut bytes = vec![in alloc; 0u8; 69_632]?;
+    put(&mut bytes, 0, &[7; 4096]);
+    put(&mut bytes, 4096, &superblock_bytes(Superblock::Labelled));
+    put(&mut bytes, 8192, &superblock_bytes(Superblock::Base));
+    put(&mut bytes, 12_288, &superblock_bytes(Superblock::Second));
+    put(&mut bytes, 16_384, &superblock_bytes(Superblock::Created));
+    put_blocks(alloc, &mut bytes, 20_480)?;
+    Ok(bytes)
+}
+
+// A disk of zeros with the superblock of the base image, and these bytes put over it.
+fn short_disk(
     alloc: Global,
     size: usize,
-    of: (u8, [u8; 4]),
     over: &'static [(usize, &'static [u8])],
-) -> Result<Vec<u8>, AllocError> {
+) -> Result<MemDisk, AllocError> {
     let mut bytes = vec![in alloc; 0u8; size]?;
-    put(&mut bytes, 65536, &superblock(of)[4096..]);
+    put(&mut bytes, 65_536, &base_superblock());
     for (at, from) in over {
         put(&mut bytes, *at, from);
     }
-    Ok(bytes)
+    Ok(MemDisk::new(bytes, Vec::new(alloc)))
+}
+
+// A disk that holds the base image.
+fn base_disk(alloc: Global, fails: Vec<Fail>) -> Result<MemDisk, AllocError> {
+    let Ok(base) = base_image(alloc) else {
+        return Err(AllocError);
+    };
+    Ok(MemDisk::new(Vec::from_slice(alloc, base.as_slice())?, fails))
+}
+
+// Whether bytes stand at a place.
+fn stands(bytes: &[u8], at: usize, part: &[u8]) -> bool {
+    at < bytes.len() && part.len() <= bytes.len() - at && &bytes[at..at + part.len()] == part
+}
+
+// Whether a disk holds a superblock, and other bytes at their places.
+fn holds(disk: &MemDisk, which: Superblock, parts: &[(usize, &[u8])]) -> bool {
+    let bytes = disk.bytes();
+    stands(bytes, 65_536, &superblock_bytes(which))
+        && parts.iter().all(|(at, part)| stands(bytes, *at, part))
 }
 
 // What is asked of a checker.
@@ -213,72 +230,66 @@ fn play<D: Disk>(alloc: Global, disk: &mut D, acts: [Act; 3]) -> [Said; 4] {
 #[test]
 fn a_start_is_ready_or_refused(rt: HostRuntime) -> Result<(), AllocError> {
     let alloc = rt.alloc();
-    let acts = [Act::Fetch(65600, 8), Act::Settle, Act::Fetch(0, 1)];
-    let passed = [
+    let acts = [Act::Fetch(65_600, 8), Act::Settle, Act::Fetch(0, 1)];
+    let rows: [(usize, &'static [(usize, &'static [u8])], Said); 4] = [
+        (69_632, &[], Said::Refused(Family::N, 1, 0)),
+        (69_632, &[(65_600, b"\0")], Said::Refused(Family::S, 2, 0)),
+        (69_631, &[], Said::Refused(Family::S, 1, 69_631)),
+        (0, &[], Said::Refused(Family::S, 1, 0)),
+    ];
+    for (size, over, first) in rows {
+        let mut disk = short_disk(alloc, size, over)?;
+        let want = [first, Said::Nothing, Said::Nothing, Said::Nothing];
+        assert_eq!(rt; play(alloc, &mut disk, acts), want, "over {size} bytes");
+        assert_eq!(rt; disk.faults(), 0);
+    }
+    let mut disk = base_disk(alloc, Vec::new(alloc))?;
+    let want = [
+        Said::Ready,
         Said::Fetched(0x5f42485266535f4d),
         Said::Passed(1),
         Said::Fetched(0),
     ];
-    let rows: [(usize, &'static [(usize, &'static [u8])], Said, [Said; 3]); 4] = [
-        (69632, &[], Said::Ready, passed),
-        (
-            69632,
-            &[(65600, b"\0")],
-            Said::Refused(Family::S, 2, 0),
-            [Said::Nothing; 3],
-        ),
-        (
-            69631,
-            &[],
-            Said::Refused(Family::S, 1, 69631),
-            [Said::Nothing; 3],
-        ),
-        (0, &[], Said::Refused(Family::S, 1, 0), [Said::Nothing; 3]),
-    ];
-    for (size, over, first, then) in rows {
-        let mut disk = MemDisk::new(image(alloc, size, FIRST, over)?, Vec::new(alloc));
-        let want = [first, then[0], then[1], then[2]];
-        assert_eq!(rt; play(alloc, &mut disk, acts), want, "over {size} bytes");
-        assert_eq!(rt; disk.faults(), 0);
-    }
+    assert_eq!(rt; play(alloc, &mut disk, acts), want);
+    assert_eq!(rt; disk.faults(), 0);
     Ok(())
 }
 
+// Each row begins with what the one before it left on the device.
 #[test]
 fn what_passes_alone_stands_on_the_device(rt: HostRuntime) -> Result<(), AllocError> {
     let alloc = rt.alloc();
-    let next = superblock(NEXT);
-    let commit = Act::Write(65536, &next[4096..]);
-    let early = Act::Write(61440, &next);
+    let pieces = pieces(alloc)?;
+    let labelled = Act::Write(65_536, &pieces[4096..8192]);
+    let early = Act::Write(61_440, &pieces[0..8192]);
+    let base = Act::Write(65_536, &pieces[8192..12_288]);
+    let second = Act::Write(65_536, &pieces[12_288..16_384]);
+    let created = Act::Write(65_536, &pieces[16_384..20_480]);
+    let blocks = Act::Write(5_324_800, &pieces[20_480..]);
+    let copies = Act::Write(13_713_408, &pieces[20_480..]);
     let held = Act::Write(8192, b"held");
-    let no_magic = Act::Write(65600, &[0]);
-    let no_sum = Act::Write(69631, &[9]);
+    let no_magic = Act::Write(65_600, &[0]);
+    let no_sum = Act::Write(69_631, &[9]);
     let fault = Said::Rejected(Family::S, 2, 0);
     let rows: [(
         [Act; 3],
         [Said; 3],
-        (u8, [u8; 4]),
+        Superblock,
         &'static [(usize, &'static [u8])],
-    ); 9] = [
+    ); 14] = [
         // A write waits until a superblock lets it through.
         (
-            [held, commit, Act::Fetch(8192, 5)],
-            [Said::Held, Said::Passed(2), Said::Fetched(0x68656c6400)],
-            NEXT,
-            &[(8192, b"held")],
-        ),
-        (
-            [held, Act::Fetch(8191, 5), Act::Fetch(65608, 1)],
+            [held, Act::Fetch(8191, 5), Act::Fetch(65_608, 1)],
             [Said::Held, Said::Fetched(0x68656c64), Said::Fetched(1)],
-            FIRST,
-            &[],
+            Superblock::Base,
+            &[(8192, b"\0\0\0\0")],
         ),
-        // The last byte of the place decides too, and the bytes before the place are a part of the commit.
+        // After a rejection nothing waits.
         (
-            [held, Act::Write(69631, &[0]), Act::Settle],
-            [Said::Held, Said::Passed(1), Said::Passed(1)],
-            FIRST,
-            &[(8192, b"held")],
+            [held, no_magic, Act::Fetch(8192, 4)],
+            [Said::Held, fault, Said::Fetched(0)],
+            Superblock::Base,
+            &[(8192, b"\0\0\0\0")],
         ),
         (
             [held, no_sum, Act::Settle],
@@ -287,79 +298,135 @@ fn what_passes_alone_stands_on_the_device(rt: HostRuntime) -> Result<(), AllocEr
                 Said::Rejected(Family::S, 3, 0xeb5e4d7b),
                 Said::Passed(1),
             ],
-            FIRST,
+            Superblock::Base,
+            &[(8192, b"\0\0\0\0")],
+        ),
+        // The root of the root tree is of the generation 1, and that of the new file is not there.
+        (
+            [held, second, Act::Settle],
+            [Said::Held, Said::Rejected(Family::N, 7, 1), Said::Passed(1)],
+            Superblock::Base,
+            &[(8192, b"\0\0\0\0")],
+        ),
+        (
+            [held, created, Act::Settle],
+            [
+                Said::Held,
+                Said::Rejected(Family::N, 3, 0xe4e3bdb6),
+                Said::Passed(1),
+            ],
+            Superblock::Base,
+            &[(8192, b"\0\0\0\0")],
+        ),
+        (
+            [held, no_magic, labelled],
+            [Said::Held, fault, Said::Passed(1)],
+            Superblock::Labelled,
+            &[(8192, b"\0\0\0\0")],
+        ),
+        (
+            [held, base, Act::Fetch(8192, 5)],
+            [Said::Held, Said::Passed(1), Said::Fetched(0x68656c6400)],
+            Superblock::Base,
+            &[(8192, b"held")],
+        ),
+        (
+            [base, Act::Settle, Act::Fetch(65_608, 1)],
+            [Said::Passed(1), Said::Passed(1), Said::Fetched(1)],
+            Superblock::Base,
             &[],
+        ),
+        // The last byte of the place decides too, and the bytes before the place are a part of the commit.
+        (
+            [
+                Act::Write(8194, b"re"),
+                Act::Write(69_631, &[0]),
+                Act::Settle,
+            ],
+            [Said::Held, Said::Passed(1), Said::Passed(1)],
+            Superblock::Base,
+            &[(8192, b"here")],
         ),
         (
             [held, early, Act::Settle],
-            [Said::Held, Said::Passed(2), Said::Passed(2)],
-            NEXT,
-            &[(8192, b"held"), (61440, &[7; 4096])],
+            [Said::Held, Said::Passed(1), Said::Passed(1)],
+            Superblock::Labelled,
+            &[(8192, b"held"), (61_440, &[7; 4096])],
         ),
         // Where two writes meet, the newer stands.
         (
             [
-                Act::Write(70000, b"aaaa"),
-                Act::Write(70002, b"bbbb"),
+                Act::Write(70_000, b"aaaa"),
+                Act::Write(70_002, b"bbbb"),
                 Act::Settle,
             ],
             [Said::Held, Said::Held, Said::Passed(1)],
-            FIRST,
-            &[(70000, b"aabbbb")],
+            Superblock::Labelled,
+            &[(69_999, b"\0aabbbb\0")],
         ),
         (
             [
-                Act::Write(70002, b"bbbb"),
-                Act::Write(70000, b"aaaa"),
+                Act::Write(70_102, b"bbbb"),
+                Act::Write(70_100, b"aaaa"),
                 Act::Settle,
             ],
             [Said::Held, Said::Held, Said::Passed(1)],
-            FIRST,
-            &[(70000, b"aaaabb")],
+            Superblock::Labelled,
+            &[(70_099, b"\0aaaabb\0")],
         ),
-        // After a rejection nothing waits.
+        // A new file, of whose blocks the ids of the file system are looked at.
         (
-            [held, no_magic, commit],
-            [Said::Held, fault, Said::Passed(2)],
-            NEXT,
-            &[],
+            [blocks, copies, created],
+            [Said::Held, Said::Held, Said::Passed(2)],
+            Superblock::Created,
+            &[
+                (5_324_832, &[1, 2, 3, 4, 5, 6, 7, 8]),
+                (5_357_600, &[1, 2, 3, 4, 5, 6, 7, 8]),
+                (13_713_440, &[1, 2, 3, 4, 5, 6, 7, 8]),
+                (13_746_208, &[1, 2, 3, 4, 5, 6, 7, 8]),
+            ],
         ),
         (
-            [held, no_magic, Act::Fetch(8192, 4)],
-            [Said::Held, fault, Said::Fetched(0)],
-            FIRST,
-            &[],
+            [Act::Settle, Act::Fetch(65_608, 1), Act::Fetch(5_324_832, 8)],
+            [
+                Said::Passed(2),
+                Said::Fetched(2),
+                Said::Fetched(0x0102030405060708),
+            ],
+            Superblock::Created,
+            &[(8192, b"held")],
         ),
     ];
-    for (acts, want, of, over) in rows {
-        let mut disk = MemDisk::new(image(alloc, 131072, FIRST, &[])?, Vec::new(alloc));
+    let mut disk = base_disk(alloc, Vec::new(alloc))?;
+    for (acts, want, which, parts) in rows {
         let said = play(alloc, &mut disk, acts);
         assert_eq!(rt; said, [Said::Ready, want[0], want[1], want[2]]);
-        let wanted = image(alloc, 131072, of, over)?;
-        assert!(rt; disk.bytes() == wanted.as_slice(), "after {said:?}");
+        assert!(rt; holds(&disk, which, parts), "after {said:?}");
     }
     Ok(())
 }
 
+// The write that waits to the end stands on the device then, and so it comes last.
 #[test]
 fn no_event_passes_the_end(rt: HostRuntime) -> Result<(), AllocError> {
     let alloc = rt.alloc();
+    let end = 33_554_432;
+    let mut disk = base_disk(alloc, Vec::new(alloc))?;
     for (act, want) in [
-        (Act::Write(131071, &[5]), Said::Held),
         (
-            Act::Write(131071, &[5, 6]),
+            Act::Write(33_554_431, &[5, 6]),
             Said::Stopped(Stop::PastEnd {
-                at: 131071,
+                at: 33_554_431,
                 len: 2,
-                end: 131072,
+                end,
             }),
         ),
         (
-            Act::Write(131072, &[5]),
+            Act::Write(33_554_432, &[5]),
             Said::Stopped(Stop::PastEnd {
-                at: 131072,
+                at: 33_554_432,
                 len: 1,
-                end: 131072,
+                end,
             }),
         ),
         (
@@ -367,20 +434,21 @@ fn no_event_passes_the_end(rt: HostRuntime) -> Result<(), AllocError> {
             Said::Stopped(Stop::PastEnd {
                 at: u64::MAX,
                 len: 1,
-                end: 131072,
+                end,
             }),
         ),
-        (Act::Fetch(131065, 7), Said::Fetched(0)),
+        (Act::Fetch(33_554_425, 7), Said::Fetched(0)),
         (
-            Act::Fetch(131065, 8),
+            Act::Fetch(33_554_425, 8),
             Said::Stopped(Stop::PastEnd {
-                at: 131065,
+                at: 33_554_425,
                 len: 8,
-                end: 131072,
+                end,
             }),
         ),
+        (Act::Write(33_554_431, &[5]), Said::Held),
+        (Act::Fetch(33_554_425, 7), Said::Fetched(5)),
     ] {
-        let mut disk = MemDisk::new(image(alloc, 131072, FIRST, &[])?, Vec::new(alloc));
         let said = play(alloc, &mut disk, [act, Act::Settle, Act::Fetch(0, 1)]);
         assert_eq!(rt;
             said,
@@ -390,101 +458,129 @@ fn no_event_passes_the_end(rt: HostRuntime) -> Result<(), AllocError> {
     Ok(())
 }
 
+// Adds the calls of a row to those of the rows before, and gives the number of its last of a kind.
+fn count_calls(done: &mut [u64; 4], op: Op, calls: [u64; 4]) -> u64 {
+    for i in 0..4 {
+        done[i] = done[i].saturating_add(calls[i]);
+    }
+    match op {
+        Op::Length => done[0],
+        Op::Read => done[1],
+        Op::Write => done[2],
+        Op::Flush => done[3],
+    }
+}
+
+// Each row says how often the device is asked for its length, read, written and flushed up to the call that
+// fails, and begins with what the one before it left on the device. A judge of the base image asks for
+// the length twice and reads twelve times: the superblock, the chunk tree's block, and two copies of five
+// blocks.
 #[test]
 fn a_failed_call_closes(rt: HostRuntime) -> Result<(), AllocError> {
     let alloc = rt.alloc();
-    let next = superblock(NEXT);
+    let pieces = pieces(alloc)?;
     let acts = [
         Act::Write(8192, b"held"),
-        Act::Write(61440, &next),
+        Act::Write(61_440, &pieces[0..8192]),
         Act::Settle,
     ];
     let fault = Said::Stopped(Stop::DiskFault);
     let unborn = [fault, Said::Nothing, Said::Nothing, Said::Nothing];
     let closed = [Said::Ready, Said::Held, fault, Said::Stopped(Stop::Closed)];
-    let passed = [Said::Ready, Said::Held, Said::Passed(2), Said::Passed(2)];
+    let late = [Said::Ready, Said::Held, Said::Passed(1), fault];
+    let passed = [Said::Ready, Said::Held, Said::Passed(1), Said::Passed(1)];
+    let none: &'static [(usize, &'static [u8])] = &[(8192, b"\0\0\0\0")];
+    let all: &'static [(usize, &'static [u8])] = &[(8192, b"held"), (61_440, &[7; 4096])];
     let rows: [(
         Op,
-        u64,
+        [u64; 4],
         u32,
         [Said; 4],
-        (u8, [u8; 4]),
+        Superblock,
         &'static [(usize, &'static [u8])],
-    ); 16] = [
-        (Op::Length, 1, 0, unborn, FIRST, &[]),
-        (Op::Length, 2, 0, unborn, FIRST, &[]),
-        (Op::Read, 1, 0, unborn, FIRST, &[]),
-        (Op::Length, 3, 0, closed, FIRST, &[]),
-        (Op::Read, 2, 0, closed, FIRST, &[]),
-        (Op::Read, 3, 0, closed, FIRST, &[]),
-        (Op::Write, 1, 0, closed, FIRST, &[]),
-        (Op::Write, 1, 2, closed, FIRST, &[(8192, b"he")]),
-        (Op::Write, 2, 0, closed, FIRST, &[(8192, b"held")]),
+    ); 21] = [
+        (Op::Length, [1, 0, 0, 0], 0, unborn, Superblock::Base, none),
+        (Op::Length, [2, 1, 0, 0], 0, unborn, Superblock::Base, none),
+        (Op::Length, [3, 12, 0, 0], 0, unborn, Superblock::Base, none),
+        (Op::Read, [1, 1, 0, 0], 0, unborn, Superblock::Base, none),
+        (Op::Read, [2, 12, 0, 0], 0, unborn, Superblock::Base, none),
+        (Op::Length, [4, 12, 0, 0], 0, closed, Superblock::Base, none),
+        (Op::Length, [5, 13, 0, 0], 0, closed, Superblock::Base, none),
+        (Op::Read, [4, 13, 0, 0], 0, closed, Superblock::Base, none),
+        (Op::Read, [5, 24, 0, 0], 0, closed, Superblock::Base, none),
+        // What stands at the superblock's place is read before anything is written.
+        (Op::Read, [5, 25, 0, 0], 0, closed, Superblock::Base, none),
+        (Op::Write, [5, 25, 1, 0], 0, closed, Superblock::Base, none),
         (
             Op::Write,
+            [5, 25, 1, 0],
             2,
+            closed,
+            Superblock::Base,
+            &[(8192, b"he\0\0")],
+        ),
+        (
+            Op::Write,
+            [5, 25, 2, 0],
+            0,
+            closed,
+            Superblock::Base,
+            &[(8192, b"held"), (61_440, &[0; 4096])],
+        ),
+        (
+            Op::Write,
+            [5, 25, 2, 0],
             2048,
             closed,
-            FIRST,
-            &[(8192, b"held"), (61440, &[7; 2048])],
+            Superblock::Base,
+            &[(8192, b"held"), (61_440, &[7; 2048]), (63_488, &[0; 2048])],
         ),
         // The other bytes are flushed before the superblock is written.
-        (
-            Op::Flush,
-            1,
-            0,
-            closed,
-            FIRST,
-            &[(8192, b"held"), (61440, &[7; 4096])],
-        ),
+        (Op::Flush, [5, 25, 2, 1], 0, closed, Superblock::Base, all),
+        (Op::Write, [5, 25, 3, 1], 0, closed, Superblock::Base, all),
         (
             Op::Write,
-            3,
-            0,
-            closed,
-            FIRST,
-            &[(8192, b"held"), (61440, &[7; 4096])],
-        ),
-        (
-            Op::Write,
-            3,
+            [5, 25, 3, 1],
             2048,
             closed,
-            FIRST,
-            &[(8192, b"held"), (61440, &[7; 4096])],
+            Superblock::Base,
+            all,
         ),
         (
             Op::Flush,
-            2,
+            [5, 25, 3, 2],
             0,
             closed,
-            NEXT,
-            &[(8192, b"held"), (61440, &[7; 4096])],
+            Superblock::Labelled,
+            all,
         ),
-        // The settling after it flushes once more, and writes nothing.
-        (
-            Op::Flush,
-            3,
-            0,
-            [Said::Ready, Said::Held, Said::Passed(2), fault],
-            NEXT,
-            &[(8192, b"held"), (61440, &[7; 4096])],
-        ),
+        // The settling after it judges and flushes once more, and writes nothing.
+        (Op::Read, [6, 26, 3, 2], 0, late, Superblock::Labelled, all),
+        (Op::Flush, [7, 37, 3, 3], 0, late, Superblock::Labelled, all),
         (
             Op::Write,
-            4,
+            [7, 37, 4, 3],
             0,
             passed,
-            NEXT,
-            &[(8192, b"held"), (61440, &[7; 4096])],
+            Superblock::Labelled,
+            all,
         ),
     ];
-    for (op, nth, keep, want, of, over) in rows {
-        let fails = vec![in alloc; Fail { op, nth, keep }]?;
-        let mut disk = MemDisk::new(image(alloc, 131072, FIRST, &[])?, fails);
-        assert_eq!(rt; play(alloc, &mut disk, acts), want, "call {nth} of {op:?}");
-        let wanted = image(alloc, 131072, of, over)?;
-        assert!(rt; disk.bytes() == wanted.as_slice(), "call {nth} of {op:?}");
+    let mut fails = Vec::new(alloc);
+    let mut done = [0; 4];
+    for (op, calls, keep, _, _, _) in rows {
+        let nth = count_calls(&mut done, op, calls);
+        fails.push(Fail { op, nth, keep })?;
     }
+    let mut disk = base_disk(alloc, fails)?;
+    for (op, calls, keep, want, which, parts) in rows {
+        let said = play(alloc, &mut disk, acts);
+        assert_eq!(rt; said, want, "{op:?} after {calls:?}");
+        assert!(rt;
+            holds(&disk, which, parts),
+            "{op:?} after {calls:?}, {keep} kept"
+        );
+    }
+    assert_eq!(rt; disk.faults(), 20);
     Ok(())
 }

@@ -1,8 +1,6 @@
-use Rattle.std.proofs.Common.{◌≡◌, length, Option, List, ℕ, IfSome, Ok, Err, ◌∙◌, sym, ap, subst, arith}
-use Rattle.write_cache.specs.Cache.{overlaid}
-use Rattle.node_reader.specs.Layout.{level_of}
-use Rattle.plain_check.specs.Found.{found_in, finding_or_found, block_reading, parts_of}
-use Rattle.plain_check.proofs.Walking.{WalkGives, copies_stop, parts_read, block_stops, leaf_walked, node_begins, node_goes_on, node_stops, node_ends, node_walked}
+use Rattle.std.proofs.Common.{length, Ok, Err, ◌∙◌, subst, arith}
+use Rattle.plain_check.specs.Found.{found_in, finding_or_found}
+use Rattle.plain_check.proofs.Walking.{WalkGives, copies_stop, parts_read, block_stops, leaf_walked, node_goes_on, node_stops, node_ends, node_walked}
 use Rattle.plain_check.proofs.walk.+walk_tree.Goals as goal
 
 pub returns-in-Some-clause-found : goal.returns-in-Some-clause-found
