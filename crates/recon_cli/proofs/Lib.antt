@@ -1,3 +1,4 @@
+pub mod Checking
 mod TwoWords
 pub mod Going
 pub mod Start

@@ -1,5 +1,6 @@
--- The outcome of a replay: what is printed, the status, what the device holds, and how much of the trace
--- is taken. It says the machine's steps one after the other, up to the first event that passes the end.
+-- The outcome of a check, which is the image's line and a status; and the outcome of a replay: what is
+-- printed, the status, what the device holds, and how much of the trace is taken. It says the machine's steps
+-- one after the other, up to the first event that passes the end.
 use Rattle.std.specs.Prelude.{ℕ, ◌+◌, Bool, true, false, ◌==◌, nat_lt, List, [], ◌∷◌, ◌++◌, length, Option, Some, None, option_map, if◌then◌else◌}
 use Rattle.verdict.specs.declared.machine.Event.{Event}
 use Rattle.verdict.specs.declared.machine.Event.TheVariants.{Write, Settle, Fetch}
@@ -15,6 +16,16 @@ use Rattle.trace_reader.specs.Trace.{spelling_of, Ending, End, Fault}
 use Rattle.report.specs.Lines.{text_line}
 use Rattle.report.specs.declared.line.Line.TheVariants.{Image, Refused, Passed as passed_line, Rejected as rejected_line, Fetched as fetched_line, End as end_line, BadTrace, Past}
 use Rattle.recon_cli.specs.declared.tally.Tally.{Tally}
+
+-- the line of what the full check says of an image
+abbrev pub verdict_text : Verdict → List ℕ
+verdict_text (Accept generation) = text_line (Image generation)
+verdict_text (Found finding) = text_line (Refused finding)
+
+-- the status of a check: 0 where the image is accepted, 1 where it has a finding
+abbrev pub verdict_status : Verdict → ℕ
+verdict_status (Accept generation) = 0
+verdict_status (Found finding) = 1
 
 -- how a replay comes out: the text that is printed, the status, the bytes of the device, and how many
 -- bytes of the trace are taken, where that is said

@@ -1,17 +1,30 @@
 -- What a run of the program says of the objects that it is handed.
 use Rattle.std.specs.Prelude.{ℕ, ◌≡◌, ◌-◌, ◌^◌, ◌<◌, ◌≤◌, ◌⊎◌, true, false, nat_lt, List, [], ◌++◌, length, drop, Option, Some, None, IfSome, Result, Ok, Err}
 use Rattle.recon_disk.specs.Outside.{counted}
+use Rattle.plain_check.specs.FullCheck.{full_check}
 use Rattle.verdict.specs.declared.machine.Event.{Event}
 use Rattle.recon_core.specs.declared.checker.Checker.{Checker}
 use Rattle.recon_core.specs.Machine.{MachineState, machine_step, end_of, begin_of}
 use Rattle.recon_core.specs.Standing.{StandsFor}
 use Rattle.recon_cli.specs.declared.tally.Tally.{Tally}
-use Rattle.recon_cli.specs.Outcome.{Outcome, after_text, answer_text, no_tally, outcome_from, is_settle, past_end, replay_outcome, tally_after}
+use Rattle.recon_cli.specs.Outcome.{Outcome, after_text, answer_text, no_tally, outcome_from, is_settle, past_end, replay_outcome, tally_after, verdict_status, verdict_text}
 use Rattle.trace_reader.specs.Trace.{Ending, IsTrace}
 use Rattle.trace_reader.specs.declared.fault.TraceFault.{TraceFault}
 use Rattle.trace_reader.specs.declared.fault.TraceFault.TheVariants.{ReadFault, NoMemory}
 use Rattle.recon_cli.specs.declared.halt.Halt.{Halt}
 use Rattle.recon_cli.specs.declared.halt.Halt.TheVariants.{Device, Trace, Lines, Memory}
+
+-- The check of an image: the sink has gained exactly the line of what the full check says, the status is that
+-- of what it says, and the disk holds the image.
+pub record ChecksAs (image kept : List ℕ) (status : ℕ) (disk sink : Option (List ℕ)) : Type 0 where
+  pub text : sink ≡ Some (kept ++ verdict_text (full_check image))
+  pub status_is : status ≡ verdict_status (full_check image)
+  pub device : disk ≡ Some image
+
+-- the statuses of a check that came to its line, and of one that did not: 4 a call of the disk, 6 a write of
+-- the line, 7 memory
+abbrev pub IsCheckStatus : ℕ → Type 0
+IsCheckStatus status = (status ≡ 0) ⊎ (status ≡ 1) ⊎ (status ≡ 4) ⊎ (status ≡ 6) ⊎ (status ≡ 7)
 
 -- the most records that a trace may have before its end tag
 abbrev pub record_limit : ℕ

@@ -2,6 +2,9 @@
 //! bytes and a status.
 #![tactic(auto)]
 
+mod check;
+#[cfg(test)]
+mod check_tests;
 mod halt;
 mod lines;
 mod replay;

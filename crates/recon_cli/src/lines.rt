@@ -1,6 +1,6 @@
 //! How a line is printed.
 
-ghost use Rattle.std.specs.Prelude.{◌≡◌, ◌++◌, OnOk, option_map};
+ghost use Rattle.std.specs.Prelude.{◌≡◌, ◌++◌, IfOk, OnOk, option_map};
 ghost use Rattle.report.specs.Lines.{text_line, IsPrintable};
 ghost use Rattle.recon_cli.specs.Run.{HasPrintCause};
 
@@ -8,6 +8,7 @@ use crate::halt::Halt;
 use recon_disk::Sink;
 use report::{Line, text_of};
 use std::alloc::Global;
+use verdict::Finding;
 
 // Prints a line in one write.
 pub fn print<K: Sink>(alloc: Global, out: &mut K, line: &Line) -> Result<(), Halt>
@@ -22,4 +23,14 @@ pub fn print<K: Sink>(alloc: Global, out: &mut K, line: &Line) -> Result<(), Hal
         Ok(()) => Ok(()),
         Err(_) => Err(Halt::Lines),
     }
+}
+
+// Prints that the image is refused.
+pub fn refuse<K: Sink>(alloc: Global, finding: Finding, out: &mut K) -> Result<u8, Halt>
+    ensures status { IfOk result (λ status. status ≡ 1) }
+    ensures printed { OnOk result (K.kept out.new ≡ option_map (λ kept. kept ++ text_line (Line.Refused finding)) (K.kept out.old)) }
+    ensures cause { HasPrintCause (K.faults out.old) (K.faults out.new) result }
+{
+    print(alloc, out, &Line::Refused(finding))?;
+    Ok(1)
 }

@@ -11,7 +11,7 @@ ghost use Rattle.trace_reader.specs.Fault.{fault_number};
 ghost use Rattle.recon_cli.specs.Run.{ComesOut, HasFaultPrintCause, HasHaltCause, IsOfBytes, HasPrintCause, IsOutcomeStatus, Replays, ReplaysAs, faults_are};
 
 use crate::halt::Halt;
-use crate::lines::print;
+use crate::lines::{print, refuse};
 use crate::tally::Tally;
 use crate::turn::take_event;
 use plain_check::{Fault, superblock};
@@ -20,7 +20,7 @@ use recon_disk::{Disk, Sink, Source, Steps};
 use report::Line;
 use std::alloc::Global;
 use trace_reader::{Item, TraceFault, TraceReader};
-use verdict::{Finding, Stop};
+use verdict::Stop;
 
 /// The most records that a trace may have before its end tag.
 const RECORD_LIMIT: u64 = 4_294_967_296;
@@ -107,16 +107,6 @@ fn take_records<D: Disk, S: Source, K: Sink, L>(
             Err(fault) => return print_fault(alloc, fault, reader.record_number(), out),
         }
     }
-}
-
-// Prints that the image is refused.
-fn refuse<K: Sink>(alloc: Global, finding: Finding, out: &mut K) -> Result<u8, Halt>
-    ensures status { IfOk result (λ status. status ≡ 1) }
-    ensures printed { OnOk result (K.kept out.new ≡ option_map (λ kept. kept ++ text_line (Line.Refused finding)) (K.kept out.old)) }
-    ensures cause { HasPrintCause (K.faults out.old) (K.faults out.new) result }
-{
-    print(alloc, out, &Line::Refused(finding))?;
-    Ok(1)
 }
 
 // Replays the trace over an accepted image, whose generation is printed first.

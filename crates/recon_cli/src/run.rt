@@ -5,8 +5,9 @@ ghost use Rattle.verdict.specs.declared.machine.Event.{Event as AnEvent};
 ghost use Rattle.trace_reader.specs.Trace.{Ending, IsBytes, IsTrace};
 ghost use Rattle.recon_cli.specs.Words.{IsForm, IsNoForm};
 ghost use Rattle.recon_cli.specs.Outcome.{replay_outcome};
-ghost use Rattle.recon_cli.specs.Run.{ComesOut, HadNoFault, HasStatusCause, IsOutcomeStatus, faults_are, record_limit};
+ghost use Rattle.recon_cli.specs.Run.{ChecksAs, ComesOut, HadNoFault, HasStatusCause, IsCheckStatus, IsOutcomeStatus, faults_are, record_limit};
 
+use crate::check::check;
 use crate::halt::status_of;
 use crate::replay::replay;
 use crate::words::{Form, form_of};
@@ -15,12 +16,14 @@ use std::alloc::Global;
 
 /// Does what the words ask for, over a disk, a trace and a place for lines, and answers the status.
 ///
-/// The words are those behind the program's name: `replay IMAGE`, of which IMAGE is not looked at.
+/// The words are those behind the program's name: `check IMAGE` for the full check of the disk's image, or
+/// `replay IMAGE` for the replay of the trace over it. IMAGE is not looked at. A check leaves the disk's bytes,
+/// takes nothing from the trace, and ends with 0, 1, 4, 6 or 7.
 ///
 /// | Status | Meaning |
 /// |---|---|
-/// | 0 | the end tag was read, and everything passed |
-/// | 1 | the image was refused, or the end tag was read and something was rejected |
+/// | 0 | check: the image is accepted; replay: the end tag was read, and everything passed |
+/// | 1 | the image is refused, or the end tag was read and something was rejected |
 /// | 2 | the words are none of the forms; nothing is read or written |
 /// | 3 | the trace is malformed at the record that the line names, or that record passes the end of the device |
 /// | 4 | a call of the disk failed |
@@ -44,6 +47,11 @@ pub fn recon_run<D: Disk, S: Source, K: Sink, L>(
         (events : List AnEvent) (ending : Ending) → IsTrace record_limit bytes events ending →
         ComesOut (replay_outcome image events ending) bytes kept result (D.bytes disk.new) (S.left trace.new) (K.kept out.new) }
 
+    // A check of the image prints what the full check says of it. It leaves the disk's bytes and the trace.
+    ensures check { IsForm Form.Check (map string_bytes words.now) → IsOutcomeStatus result → (image kept : List ℕ) →
+        D.bytes disk.old ≡ Some image → K.kept out.old ≡ Some kept → ChecksAs image kept result (D.bytes disk.new) (K.kept out.new) }
+    ensures checked { IsForm Form.Check (map string_bytes words.now) → IsCheckStatus result × (D.bytes disk.new ≡ D.bytes disk.old) × (trace.new ≡ trace.old) }
+
     // Words that are no form: nothing is read or written.
     ensures words { (result ≡ 2) ↔ IsNoForm (map string_bytes words.now) }
     ensures unread { result ≡ 2 → (disk.new ≡ disk.old) × (trace.new ≡ trace.old) × (out.new ≡ out.old) }
@@ -58,6 +66,10 @@ pub fn recon_run<D: Disk, S: Source, K: Sink, L>(
 {
     match form_of(words) {
         None => 2,
+        Some(Form::Check) => match check(alloc, disk, out) {
+            Ok(said) => said,
+            Err(halt) => status_of(halt),
+        },
         Some(Form::Replay) => match replay(alloc, disk, trace, out, steps) {
             Ok(status) => status,
             Err(halt) => status_of(halt),

@@ -1,129 +1,93 @@
 //! Whole runs over a disk, a trace and a sink in memory.
 
 use crate::recon_run;
-use recon_bytes::{put_u16, put_u32, put_u64};
+use image_maker::{BASE_LENGTH, base_image, base_superblock};
 use recon_disk::{Fail as DiskFail, MemDisk, MemSink, MemSource, Op, Steps};
 use std::alloc::{AllocError, Global};
 use std::test::Fail;
+use verdict::Bytes;
 
-// A piece of a trace: the bytes themselves, the base superblock, the same with its first magic byte 0,
-// or the image's first MiB.
+/// A piece of a trace: the bytes themselves, the base superblock, the same with its first magic byte 0,
+/// or the image's first MiB.
 #[derive(Clone, Copy)]
-enum Piece {
+pub enum Piece {
     Bytes(&'static [u8]),
     Place,
     NoMagic,
     FirstMib,
 }
 
-const HEADER: Piece = Piece::Bytes(b"RECONTRC\x01\0\0\0\0\0\0\0");
+/// The header of a trace.
+pub const HEADER: Piece = Piece::Bytes(b"RECONTRC\x01\0\0\0\0\0\0\0");
 
-const END: Piece = Piece::Bytes(b"\xff");
+/// The tag that ends a trace.
+pub const END: Piece = Piece::Bytes(b"\xff");
 
-// The front of a write of exactly the superblock place, and of one of the image's first MiB.
-const AT_PLACE: Piece = Piece::Bytes(b"\x01\0\0\0\0\x01\0\0\0\0\0\0\x10\0\0");
+/// The front of a write of exactly the superblock place.
+pub const AT_PLACE: Piece = Piece::Bytes(b"\x01\0\0\0\0\x01\0\0\0\0\0\0\x10\0\0");
 
+// The front of a write of the image's first MiB.
 const AT_START: Piece = Piece::Bytes(b"\x01\0\0\0\0\0\0\0\0\0\0\0\0\x10\0");
 
-// A write of the small image's last eight bytes, and one a byte further on.
-const AT_LAST: Piece = Piece::Bytes(b"\x01\0\0\xf8\xff\x0f\0\0\0\0\0\x08\0\0\0abcdefgh");
+// A write of the base image's last eight bytes, and one a byte further on.
+const AT_LAST: Piece = Piece::Bytes(b"\x01\0\0\xf8\xff\xff\x01\0\0\0\0\x08\0\0\0abcdefgh");
 
-const PAST_LAST: Piece = Piece::Bytes(b"\x01\0\0\xf9\xff\x0f\0\0\0\0\0\x08\0\0\0abcdefgh");
+const PAST_LAST: Piece = Piece::Bytes(b"\x01\0\0\xf9\xff\xff\x01\0\0\0\0\x08\0\0\0abcdefgh");
 
-const REPLAY: &[&str] = &["replay", "image"];
+/// The line of the base image where it is accepted.
+pub const ACCEPTED: &str = "image accepted generation 1\n";
 
-// The superblock of the base image, whose only chunk in the array has 4 MiB at 1 MiB.
-fn base() -> [u8; 4096] {
-    let mut bytes = [0; 4096];
-    put_u32(&mut bytes, 0, 0x93EC_96B7);
-    put_u64(&mut bytes, 0x20, 0x0807060504030201);
-    put_u64(&mut bytes, 0x28, 0x100F0E0D0C0B0A09);
-    put_u64(&mut bytes, 0x30, 65536);
-    put_u64(&mut bytes, 0x38, 1);
-    put_u64(&mut bytes, 0x40, 0x4D5F53665248425F);
-    put_u64(&mut bytes, 0x48, 1);
-    put_u64(&mut bytes, 0x50, 5242880);
-    put_u64(&mut bytes, 0x58, 1048576);
-    put_u64(&mut bytes, 0x70, 33554432);
-    put_u64(&mut bytes, 0x78, 98304);
-    put_u64(&mut bytes, 0x80, 6);
-    put_u64(&mut bytes, 0x88, 1);
-    put_u32(&mut bytes, 0x90, 4096);
-    put_u32(&mut bytes, 0x94, 16384);
-    put_u32(&mut bytes, 0xa0, 97);
-    put_u64(&mut bytes, 0xa4, 1);
-    put_u64(&mut bytes, 0xbc, 865);
-    put_u64(&mut bytes, 0xc9, 1);
-    put_u64(&mut bytes, 0xd1, 33554432);
-    put_u64(&mut bytes, 0xd9, 29360128);
-    bytes[0x10b..0x11b].copy_from_slice(&[0x33; 16]);
-    put_u64(&mut bytes, 0x11b, 0x0807060504030201);
-    put_u64(&mut bytes, 0x123, 0x100F0E0D0C0B0A09);
-    bytes[0x32b..0x38c].copy_from_slice(&base_chunk());
-    bytes
+/// The words of a replay.
+pub const REPLAY: &[&str] = &["replay", "image"];
+
+/// The base image, of which these calls of the disk fail.
+pub fn disk_over(alloc: Global, base: &Bytes, fails: &[DiskFail]) -> Result<MemDisk, AllocError> {
+    Ok(MemDisk::new(
+        Vec::from_slice(alloc, base.as_slice())?,
+        Vec::from_slice(alloc, fails)?,
+    ))
 }
 
-// The chunk of the superblock's array, with its key.
-fn base_chunk() -> [u8; 97] {
-    let mut chunk = [0; 97];
-    put_u64(&mut chunk, 0, 256);
-    chunk[8] = 228;
-    put_u64(&mut chunk, 9, 1048576);
-    put_u64(&mut chunk, 17, 4194304);
-    put_u64(&mut chunk, 25, 2);
-    put_u64(&mut chunk, 33, 65536);
-    put_u64(&mut chunk, 41, 2);
-    put_u32(&mut chunk, 49, 65536);
-    put_u32(&mut chunk, 53, 65536);
-    put_u32(&mut chunk, 57, 4096);
-    put_u16(&mut chunk, 61, 1);
-    put_u64(&mut chunk, 65, 1);
-    put_u64(&mut chunk, 73, 1048576);
-    chunk[81..97].copy_from_slice(&[0x33; 16]);
-    chunk
-}
-
-// The lengths of the two images, in bytes.
-const WHOLE: usize = 33_554_432;
-
-const SMALL: usize = 1_048_576;
-
-// An image of zeros with the base superblock, at least long enough for it.
-fn image(alloc: Global, len: usize) -> Result<Vec<u8>, AllocError> {
-    let mut bytes = vec![in alloc; 0u8; len.max(69_632)]?;
-    bytes[65_536..69_632].copy_from_slice(&base());
+// The first MiB of the base image, which has the superblock and nothing else.
+fn first_mib(alloc: Global) -> Result<Vec<u8>, AllocError> {
+    let mut bytes = vec![in alloc; 0u8; 1_048_576]?;
+    bytes[65_536..69_632].copy_from_slice(&base_superblock());
     Ok(bytes)
-}
-
-// A disk with the small image, of which these calls fail.
-fn disk_of(alloc: Global, fails: &[DiskFail]) -> Result<MemDisk, AllocError> {
-    Ok(MemDisk::new(image(alloc, SMALL)?, Vec::from_slice(alloc, fails)?))
 }
 
 // Appends a piece to a trace.
 fn put_piece(alloc: Global, bytes: &mut Vec<u8>, piece: Piece) -> Result<(), AllocError> {
     match piece {
         Piece::Bytes(given) => bytes.extend_from_slice(given),
-        Piece::Place => bytes.extend_from_slice(&base()),
+        Piece::Place => bytes.extend_from_slice(&base_superblock()),
         Piece::NoMagic => {
-            let mut place = base();
+            let mut place = base_superblock();
             place[0x40] = 0;
             bytes.extend_from_slice(&place)
         }
         Piece::FirstMib => {
-            let start = image(alloc, SMALL)?;
+            let start = first_mib(alloc)?;
             bytes.extend_from_slice(&start)
         }
     }
 }
 
-// The status of a run and the sink that holds its lines. The trace has these pieces, and the calls of
-// the source and of the sink with these numbers fail.
-fn run_over(
+/// A trace of these pieces.
+pub fn trace_of(alloc: Global, pieces: &[Piece]) -> Result<Vec<u8>, AllocError> {
+    let mut bytes = Vec::new(alloc);
+    for piece in pieces {
+        put_piece(alloc, &mut bytes, *piece)?;
+    }
+    Ok(bytes)
+}
+
+/// The status of a run and the sink that holds its lines. The calls of the source and of the sink with
+/// these numbers fail.
+pub fn run_with(
     alloc: Global,
     words: &[&str],
     disk: &mut MemDisk,
-    trace: &[Piece],
+    trace: Vec<u8>,
     source_fails: &[u64],
     sink_fails: &[(u64, usize)],
 ) -> Result<(u8, MemSink), Fail> {
@@ -131,11 +95,7 @@ fn run_over(
     for word in words {
         owned.push(String::from_str(alloc, word)?)?;
     }
-    let mut bytes = Vec::new(alloc);
-    for piece in trace {
-        put_piece(alloc, &mut bytes, *piece)?;
-    }
-    let mut source = MemSource::new(bytes, 1_048_576, Vec::from_slice(alloc, source_fails)?);
+    let mut source = MemSource::new(trace, 1_048_576, Vec::from_slice(alloc, source_fails)?);
     let mut out = MemSink::new(alloc, 1000, Vec::from_slice(alloc, sink_fails)?)?;
     let status = recon_run(
         alloc,
@@ -148,9 +108,29 @@ fn run_over(
     Ok((status, out))
 }
 
+/// The same of a trace of these pieces.
+pub fn run_over(
+    alloc: Global,
+    words: &[&str],
+    disk: &mut MemDisk,
+    trace: &[Piece],
+    source_fails: &[u64],
+    sink_fails: &[(u64, usize)],
+) -> Result<(u8, MemSink), Fail> {
+    let trace = trace_of(alloc, trace)?;
+    run_with(alloc, words, disk, trace, source_fails, sink_fails)
+}
+
+// The checksum was computed by a program in another language that makes the same superblock.
+#[test]
+fn the_superblock_has_its_checksum(rt: HostRuntime) {
+    let bytes = base_superblock();
+    assert!(rt; bytes[..4] == 0x93EC_96B7u32.to_le_bytes()[..]);
+}
+
 #[test]
 fn each_trace_has_its_lines(rt: HostRuntime) -> Result<(), Fail> {
-    let start = image(rt.alloc(), SMALL)?;
+    let base = base_image(rt.alloc())?;
     let rows: [(&[Piece], u8, &str); 17] = [
         (&[HEADER, END], 0, "end passed 0 rejected 0\n"),
         (&[HEADER], 3, "trace fault 4 Truncated record 1\n"),
@@ -232,12 +212,12 @@ fn each_trace_has_its_lines(rt: HostRuntime) -> Result<(), Fail> {
         (
             &[HEADER, PAST_LAST, END],
             3,
-            "trace past end record 1 at 1048569 len 8 end 1048576\n",
+            "trace past end record 1 at 33554425 len 8 end 33554432\n",
         ),
         (
             &[HEADER, AT_PLACE, Piece::Place, PAST_LAST, END],
             3,
-            "commit 1 passed generation 1 blocks 0 hot 0\ntrace past end record 2 at 1048569 len 8 end 1048576\n",
+            "commit 1 passed generation 1 blocks 0 hot 0\ntrace past end record 2 at 33554425 len 8 end 33554432\n",
         ),
         (&[HEADER, AT_LAST, END], 0, "end passed 0 rejected 0\n"),
         (
@@ -246,43 +226,49 @@ fn each_trace_has_its_lines(rt: HostRuntime) -> Result<(), Fail> {
             "commit 1 rejected S2 tree 0 block 0 key 0 0 0 detail 0\nend passed 0 rejected 1\n",
         ),
     ];
-    let mut disk = disk_of(rt.alloc(), &[])?;
+    let mut disk = disk_over(rt.alloc(), &base, &[])?;
     for (trace, status, lines) in rows {
         let want = format!(in rt.alloc(); "image accepted generation 1\n{lines}")?;
         let (got, out) = run_over(rt.alloc(), REPLAY, &mut disk, trace, &[], &[])?;
         assert_eq!(rt; got, status, "{lines}");
         assert!(rt; out.bytes() == want.as_bytes(), "{lines}");
-        assert!(rt; disk.bytes() == start.as_slice(), "{lines}");
     }
+    assert!(rt; disk.bytes() == base.as_slice());
     Ok(())
 }
 
 #[test]
 fn a_commit_lets_what_waits_through(rt: HostRuntime) -> Result<(), Fail> {
     let trace: &[Piece] = &[HEADER, AT_LAST, AT_PLACE, Piece::Place, END];
-    let mut want = image(rt.alloc(), SMALL)?;
-    assert!(rt; want.len() == SMALL);
-    want[SMALL - 8..].copy_from_slice(b"abcdefgh");
-    let mut disk = disk_of(rt.alloc(), &[])?;
+    let base = base_image(rt.alloc())?;
+    let mut want = Vec::from_slice(rt.alloc(), base.as_slice())?;
+    assert!(rt; want.len() == BASE_LENGTH);
+    want[BASE_LENGTH - 8..].copy_from_slice(b"abcdefgh");
+    let mut disk = disk_over(rt.alloc(), &base, &[])?;
     let (status, _) = run_over(rt.alloc(), REPLAY, &mut disk, trace, &[], &[])?;
     assert_eq!(rt; status, 0);
     assert!(rt; disk.bytes() == want.as_slice());
     Ok(())
 }
 
+// The end is that of the device, 4096 bytes behind that of the file system.
 #[test]
-fn the_end_of_a_whole_image_counts(rt: HostRuntime) -> Result<(), Fail> {
-    let last = Piece::Bytes(b"\x01\0\0\xf8\xff\xff\x01\0\0\0\0\x08\0\0\0abcdefgh");
-    let past = Piece::Bytes(b"\x01\0\0\xf9\xff\xff\x01\0\0\0\0\x08\0\0\0abcdefgh");
+fn the_end_of_a_longer_device_counts(rt: HostRuntime) -> Result<(), Fail> {
+    let last = Piece::Bytes(b"\x01\0\0\xf8\x0f\0\x02\0\0\0\0\x08\0\0\0abcdefgh");
+    let past = Piece::Bytes(b"\x01\0\0\xf9\x0f\0\x02\0\0\0\0\x08\0\0\0abcdefgh");
     let rows: [(Piece, u8, &str); 2] = [
         (last, 0, "end passed 0 rejected 0\n"),
         (
             past,
             3,
-            "trace past end record 1 at 33554425 len 8 end 33554432\n",
+            "trace past end record 1 at 33558521 len 8 end 33558528\n",
         ),
     ];
-    let mut disk = MemDisk::new(image(rt.alloc(), WHOLE)?, Vec::new(rt.alloc()));
+    let base = base_image(rt.alloc())?;
+    let mut bytes = Vec::with_capacity(rt.alloc(), 33_558_528)?;
+    bytes.extend_from_slice(base.as_slice())?;
+    bytes.extend_from_slice(&[0; 4096])?;
+    let mut disk = MemDisk::new(bytes, Vec::new(rt.alloc()));
     for (write, status, lines) in rows {
         let trace: &[Piece] = &[HEADER, write, END];
         let want = format!(in rt.alloc(); "image accepted generation 1\n{lines}")?;
@@ -304,12 +290,14 @@ fn a_short_image_is_refused(rt: HostRuntime) -> Result<(), Fail> {
 
 #[test]
 fn other_words_do_nothing(rt: HostRuntime) -> Result<(), Fail> {
-    let rows: [&[&str]; 5] = [
+    let rows: [&[&str]; 7] = [
         &[],
         &["replay"],
         &["replay", "a", "b"],
-        &["check", "x"],
         &["Replay", "x"],
+        &["check"],
+        &["check", "a", "b"],
+        &["Check", "x"],
     ];
     for words in rows {
         let mut disk = MemDisk::new(vec![in rt.alloc(); 0u8; 16]?, Vec::new(rt.alloc()));
@@ -327,28 +315,76 @@ fn other_words_do_nothing(rt: HostRuntime) -> Result<(), Fail> {
     Ok(())
 }
 
+/// The disk on which the calls of this kind with these numbers fail, each counted from the one before.
+pub fn failing_disk(
+    alloc: Global,
+    base: &Bytes,
+    op: Op,
+    rows: &[(u64, &'static str)],
+) -> Result<MemDisk, AllocError> {
+    let mut fails = Vec::new(alloc);
+    let mut sum = 0u64;
+    for (nth, _) in rows {
+        sum = sum.saturating_add(*nth);
+        fails.push(DiskFail {
+            op,
+            nth: sum,
+            keep: 3,
+        })?;
+    }
+    disk_over(alloc, base, fails.as_slice())
+}
+
+// The check asks for the length and reads the superblock, asks for the length again and reads the one copy
+// of the chunk tree's block and both of five others: two lengths and twelve reads. The start asks once more
+// for the length, and the generation is told by a length and a read. Then comes the check of the commit, and
+// the read of the superblock that it goes out over. A run ends at its failing call, and none is left for the
+// last.
 #[test]
 fn a_failing_call_of_the_disk_has_status_4(rt: HostRuntime) -> Result<(), Fail> {
     let trace: &[Piece] = &[HEADER, AT_LAST, AT_PLACE, Piece::Place, END];
-    let accepted = "image accepted generation 1\n";
-    for (op, nth, lines) in [
-        (Op::Length, 1, ""),
-        (Op::Length, 2, ""),
-        (Op::Length, 3, ""),
-        (Op::Length, 4, accepted),
-        (Op::Read, 1, ""),
-        (Op::Read, 2, ""),
-        (Op::Read, 3, accepted),
-        (Op::Read, 4, accepted),
-        (Op::Write, 1, accepted),
-        (Op::Write, 2, accepted),
-        (Op::Flush, 1, accepted),
-        (Op::Flush, 2, accepted),
-    ] {
-        let mut disk = disk_of(rt.alloc(), &[DiskFail { op, nth, keep: 3 }])?;
+    let rows: [(Op, &[(u64, &'static str)]); 4] = [
+        (
+            Op::Length,
+            &[
+                (1, ""),
+                (2, ""),
+                (3, ""),
+                (4, ""),
+                (5, ACCEPTED),
+                (6, ACCEPTED),
+            ],
+        ),
+        (
+            Op::Read,
+            &[
+                (1, ""),
+                (2, ""),
+                (4, ""),
+                (12, ""),
+                (13, ""),
+                (14, ACCEPTED),
+                (15, ACCEPTED),
+                (25, ACCEPTED),
+                (26, ACCEPTED),
+            ],
+        ),
+        (Op::Write, &[(1, ACCEPTED), (2, ACCEPTED)]),
+        (Op::Flush, &[(1, ACCEPTED), (2, ACCEPTED)]),
+    ];
+    let all =
+        "image accepted generation 1\ncommit 1 passed generation 1 blocks 0 hot 0\nend passed 1 rejected 0\n";
+    let base = base_image(rt.alloc())?;
+    for (op, calls) in rows {
+        let mut disk = failing_disk(rt.alloc(), &base, op, calls)?;
+        for (nth, lines) in calls {
+            let (status, out) = run_over(rt.alloc(), REPLAY, &mut disk, trace, &[], &[])?;
+            assert_eq!(rt; status, 4, "{op:?} {nth}");
+            assert!(rt; out.bytes() == lines.as_bytes(), "{op:?} {nth}");
+        }
         let (status, out) = run_over(rt.alloc(), REPLAY, &mut disk, trace, &[], &[])?;
-        assert_eq!(rt; status, 4, "{op:?} {nth}");
-        assert!(rt; out.bytes() == lines.as_bytes(), "{op:?} {nth}");
+        assert_eq!(rt; status, 0, "{op:?}");
+        assert!(rt; out.bytes() == all.as_bytes(), "{op:?}");
     }
     Ok(())
 }
@@ -373,8 +409,9 @@ fn a_failing_source_or_sink_has_status_5_or_6(rt: HostRuntime) -> Result<(), Fai
         (&[], &[(3, 0)], 6, passed),
         (&[], &[(4, 0)], 0, all),
     ];
+    let base = base_image(rt.alloc())?;
+    let mut disk = disk_over(rt.alloc(), &base, &[])?;
     for (source_fails, sink_fails, status, lines) in rows {
-        let mut disk = disk_of(rt.alloc(), &[])?;
         let (got, out) = run_over(
             rt.alloc(),
             REPLAY,

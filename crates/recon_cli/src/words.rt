@@ -6,6 +6,8 @@ ghost use Rattle.recon_cli.specs.Words.{IsForm, IsNoForm};
 /// What the words ask for.
 #[derive(Clone, Copy, Debug, PartialEq, Eq)]
 pub enum Form {
+    /// `check IMAGE`: the full check of the image.
+    Check,
     /// `replay IMAGE`: a trace is replayed over the image.
     Replay,
 }
@@ -15,6 +17,7 @@ pub fn form_of(words: &[String]) -> Option<Form>
     ensures { MatchOption result (IsNoForm (map string_bytes words.now)) (λ form. IsForm form (map string_bytes words.now)) }
 {
     match words {
+        [first, _image] if first.as_str() == "check" => Some(Form::Check),
         [first, _image] if first.as_str() == "replay" => Some(Form::Replay),
         _ => None,
     }

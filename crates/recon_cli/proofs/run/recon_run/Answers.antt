@@ -1,5 +1,9 @@
+use Rattle.recon_cli.specs.declared.words.Form.TheVariants.{Check}
 use Rattle.recon_cli.proofs.run.recon_run.Goals as goal
 
-pub returns-in-Ok-clause-replay : goal.returns-in-Ok-clause-replay
-returns-in-Ok-clause-replay g c form done image bytes kept told left lawful printed events ending spelled =
-    c.in-Ok.ensures.outcome image bytes kept told lawful left printed events ending spelled
+pub returns-in-Ok-replay-clause-replay : goal.returns-in-Ok-replay-clause-replay
+returns-in-Ok-replay-clause-replay g c form done image bytes kept told left lawful printed events ending spelled =
+    c.in-Ok-replay.ensures.outcome image bytes kept told lawful left printed events ending spelled
+
+pub returns-in-None-clause-checked : goal.returns-in-None-clause-checked
+returns-in-None-clause-checked g c form = absurd (c.in-None.ensures Check form)

@@ -7,3 +7,7 @@ use Rattle.recon_cli.proofs.words.form_of.Goals as goal
 pub returns-in-len2 : goal.returns-in-len2
 returns-in-len2 c =
     two_words string_bytes c.args.words.now _ c.first-item.result (omega arith) c.first-item.is (sym c.as_str.ensures.value ∙ (slice_eq-Decides Decides-eqb _ _ _ c.eq.ensures).0 c.if-eq.true)
+
+pub returns-in-len2-2 : goal.returns-in-len2-2
+returns-in-len2-2 c =
+    two_words string_bytes c.args.words.now _ c.first-item-then-words-lt3.result (omega arith) c.first-item-then-words-lt3.is (sym c.as_str-then-words-lt3.ensures.value ∙ (slice_eq-Decides Decides-eqb _ _ _ c.eq-then-words-lt3.ensures).0 c.if-eq-2.true)
