@@ -9,24 +9,23 @@ folder=$(mktemp -d)
 trap 'rm -rf "$folder"' EXIT
 (cd crates/recon && rt run -- replay data/short.img < /dev/null > /dev/null 2>&1) || true
 program=$PWD/crates/recon/out/recon
-examples/replay.sh "$folder" > /dev/null 2>&1 || true
+python3 examples/base_image.py "$folder/small.img"
 
 python3 - "$folder" "$mib" <<'PYTHON'
 import os, struct, sys
 folder, mib = sys.argv[1], int(sys.argv[2])
 with open(f'{folder}/small.img', 'rb') as f:
-    f.seek(65536)
-    superblock = f.read(4096)
+    small = f.read()
+superblock = small[65536:69632]
 with open(f'{folder}/big.img', 'wb') as f:
-    f.truncate((mib + 8) << 20)
-    f.seek(65536)
-    f.write(superblock)
+    f.write(small)
+    f.truncate((mib + 40) << 20)
 size = 128 << 10
 with open(f'{folder}/big.trace', 'wb') as f, open(f'{folder}/bytes', 'wb') as copy:
     f.write(b'RECONTRC' + struct.pack('<II', 1, 0))
     for k in range(mib * 8):
         block = os.urandom(4096) * 32
-        f.write(b'\x01' + struct.pack('<HQI', 0, (4 << 20) + k * size, size) + block)
+        f.write(b'\x01' + struct.pack('<HQI', 0, (40 << 20) + k * size, size) + block)
         copy.write(block)
         if k % 256 == 255:
             f.write(b'\x01' + struct.pack('<HQI', 0, 65536, 4096) + superblock)
