@@ -40,6 +40,39 @@ pub fn u64_at(s: &[u8], at: usize) -> Option<u64>
     Some(LittleEndian::read_u64(&s[at..]))
 }
 
+/// The two-byte number at byte `at` of a structure that has the field.
+pub fn get_u16(s: &[u8], at: usize) -> u16
+    requires { at + 2 ≤ length s.now }
+    ensures { result ≡ field 2 s.now at }
+{
+    match u16_at(s, at) {
+        Some(number) => number,
+        None => unreachable!(),
+    }
+}
+
+/// The four-byte number at byte `at` of a structure that has the field.
+pub fn get_u32(s: &[u8], at: usize) -> u32
+    requires { at + 4 ≤ length s.now }
+    ensures { result ≡ field 4 s.now at }
+{
+    match u32_at(s, at) {
+        Some(number) => number,
+        None => unreachable!(),
+    }
+}
+
+/// The eight-byte number at byte `at` of a structure that has the field.
+pub fn get_u64(s: &[u8], at: usize) -> u64
+    requires { at + 8 ≤ length s.now }
+    ensures { result ≡ field 8 s.now at }
+{
+    match u64_at(s, at) {
+        Some(number) => number,
+        None => unreachable!(),
+    }
+}
+
 /// Writes a two-byte number at byte `at`, and changes no other byte.
 #[tactic(auto, unfolding(crate::specs::Field::with_field))]
 pub fn put_u16(s: &mut [u8], at: usize, v: u16)

@@ -1,5 +1,5 @@
--- Rules in order are a table, and the first that fails gives the finding.
-use Rattle.std.specs.Prelude.{ℕ, Bool, List, [], ◌∷◌, Option, Some, None, if◌then◌else◌}
+-- Rules in order are a table, and the first that fails gives the finding. A step of the check gives a value or its finding.
+use Rattle.std.specs.Prelude.{ℕ, Bool, List, [], ◌∷◌, Option, Some, None, Result, Ok, Err, if◌then◌else◌}
 use Rattle.verdict.specs.declared.key.Key.{Key}
 use Rattle.verdict.specs.declared.finding.Finding.{Finding}
 use Rattle.verdict.specs.declared.finding.Family.{Family}
@@ -13,6 +13,21 @@ pub record TableRow : Type 0 where
 abbrev pub first_failing : List TableRow → Option Finding
 first_failing [] = None
 first_failing (r ∷ rs) = if r.fails then Some r.finding else first_failing rs
+
+-- the first of two findings that there is
+abbrev pub or_found : Option Finding → Option Finding → Option Finding
+or_found (Some finding) later = Some finding
+or_found None later = later
+
+-- the finding, where there is one, else a value
+abbrev pub finding_or : {A : Type 0} → Option Finding → A → Result A Finding
+finding_or (Some finding) value = Err finding
+finding_or None value = Ok value
+
+-- a step of the check, and what follows where it has no finding
+abbrev pub and_then : {A B : Type 0} → Result A Finding → (A → Result B Finding) → Result B Finding
+and_then (Err finding) next = Err finding
+and_then (Ok value) next = next value
 
 -- the key (0, 0, 0), of findings that speak of no item
 abbrev pub no_key : Key

@@ -2,6 +2,7 @@
 
 ghost use Rattle.std.specs.Prelude.{◌≡◌};
 ghost use Rattle.verdict.specs.Letter.{letter_of};
+ghost use Rattle.verdict.specs.Rules.{image_finding};
 
 use crate::Key;
 
@@ -63,4 +64,19 @@ pub struct Finding {
     pub key: Key,
     /// What the rule adds: a field's value, an offset in bytes or a place in a list.
     pub detail: u64,
+}
+
+impl Finding {
+    /// The finding of a rule on the whole image, which names no tree, no block and no key.
+    pub fn of_image(family: Family, number: u8, detail: u64) -> Finding
+        ensures { result ≡ image_finding family number detail }
+    {
+        Finding {
+            rule: Rule { family, number },
+            tree: 0,
+            block: 0,
+            key: Key::none(),
+            detail,
+        }
+    }
 }

@@ -1,7 +1,8 @@
 //! Keys, by which Btrfs orders the items of a tree.
 
-ghost use Rattle.std.specs.Prelude.{◌+◌, ◌≤◌, length, SomeIff};
+ghost use Rattle.std.specs.Prelude.{◌≡◌, ◌+◌, ◌≤◌, length, SomeIff};
 ghost use Rattle.verdict.specs.OnDisk.{key_of};
+ghost use Rattle.verdict.specs.Rules.{no_key};
 
 use recon_bytes::u64_at;
 
@@ -14,6 +15,22 @@ pub struct Key {
     pub kind: u8,
     /// A third number, whose meaning the kind gives.
     pub offset: u64,
+}
+
+impl Key {
+    /// The size of a key on the disk in bytes.
+    pub const SIZE: usize = 17;
+
+    /// The key (0, 0, 0), which findings have that speak of no item.
+    pub fn none() -> Key
+        ensures { result ≡ no_key }
+    {
+        Key {
+            objectid: 0,
+            kind: 0,
+            offset: 0,
+        }
+    }
 }
 
 /// The key in the 17 bytes at byte `at` of an on-disk structure, or `None` exactly where they pass
@@ -32,4 +49,15 @@ pub fn key_at(s: &[u8], at: usize) -> Option<Key>
         kind,
         offset,
     })
+}
+
+/// The key in the 17 bytes at byte `at` of an on-disk structure that has them.
+pub fn get_key(s: &[u8], at: usize) -> Key
+    requires { at + 17 ≤ length s.now }
+    ensures { result ≡ key_of s.now at }
+{
+    match key_at(s, at) {
+        Some(key) => key,
+        None => unreachable!(),
+    }
 }

@@ -11,6 +11,10 @@ mod tests;
 
 pub use bytes::{Bytes, NoMemory};
 pub use finding::{Family, Finding, Rule};
-pub use key::{Key, key_at};
-pub use machine::{Answer, Event, HeldWrite, Stop};
-pub use place::{At, Chunk, Place, TreeSort};
+pub use key::{Key, get_key, key_at};
+pub use machine::{
+    Answer, Event, HeldWrite, SUPERBLOCK_AT, SUPERBLOCK_SIZE, Stop, meets_superblock,
+};
+pub use place::{
+    At, Chunk, ORPHAN_OBJECTID, Place, TreeSort, is_free_id, is_multiple, is_node_size,
+};

@@ -1,6 +1,15 @@
 //! The events that the checking machine takes, and what it answers.
 
+ghost use Rattle.std.specs.Prelude.{◌≡◌};
+ghost use Rattle.verdict.specs.Events.{begin_of, length_of, meets_superblock};
+
 use crate::{Bytes, Finding};
+
+/// The byte of the device where the superblock place begins.
+pub const SUPERBLOCK_AT: u64 = 65_536;
+
+/// The size of the superblock place in bytes.
+pub const SUPERBLOCK_SIZE: u64 = 4096;
 
 /// One step of a file system's traffic with its device, which runs to its end before the next.
 #[derive(Debug, Drop)]
@@ -23,6 +32,28 @@ pub enum Event {
         /// The number of bytes, 1 to 65,536.
         len: u32,
     },
+}
+
+impl Event {
+    /// Where the range of the event begins on the device, and its length, in bytes. Both are 0 where it
+    /// has none.
+    pub fn range(&self) -> (u64, u64)
+        ensures at { result.0 ≡ begin_of self.now }
+        ensures len { result.1 ≡ length_of self.now }
+    {
+        match self {
+            Event::Write { at, bytes, .. } => (*at, bytes.as_slice().len() as u64),
+            Event::Settle => (0, 0),
+            Event::Fetch { at, len } => (*at, u64::from(*len)),
+        }
+    }
+}
+
+/// Whether a range of `len` bytes from the byte `at` of the device on meets the superblock place.
+pub fn meets_superblock(at: u64, len: u64) -> bool
+    ensures { result ≡ meets_superblock at len }
+{
+    at < SUPERBLOCK_AT + SUPERBLOCK_SIZE && (at > SUPERBLOCK_AT || len > SUPERBLOCK_AT - at)
 }
 
 /// A write that waits: where it begins, and its bytes.

@@ -2,7 +2,8 @@
 //! device.
 
 ghost use Rattle.std.specs.Prelude.{◌≡◌};
-ghost use Rattle.verdict.specs.Items.{item_finding};
+ghost use Rattle.verdict.specs.Items.{item_finding, is_file_objectid, is_free_id, is_kind_of, is_listed, is_multiple};
+ghost use Rattle.verdict.specs.Trees.{is_node_size, sort_of};
 
 use crate::{Family, Finding, Key, Rule};
 
@@ -25,6 +26,81 @@ pub enum TreeSort {
     Groups,
     /// A tree whose items stay unread: 8, 9 or 10.
     Unread,
+}
+
+impl TreeSort {
+    /// The sort of the tree with this id.
+    pub fn of(tree: u64) -> TreeSort
+        ensures { result ≡ sort_of tree }
+    {
+        match tree {
+            1 => TreeSort::Root,
+            2 => TreeSort::Extent,
+            3 => TreeSort::Chunk,
+            4 => TreeSort::Device,
+            7 => TreeSort::Sums,
+            8..=10 => TreeSort::Unread,
+            _ => TreeSort::File,
+        }
+    }
+
+    /// Whether items of this kind are read in a tree of this sort.
+    pub fn has_kind(self, kind: u8) -> bool
+        ensures { result ≡ is_kind_of self kind }
+    {
+        match self {
+            TreeSort::Root => matches!(kind, 132 | 144 | 156),
+            TreeSort::Extent => matches!(kind, 168 | 169 | 176 | 178 | 182 | 184 | 192),
+            TreeSort::Chunk => matches!(kind, 216 | 228),
+            TreeSort::Device => kind == 204,
+            TreeSort::File => matches!(kind, 1 | 12 | 13 | 24 | 48 | 84 | 96 | 108),
+            TreeSort::Sums => kind == 128,
+            TreeSort::Groups => kind == 192,
+            TreeSort::Unread => false,
+        }
+    }
+
+    /// Whether a tree of this sort lists the item with this key: its kind, and in a tree of files its
+    /// objectid, which is that of a file or directory, or -5 in an orphan item.
+    pub fn lists(self, key: Key) -> bool
+        ensures { result ≡ is_listed self key }
+    {
+        match self {
+            TreeSort::File => self.has_kind(key.kind) && has_file_objectid(key),
+            _ => self.has_kind(key.kind),
+        }
+    }
+}
+
+// Whether an item may have this objectid in a tree of files.
+fn has_file_objectid(key: Key) -> bool
+    ensures { result ≡ is_file_objectid key }
+{
+    is_free_id(key.objectid) || (key.kind == 48 && key.objectid == ORPHAN_OBJECTID)
+}
+
+/// The objectid -5, which orphan items have.
+pub const ORPHAN_OBJECTID: u64 = 18_446_744_073_709_551_611;
+
+/// Whether a number is a multiple of a sector, which has 4096 bytes.
+pub fn is_multiple(n: u64) -> bool
+    ensures { result ≡ is_multiple n }
+{
+    n % 4096 == 0
+}
+
+/// Whether an id is one of those from 256 to 2^64 - 256, which subvolumes, files and directories have.
+pub fn is_free_id(id: u64) -> bool
+    ensures { result ≡ is_free_id id }
+{
+    256 <= id && id <= 18_446_744_073_709_551_360
+}
+
+/// Whether a tree block may have this size in bytes.
+pub fn is_node_size(size: u32) -> bool
+    ensures { result ≡ is_node_size size }
+{
+    matches!(size, 4096 | 8192 | 16384 | 32768 | 65536)
 }
 
 /// The place of an item, and what the superblock says that its readers ask for.

@@ -1,0 +1,20 @@
+-- The trees of a file system: their sorts by their ids, the sizes of their blocks.
+use Rattle.std.specs.Prelude.{ℕ, Bool, ◌||◌, ◌==◌, if◌then◌else◌}
+use Rattle.verdict.specs.declared.place.TreeSort.{TreeSort}
+use Rattle.verdict.specs.declared.place.TreeSort.TheVariants.{Root, Extent, Chunk, Device, File, Sums, Unread}
+
+-- the sort of a tree by its id; the trees 5 and -9 and the subvolumes hold files
+abbrev pub sort_of : ℕ → TreeSort
+sort_of tree =
+    if tree == 1 then Root else
+    (if tree == 2 then Extent else
+    (if tree == 3 then Chunk else
+    (if tree == 4 then Device else
+    (if tree == 7 then Sums else
+    (if tree == 8 then Unread else
+    (if tree == 9 then Unread else
+    (if tree == 10 then Unread else File)))))))
+
+-- the sizes in bytes that a tree block may have
+abbrev pub is_node_size : ℕ → Bool
+is_node_size n = n == 4096 || n == 8192 || n == 16384 || n == 32768 || n == 65536
