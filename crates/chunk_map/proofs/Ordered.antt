@@ -2,12 +2,14 @@
 use Rattle.std.proofs.Common.{◌≡◌, ℕ, zero, suc, ◌+◌, ◌<◌, ◌≤◌, Bool, true, false, cond, List, [], ◌∷◌, ◌++◌, length, take, drop, get_or, refl, ap, sym, subst, ◌∙◌, arith, nat_le}
 use Rattle.std.specs.Prelude.{Option, Some, None}
 use Rattle.std.specs.List.{insert}
-use Rattle.verdict.specs.Rules.{TableRow, first_failing}
+use Rattle.verdict.specs.Rules.{TableRow, first_failing, or_found}
+use Rattle.verdict.proofs.Tables.{first_failing_joined}
 use Rattle.verdict.specs.declared.finding.Finding.{Finding}
 use Rattle.verdict.specs.declared.place.Chunk.{Chunk}
 use Rattle.std.proofs.lemmas.List.{drop_more}
-use Rattle.chunk_map.specs.MapRules.{array_rows, rows_of_chunk, rows_by_start, map_finding}
-use Rattle.chunk_map.specs.Order.{put_by_start, rank_by_start, all_by_start, by_start, AllFit, InOrder}
+use Rattle.volume_items.specs.MapRules.{array_rows, rows_of_chunk, rows_by_start, map_finding}
+use Rattle.volume_items.specs.ChunkOrder.{put_by_start, all_by_start, by_start}
+use Rattle.chunk_map.specs.Order.{rank_by_start, AllFit, InOrder}
 
 pub rank_low : (start : ℕ) (chunks : List Chunk) → rank_by_start start chunks ≤ length chunks
 rank_low start [] = omega arith
@@ -54,30 +56,19 @@ added_in_order chunks sorted more wide chunk rank pushed inserted kept fits r m 
     let fit : AllFit more = subst AllFit (sym m1) (AllFit-push chunks chunk kept.fit fits) in
     record { order = order; fit = fit }
 
-abbrev pub found_or : Option Finding → Option Finding → Option Finding
-found_or (Some finding) rest = Some finding
-found_or None rest = rest
-
--- a table of rules in two parts: the first that fails is that of the first part, else of the second
-pub first_failing_joined : (first second : List TableRow) → first_failing (first ++ second) ≡ found_or (first_failing first) (first_failing second)
-first_failing_joined [] second = refl
-first_failing_joined (row ∷ rows) second =
-    elim row.fails as (λ fails. cond fails (Some row.finding) (first_failing (rows ++ second)) ≡ found_or (cond fails (Some row.finding) (first_failing rows)) (first_failing second))
-    [ true ↦ refl | false ↦ first_failing_joined rows second ]
-
 -- the rules on the array and on the chunks by start are those on the map
 pub map_array : (chunks array items given : List Chunk) (end : ℕ) (finding : Finding) → items ≡ chunks → given ≡ array → Some finding ≡ first_failing (array_rows items given) → Some finding ≡ map_finding chunks array end
 map_array chunks array items given end finding a b is =
     let tail : List TableRow = rows_by_start [] (by_start chunks) end in
     let here : Some finding ≡ first_failing (array_rows chunks array) = rw (a, b) at is in
-    sym (first_failing_joined (array_rows chunks array) tail ∙ ap (λ o. found_or o (first_failing tail)) (sym here))
+    sym (first_failing_joined (array_rows chunks array) tail ∙ ap (λ o. or_found o (first_failing tail)) (sym here))
 
 pub map_sorted : (chunks array items given kept sorted : List Chunk) (end : ℕ) (first found : Option Finding) → items ≡ chunks → given ≡ array → first ≡ first_failing (array_rows items given) → first ≡ None → sorted ≡ by_start kept → kept ≡ chunks → found ≡ first_failing (rows_by_start [] sorted end) → found ≡ map_finding chunks array end
 map_sorted chunks array items given kept sorted end first found a b is none order k last =
     let tail : List TableRow = rows_by_start [] (by_start chunks) end in
     let here : first_failing (array_rows chunks array) ≡ None = subst (λ cs. first_failing (array_rows cs array) ≡ None) a (subst (λ cs. first_failing (array_rows items cs) ≡ None) b (sym is ∙ none)) in
     last ∙ ap (λ cs. first_failing (rows_by_start [] cs end)) (order ∙ ap by_start k)
-    ∙ sym (first_failing_joined (array_rows chunks array) tail ∙ ap (λ o. found_or o (first_failing tail)) here)
+    ∙ sym (first_failing_joined (array_rows chunks array) tail ∙ ap (λ o. or_found o (first_failing tail)) here)
 
 -- the finding on the chunk at a place among chunks by start
 pub sorted_found : (chunks : List Chunk) (place : ℕ) (d : Chunk) (end : ℕ) (finding : Finding) (whole : Option Finding) → place < length chunks → first_failing (rows_by_start (take place chunks) (drop place chunks) end) ≡ whole → Some finding ≡ first_failing (rows_of_chunk (take place chunks) (get_or chunks place d) end) → Some finding ≡ whole
@@ -85,5 +76,5 @@ sorted_found chunks place d end finding whole h left is =
     let chunk : Chunk = get_or chunks place d in
     let front : List Chunk = take place chunks in
     let tail : List TableRow = rows_by_start (front ++ chunk ∷ []) (drop (place + 1) chunks) end in
-    sym (first_failing_joined (rows_of_chunk front chunk end) tail ∙ ap (λ o. found_or o (first_failing tail)) (sym is))
+    sym (first_failing_joined (rows_of_chunk front chunk end) tail ∙ ap (λ o. or_found o (first_failing tail)) (sym is))
     ∙ sym (ap (λ cs. first_failing (rows_by_start front cs end)) (drop_more chunks place d h)) ∙ left

@@ -12,33 +12,24 @@ use Rattle.verdict.specs.declared.finding.Family.TheVariants.{S}
 use Rattle.verdict.specs.declared.place.At.{At}
 use Rattle.verdict.specs.declared.place.Chunk.{Chunk}
 use Rattle.super_reader.specs.declared.Super.{Super}
-use Rattle.volume_items.specs.ChunkRow.{ChunkFields, chunk_row, chunk_rows, chunk_fields, chunk_of, frame_rows, field_rows, stripe_rows, stripes_of, finding_or}
-use Rattle.chunk_map.specs.SystemArray.{array_place, item_size, pair_fails, pair_of, pairs_from, chunks_of}
-use Rattle.chunk_map.proofs.Ordered.{found_or, first_failing_joined}
+use Rattle.volume_items.specs.ChunkRow.{ChunkFields, chunk_row, chunk_rows, chunk_fields, chunk_of, frame_rows, field_rows, stripe_rows, stripes_of}
+use Rattle.super_reader.specs.Superblock.{array_place}
+use Rattle.volume_items.specs.SystemArray.{item_size, pair_fails, pair_of, pairs_from}
+use Rattle.chunk_map.specs.SystemArray.{chunks_of}
+use Rattle.verdict.proofs.Tables.{joined_none, finding_or-ok}
 
-pub pair_bad : (sup : Super) (at : ℕ) → pair_fails sup.array sup.array_size at ≡ true → pair_of sup at ≡ Err (image_finding S 9 at)
+pub pair_bad : (sup : Super) (at : ℕ) → pair_fails sup.array sup.array_size at ≡ true → pair_of (array_place sup) sup.array sup.array_size at ≡ Err (image_finding S 9 at)
 unfolding pair_of
 pair_bad sup at bad = rw bad refl
 
 -- the key and the item of a pair decide
-pub pair_read : (sup : Super) (at size start end : ℕ) (key : Key) (bytes : List ℕ) (place : At) → pair_fails sup.array sup.array_size at ≡ false → key ≡ key_of sup.array at → size ≡ item_size sup.array at → start ≡ at + 17 → end ≡ start + size → bytes ≡ range start size sup.array → place ≡ array_place sup → pair_of sup at ≡ chunk_row place key bytes
+pub pair_read : (sup : Super) (at size start end : ℕ) (key : Key) (bytes : List ℕ) (place : At) → pair_fails sup.array sup.array_size at ≡ false → key ≡ key_of sup.array at → size ≡ item_size sup.array at → start ≡ at + 17 → end ≡ start + size → bytes ≡ range start size sup.array → place ≡ array_place sup → pair_of (array_place sup) sup.array sup.array_size at ≡ chunk_row place key bytes
 unfolding pair_of
 pair_read sup at size start end key bytes place good k z s e b p = rw (good, b, p, k, s, z) refl
 
 -- the bytes of a part of the array
 pub part_is : (xs : List ℕ) (start size end : ℕ) → end ≡ start + size → take (end - start) (drop start xs) ≡ range start size xs
 part_is xs start size end e = ap (λ n. take n (drop start xs)) (omega arith)
-
-found_or-none : (first second : Option Finding) → found_or first second ≡ None → (first ≡ None) × (second ≡ None)
-found_or-none None second is = (refl, is)
-found_or-none (Some finding) second is = cc
-
-joined_none : (first second : List TableRow) → first_failing (first ++ second) ≡ None → (first_failing first ≡ None) × (first_failing second ≡ None)
-joined_none first second is = found_or-none (first_failing first) (first_failing second) (sym (first_failing_joined first second) ∙ is)
-
-finding_or-fields : (found : Option Finding) (fields given : ChunkFields) → finding_or found fields ≡ Ok given → (found ≡ None) × (given ≡ fields)
-finding_or-fields None fields given is = (refl, cc)
-finding_or-fields (Some finding) fields given is = cc
 
 -- the range of a chunk item whose length, type and stripes keep their rules fits 64 bits
 fields_fit : (at : At) (key : Key) (bytes : List ℕ) → first_failing (field_rows at key bytes) ≡ None → key.offset + field 8 bytes 0 ≤ 18446744073709551615
@@ -48,12 +39,12 @@ fields_fit at key bytes kept = grind (arith, common_steps)
 pub row_fits : (at : At) (key : Key) (bytes : List ℕ) (given : ChunkFields) → chunk_row at key bytes ≡ Ok given → (chunk_of given).start + (chunk_of given).length ≤ 18446744073709551615
 unfolding chunk_row
 row_fits at key bytes given is =
-    let both = finding_or-fields (first_failing (chunk_rows at key bytes)) (chunk_fields key bytes) given is in
+    let both = finding_or-ok (first_failing (chunk_rows at key bytes)) (chunk_fields key bytes) given is in
     let tail : List TableRow = stripe_rows at key (field 8 bytes 0) 48 (stripes_of (drop 48 bytes)) in
     let rows = (joined_none (field_rows at key bytes) tail (joined_none (frame_rows at key bytes) (field_rows at key bytes ++ tail) both.0).1).0 in
     rw both.1 (fields_fit at key bytes rows)
 
-pub pair_fits : (sup : Super) (at : ℕ) (given : ChunkFields) → pair_of sup at ≡ Ok given → (chunk_of given).start + (chunk_of given).length ≤ 18446744073709551615
+pub pair_fits : (sup : Super) (at : ℕ) (given : ChunkFields) → pair_of (array_place sup) sup.array sup.array_size at ≡ Ok given → (chunk_of given).start + (chunk_of given).length ≤ 18446744073709551615
 unfolding pair_of
 pair_fits sup at given is =
     let split : (fails : Bool) → cond fails (Err (image_finding S 9 at)) (chunk_row (array_place sup) (key_of sup.array at) (range (at + 17) (item_size sup.array at) sup.array)) ≡ Ok given → (chunk_of given).start + (chunk_of given).length ≤ 18446744073709551615 =
@@ -65,37 +56,37 @@ pub record ArrayLeft (sup : Super) (at : ℕ) (chunks : List Chunk) : Type 0 whe
   pub pairs : ℕ
   pub room : sup.array_size ≤ at + pairs
   pub inside : at ≤ sup.array_size
-  pub decides : pairs_from sup pairs at chunks ≡ chunks_of sup
+  pub decides : pairs_from (array_place sup) sup.array sup.array_size pairs at chunks ≡ chunks_of sup
 
 pub array_begins : (sup : Super) → ArrayLeft sup 0 []
 array_begins sup = record { pairs = sup.array_size; room = omega arith; inside = omega arith; decides = refl }
 
 -- a pair more
-more_pairs : (sup : Super) (pairs at : ℕ) (chunks : List Chunk) (given : ChunkFields) → at < sup.array_size → sup.array_size ≤ at + pairs → pair_of sup at ≡ Ok given → (n : ℕ) × (sup.array_size ≤ at + 17 + item_size sup.array at + n) × (pairs_from sup n (at + 17 + item_size sup.array at) (chunks ++ chunk_of given ∷ []) ≡ pairs_from sup pairs at chunks)
+more_pairs : (sup : Super) (pairs at : ℕ) (chunks : List Chunk) (given : ChunkFields) → at < sup.array_size → sup.array_size ≤ at + pairs → pair_of (array_place sup) sup.array sup.array_size at ≡ Ok given → (n : ℕ) × (sup.array_size ≤ at + 17 + item_size sup.array at + n) × (pairs_from (array_place sup) sup.array sup.array_size n (at + 17 + item_size sup.array at) (chunks ++ chunk_of given ∷ []) ≡ pairs_from (array_place sup) sup.array sup.array_size pairs at chunks)
 unfolding pairs_from
 more_pairs sup zero at chunks given h room is = absurd (omega arith)
 more_pairs sup (suc n) at chunks given h room is =
     let other : (at == sup.array_size) ≡ false = grind arith in
     (n, omega arith, rw (other, is) refl)
 
-pub array_goes_on : (sup : Super) (at end : ℕ) (chunks more : List Chunk) (given : ChunkFields) (chunk : Chunk) → ArrayLeft sup at chunks → at < sup.array_size → pair_of sup at ≡ Ok given → chunk ≡ chunk_of given → more ≡ chunks ++ chunk ∷ [] → end ≡ at + 17 + item_size sup.array at → end ≤ sup.array_size → ArrayLeft sup end more
+pub array_goes_on : (sup : Super) (at end : ℕ) (chunks more : List Chunk) (given : ChunkFields) (chunk : Chunk) → ArrayLeft sup at chunks → at < sup.array_size → pair_of (array_place sup) sup.array sup.array_size at ≡ Ok given → chunk ≡ chunk_of given → more ≡ chunks ++ chunk ∷ [] → end ≡ at + 17 + item_size sup.array at → end ≤ sup.array_size → ArrayLeft sup end more
 array_goes_on sup at end chunks more given chunk left h is c m e low =
     let next = more_pairs sup left.pairs at chunks given h left.room is in
     rw (m, c, e) (record { pairs = next.0; room = next.1; inside = rw e at low; decides = next.2 ∙ left.decides })
 
 -- a finding
-stops_at : (sup : Super) (pairs at : ℕ) (chunks : List Chunk) (finding : Finding) → at < sup.array_size → sup.array_size ≤ at + pairs → pair_of sup at ≡ Err finding → pairs_from sup pairs at chunks ≡ Err finding
+stops_at : (sup : Super) (pairs at : ℕ) (chunks : List Chunk) (finding : Finding) → at < sup.array_size → sup.array_size ≤ at + pairs → pair_of (array_place sup) sup.array sup.array_size at ≡ Err finding → pairs_from (array_place sup) sup.array sup.array_size pairs at chunks ≡ Err finding
 unfolding pairs_from
 stops_at sup zero at chunks finding h room is = absurd (omega arith)
 stops_at sup (suc n) at chunks finding h room is =
     let other : (at == sup.array_size) ≡ false = grind arith in
     rw (other, is) refl
 
-pub array_stops : (sup : Super) (at : ℕ) (chunks : List Chunk) (finding : Finding) → ArrayLeft sup at chunks → at < sup.array_size → pair_of sup at ≡ Err finding → chunks_of sup ≡ Err finding
+pub array_stops : (sup : Super) (at : ℕ) (chunks : List Chunk) (finding : Finding) → ArrayLeft sup at chunks → at < sup.array_size → pair_of (array_place sup) sup.array sup.array_size at ≡ Err finding → chunks_of sup ≡ Err finding
 array_stops sup at chunks finding left h is = sym left.decides ∙ stops_at sup left.pairs at chunks finding h left.room is
 
 -- the end
-ends_at : (sup : Super) (pairs at : ℕ) (chunks : List Chunk) → at ≡ sup.array_size → pairs_from sup pairs at chunks ≡ Ok chunks
+ends_at : (sup : Super) (pairs at : ℕ) (chunks : List Chunk) → at ≡ sup.array_size → pairs_from (array_place sup) sup.array sup.array_size pairs at chunks ≡ Ok chunks
 unfolding pairs_from
 ends_at sup zero at chunks e = refl
 ends_at sup (suc n) at chunks e =

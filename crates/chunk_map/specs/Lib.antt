@@ -1,3 +1,2 @@
-pub mod Order
-pub mod MapRules
 pub mod SystemArray
+pub mod Order

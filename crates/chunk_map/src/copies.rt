@@ -2,7 +2,7 @@
 
 ghost use Rattle.std.specs.Prelude.{◌≡◌, ◌+◌, ◌-◌, ◌≤◌, ◌<◌, ◌^◌, nat_le, IsTrue};
 ghost use Rattle.verdict.specs.Chunks.{holds_range, place_of_copies, logical_in_copies};
-ghost use Rattle.chunk_map.specs.MapRules.{have_common, meets_chunk};
+ghost use Rattle.volume_items.specs.MapRules.{have_common, meets_chunk};
 
 use verdict::{Chunk, Place};
 

@@ -3,7 +3,7 @@
 ghost use Rattle.std.specs.Prelude.{◌≡◌, ◌+◌, ◌-◌, ◌≤◌, ◌<◌, ◌^◌, [], ◌∷◌, ◌++◌, length, IfOk, IfSome, OnOk, OnErr};
 ghost use Rattle.verdict.specs.Chunks.{home, place, logical_of};
 ghost use Rattle.chunk_map.specs.Order.{rank_by_start};
-ghost use Rattle.chunk_map.specs.MapRules.{map_finding};
+ghost use Rattle.volume_items.specs.MapRules.{map_finding};
 ghost use Rattle.chunk_map.specs.SystemArray.{chunks_of, sys_of};
 
 use crate::array::read_pair;

@@ -3,7 +3,7 @@
 ghost use Rattle.std.specs.Prelude.{◌≡◌, ◌+◌, ◌≤◌, ◌<◌, nat_lt, []};
 ghost use Rattle.std.specs.List.{list_any};
 ghost use Rattle.verdict.specs.Rules.{first_failing};
-ghost use Rattle.chunk_map.specs.MapRules.{chunk_finding, same_chunk, array_rows, meets_chunk, rows_of_chunk, rows_by_start, second_rows, starts_inside, last_before};
+ghost use Rattle.volume_items.specs.MapRules.{chunk_finding, same_chunk, array_rows, meets_chunk, rows_of_chunk, rows_by_start, second_rows, starts_inside, last_before};
 
 use crate::copies::{common, ends_by, meets};
 use verdict::{Chunk, Family, Finding, Key, Rule};

@@ -3,24 +3,17 @@ use Rattle.std.proofs.Common.{◌≡◌, ℕ, zero, suc, ◌+◌, ◌-◌, ◌<�
 use Rattle.std.specs.Prelude.{Option, Some, None, Ok, Err}
 use Rattle.verdict.specs.declared.finding.Finding.{Finding}
 use Rattle.node_reader.specs.Places.{each_from}
-use Rattle.node_reader.specs.Faults.{block_fault, block_of, finding_or_block}
+use Rattle.verdict.proofs.Tables.{finding_or-ok, finding_or-err}
+use Rattle.node_reader.specs.Faults.{block_fault, block_of}
 use Rattle.node_reader.specs.declared.expect.Expect.{Expect}
-
-finding_or_block-ok : (found : Option Finding) (bytes block : List ℕ) → finding_or_block found bytes ≡ Ok block → (found ≡ None) × (block ≡ bytes)
-finding_or_block-ok None bytes block is = (refl, cc)
-finding_or_block-ok (Some finding) bytes block is = cc
-
-finding_or_block-err : (found : Option Finding) (bytes : List ℕ) (finding : Finding) → finding_or_block found bytes ≡ Err finding → found ≡ Some finding
-finding_or_block-err None bytes finding is = cc
-finding_or_block-err (Some first) bytes finding is = cc
 
 -- a block that is read breaks no rule, and is seen as the bytes
 pub block_read : (bytes fsid : List ℕ) (e : Expect) (block : List ℕ) → block_of bytes fsid e ≡ Ok block → (block_fault bytes fsid e ≡ None) × (block ≡ bytes)
-block_read bytes fsid e block is = finding_or_block-ok (block_fault bytes fsid e) bytes block is
+block_read bytes fsid e block is = finding_or-ok (block_fault bytes fsid e) bytes block is
 
 -- a block that is not read has the finding of the first rule that it breaks
 pub block_refused : (bytes fsid : List ℕ) (e : Expect) (finding : Finding) → block_of bytes fsid e ≡ Err finding → block_fault bytes fsid e ≡ Some finding
-block_refused bytes fsid e finding is = finding_or_block-err (block_fault bytes fsid e) bytes finding is
+block_refused bytes fsid e finding is = finding_or-err (block_fault bytes fsid e) bytes finding is
 
 each_of_some : {A : Type 0} (entry : ℕ → A) (at n : ℕ) → each_from entry at (suc n) ≡ entry at ∷ each_from entry (suc at) n
 unfolding each_from

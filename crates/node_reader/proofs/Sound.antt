@@ -8,33 +8,8 @@ use Rattle.node_reader.specs.Places.{least_from}
 use Rattle.node_reader.specs.Layout.{count_of, level_of, entry_size, item_offset, item_size, IsSound}
 use Rattle.node_reader.specs.Faults.{header_rules, count_rules, key_rules, body_rules, block_fault, misplaced_at, end_before, room_of, needs_entry}
 use Rattle.node_reader.specs.declared.expect.Expect.{Expect}
-use Rattle.node_reader.proofs.Steps.{first_failing_joined, found_or, least_of_some, misplaced_is, room_fits}
-
-found_or_none : (first second : Option Finding) → found_or first second ≡ None → (first ≡ None) × (second ≡ None)
-found_or_none None second is = (refl, is)
-found_or_none (Some finding) second is = cc
-
--- each part of a table in two parts is kept where the whole is
-pub joined_kept : (first second : List TableRow) → first_failing (first ++ second) ≡ None → (first_failing first ≡ None) × (first_failing second ≡ None)
-joined_kept first second is = found_or_none (first_failing first) (first_failing second) (sym (first_failing_joined first second) ∙ is)
-
-kept_first : (row : TableRow) (rows : List TableRow) → first_failing (row ∷ rows) ≡ None → (row.fails ≡ false) × (first_failing rows ≡ None)
-kept_first row rows is =
-    let split : (fails : Bool) → cond fails (Some row.finding) (first_failing rows) ≡ None → (fails ≡ false) × (first_failing rows ≡ None) =
-    λ fails. elim fails as (λ b. cond b (Some row.finding) (first_failing rows) ≡ None → (b ≡ false) × (first_failing rows ≡ None)) [ true ↦ λ e. cc | false ↦ λ e. (refl, e) ]
-    in split row.fails is
-
--- whether the rule at a place of a table fails
-abbrev pub fails_at : ℕ → List TableRow → Bool
-fails_at n [] = false
-fails_at zero (row ∷ rows) = row.fails
-fails_at (suc n) (row ∷ rows) = fails_at n rows
-
--- each rule of a table is kept where no finding comes of it
-pub kept_at : (n : ℕ) (rows : List TableRow) → first_failing rows ≡ None → fails_at n rows ≡ false
-kept_at n [] is = refl
-kept_at zero (row ∷ rows) is = (kept_first row rows is).0
-kept_at (suc n) (row ∷ rows) is = kept_at n rows (kept_first row rows is).1
+use Rattle.verdict.proofs.Tables.{first_failing_joined, joined_none, kept_at}
+use Rattle.node_reader.proofs.Steps.{least_of_some, misplaced_is, room_fits}
 
 same_of_not : (a b : ℕ) → not (a == b) ≡ false → a ≡ b
 same_of_not a b is = grind (arith, common_steps)
@@ -122,9 +97,9 @@ items_placed bytes e kept leaf =
 pub sound : (bytes fsid : List ℕ) (e : Expect) → 101 ≤ length bytes → block_fault bytes fsid e ≡ None → IsSound bytes
 unfolding block_fault
 sound bytes fsid e header kept =
-    let split = joined_kept (header_rules bytes fsid e) (count_rules bytes e ++ (key_rules bytes e ++ body_rules bytes e)) kept in
-    let rest = joined_kept (count_rules bytes e) (key_rules bytes e ++ body_rules bytes e) split.1 in
-    let body = (joined_kept (key_rules bytes e) (body_rules bytes e) rest.1).1 in
+    let split = joined_none (header_rules bytes fsid e) (count_rules bytes e ++ (key_rules bytes e ++ body_rules bytes e)) kept in
+    let rest = joined_none (count_rules bytes e) (key_rules bytes e ++ body_rules bytes e) split.1 in
+    let body = (joined_none (key_rules bytes e) (body_rules bytes e) rest.1).1 in
     let level : level_of bytes ≡ e.level = level_kept bytes fsid e split.0 in
     record {
       header = header;
@@ -142,6 +117,6 @@ pub ruleset fault_steps = (first_failing_joined, count_fits, count_some)
 pub fault_free_level : (bytes fsid : List ℕ) (e : Expect) → block_fault bytes fsid e ≡ None → level_of bytes ≡ e.level
 unfolding block_fault
 fault_free_level bytes fsid e kept =
-    level_kept bytes fsid e (joined_kept (header_rules bytes fsid e) (count_rules bytes e ++ (key_rules bytes e ++ body_rules bytes e)) kept).0
+    level_kept bytes fsid e (joined_none (header_rules bytes fsid e) (count_rules bytes e ++ (key_rules bytes e ++ body_rules bytes e)) kept).0
 
 pub ruleset block_steps = (sound, fault_free_level)

@@ -3,22 +3,10 @@ use Rattle.std.proofs.Common.{◌≡◌, ℕ, zero, suc, ◌+◌, ◌-◌, ◌*�
 use Rattle.std.proofs.Math.Nat.{mul-suc, mul-le-mul_left, mul-div-le}
 use Rattle.std.specs.Prelude.{Option, Some, None, ◌/◌, ◌==◌, ◌||◌, nat_lt}
 use Rattle.recon_bytes.specs.Field.{field}
-use Rattle.node_reader.specs.Layout.{generation_of, entry_start, entry_key, key_below, item_offset, item_size}
+use Rattle.verdict.specs.OnDisk.{key_below}
+use Rattle.node_reader.specs.Layout.{generation_of, entry_start, entry_key, item_offset, item_size}
 use Rattle.node_reader.specs.Faults.{disordered_at, newer_at, misplaced_at, end_before}
-use Rattle.verdict.specs.Rules.{TableRow, first_failing}
-use Rattle.verdict.specs.declared.finding.Finding.{Finding}
 use Rattle.node_reader.specs.Places.{least_from}
-
-abbrev pub found_or : Option Finding → Option Finding → Option Finding
-found_or (Some finding) rest = Some finding
-found_or None rest = rest
-
--- of a table in two parts, the first rule that fails is that of the first part, else of the second
-pub first_failing_joined : (first second : List TableRow) → first_failing (first ++ second) ≡ found_or (first_failing first) (first_failing second)
-first_failing_joined [] second = refl
-first_failing_joined (row ∷ rows) second =
-    elim row.fails as (λ fails. cond fails (Some row.finding) (first_failing (rows ++ second)) ≡ found_or (cond fails (Some row.finding) (first_failing rows)) (first_failing second))
-    [ true ↦ refl | false ↦ first_failing_joined rows second ]
 
 -- the least of some places is the first or one of the others
 pub least_of_some : (test : ℕ → Bool) (at n : ℕ) → least_from test at (suc n) ≡ cond (test at) (Some at) (least_from test (suc at) n)

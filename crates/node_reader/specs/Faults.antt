@@ -3,13 +3,14 @@ use Rattle.std.specs.Prelude.{ℕ, ◌+◌, ◌-◌, ◌*◌, ◌/◌, zero, suc
 use Rattle.recon_bytes.specs.Field.{field}
 use Rattle.recon_crc.specs.Checksum.{crc32c_of}
 use Rattle.verdict.specs.Image.{range}
-use Rattle.verdict.specs.Rules.{TableRow, first_failing, no_key}
+use Rattle.verdict.specs.Rules.{TableRow, first_failing, finding_or, no_key}
+use Rattle.verdict.specs.OnDisk.{key_below, key_same}
 use Rattle.verdict.specs.declared.key.Key.{Key}
 use Rattle.verdict.specs.declared.finding.Finding.{Finding}
 use Rattle.verdict.specs.declared.finding.Family.{Family}
 use Rattle.verdict.specs.declared.finding.Family.TheVariants.{N, U}
 use Rattle.node_reader.specs.Places.{least_from, place_or_zero}
-use Rattle.node_reader.specs.Layout.{generation_of, count_of, level_of, entry_size, entry_start, entry_key, key_below, key_same, item_offset, item_size}
+use Rattle.node_reader.specs.Layout.{generation_of, count_of, level_of, entry_size, entry_start, entry_key, item_offset, item_size}
 use Rattle.node_reader.specs.declared.expect.Expect.{Expect}
 
 -- the low key, or (0, 0, 0) where there is none
@@ -113,11 +114,6 @@ block_rules bytes fsid e = header_rules bytes fsid e ++ (count_rules bytes e ++ 
 unfoldable pub block_fault : List ℕ → List ℕ → Expect → Option Finding
 block_fault bytes fsid e = first_failing (block_rules bytes fsid e)
 
--- the finding, where there is one, else the block
-abbrev pub finding_or_block : Option Finding → List ℕ → Result (List ℕ) Finding
-finding_or_block (Some finding) bytes = Err finding
-finding_or_block None bytes = Ok bytes
-
 -- what the reader makes of a block's bytes: the finding of the first rule that they break, else the block
 abbrev pub block_of : List ℕ → List ℕ → Expect → Result (List ℕ) Finding
-block_of bytes fsid e = finding_or_block (block_fault bytes fsid e) bytes
+block_of bytes fsid e = finding_or (block_fault bytes fsid e) bytes

@@ -9,10 +9,6 @@ use Rattle.verdict.specs.declared.key.Key.{Key}
 use Rattle.node_reader.specs.Places.{each_from}
 use Rattle.node_reader.specs.declared.expect.Pointer.{Pointer}
 
--- the sizes in bytes that a tree block may have
-abbrev pub is_block_size : ℕ → Bool
-is_block_size n = n == 4096 || n == 8192 || n == 16384 || n == 32768 || n == 65536
-
 -- the header's generation
 abbrev pub generation_of : List ℕ → ℕ
 generation_of bytes = field 8 bytes 0x50
@@ -36,14 +32,6 @@ entry_start size place = 101 + size * place
 -- the key of the entry at a place
 abbrev pub entry_key : List ℕ → ℕ → ℕ → Key
 entry_key bytes size place = key_of bytes (entry_start size place)
-
--- whether a key stands before another: by objectid, then kind, then offset
-abbrev pub key_below : Key → Key → Bool
-key_below a b = nat_lt a.objectid b.objectid || (a.objectid == b.objectid && (nat_lt a.kind b.kind || (a.kind == b.kind && nat_lt a.offset b.offset)))
-
--- whether two keys are one
-abbrev pub key_same : Key → Key → Bool
-key_same a b = a.objectid == b.objectid && (a.kind == b.kind && a.offset == b.offset)
 
 -- the pointer at a place of a node
 abbrev pub pointer_of : List ℕ → ℕ → Pointer

@@ -1,14 +1,16 @@
 //! A tree block that breaks no rule, lent with its bytes.
 
 ghost use Rattle.std.specs.Prelude.{◌≡◌, ◌<◌, length, true, IfOk};
-ghost use Rattle.node_reader.specs.Layout.{is_block_size, count_of, level_of, pointer_of, item_of};
+ghost use Rattle.verdict.specs.Trees.{is_node_size};
+ghost use Rattle.node_reader.specs.Layout.{count_of, level_of, pointer_of, item_of};
 ghost use Rattle.node_reader.specs.Faults.{block_of};
 
-use crate::fields::{key, long, word};
+use crate::entries::{HEADER, ITEM, POINTER};
 use crate::rules::fault_of;
 use crate::{Expect, Pointer};
+use recon_bytes::{get_u32, get_u64};
 use std::marker::Model;
-use verdict::{Finding, Key};
+use verdict::{Finding, Key, get_key};
 
 /// A tree block that breaks no rule, seen as its bytes.
 #[derive(Drop)]
@@ -39,14 +41,14 @@ pub fn read_block<'a>(
     fsid: &[u8; 16],
     expect: &Expect,
 ) -> Result<Block<'a>, Finding>
-    requires { is_block_size (length bytes.now) ≡ true }
+    requires { is_node_size (length bytes.now) ≡ true }
     ensures block { result ≡ block_of bytes.now fsid.now expect.now }
     ensures level { IfOk result (λ b. level_of b ≡ expect.now.level) }
 {
     match fault_of(bytes, fsid, expect) {
         Some(finding) => Err(finding),
         None => {
-            let count = word(bytes, 0x60);
+            let count = get_u32(bytes, 0x60);
             Ok(Block { bytes, count })
         },
     }
@@ -66,11 +68,11 @@ impl<'a> Block<'a> {
         requires below { i < count_of self.now }
         ensures { result ≡ pointer_of self.now i }
     {
-        let start = 101 + 33 * i as usize;
+        let start = HEADER + POINTER * i as usize;
         Pointer {
-            key: key(self.bytes, start),
-            address: long(self.bytes, start + 17),
-            generation: long(self.bytes, start + 25),
+            key: get_key(self.bytes, start),
+            address: get_u64(self.bytes, start + 17),
+            generation: get_u64(self.bytes, start + 25),
         }
     }
 
@@ -81,9 +83,9 @@ impl<'a> Block<'a> {
         ensures key { result.0 ≡ (item_of self.now i).key }
         ensures bytes { result.1.now ≡ (item_of self.now i).bytes }
     {
-        let entry = 101 + 25 * i as usize;
-        let start = 101 + word(self.bytes, entry + 17) as usize;
-        let size = word(self.bytes, entry + 21) as usize;
-        (key(self.bytes, entry), &self.bytes[start..start + size])
+        let entry = HEADER + ITEM * i as usize;
+        let start = HEADER + get_u32(self.bytes, entry + 17) as usize;
+        let size = get_u32(self.bytes, entry + 21) as usize;
+        (get_key(self.bytes, entry), &self.bytes[start..start + size])
     }
 }

@@ -1,28 +1,21 @@
 //! The entries of a block, behind its header: their keys, a node's pointers and a leaf's items.
 
-ghost use Rattle.std.specs.Prelude.{◌≡◌, ◌+◌, ◌-◌, ◌*◌, ◌≤◌, ◌<◌, length, not};
+ghost use Rattle.std.specs.Prelude.{◌≡◌, ◌+◌, ◌-◌, ◌*◌, ◌≤◌, ◌<◌, length};
 ghost use Rattle.node_reader.specs.Places.{least_from};
-ghost use Rattle.node_reader.specs.Layout.{generation_of, key_below, key_same};
+ghost use Rattle.node_reader.specs.Layout.{generation_of};
 ghost use Rattle.node_reader.specs.Faults.{disordered_at, newer_at, misplaced_at};
 
-use crate::fields::{key, long, word};
-use verdict::Key;
+use recon_bytes::{get_u32, get_u64};
+use verdict::get_key;
 
-/// Whether `a` stands before `b`.
-pub(crate) fn is_below(a: &Key, b: &Key) -> bool
-    ensures { result ≡ key_below a.now b.now }
-{
-    a.objectid < b.objectid
-        || (a.objectid == b.objectid
-            && (a.kind < b.kind || (a.kind == b.kind && a.offset < b.offset)))
-}
+/// The size of a block's header in bytes.
+pub(crate) const HEADER: usize = 101;
 
-/// Whether `a` and `b` are one key.
-pub(crate) fn is_same(a: &Key, b: &Key) -> bool
-    ensures { result ≡ key_same a.now b.now }
-{
-    a.objectid == b.objectid && (a.kind == b.kind && a.offset == b.offset)
-}
+/// The size of a pointer of a node in bytes.
+pub(crate) const POINTER: usize = 33;
+
+/// The size of an item's entry in a leaf in bytes, which is its key, offset and size.
+pub(crate) const ITEM: usize = 25;
 
 /// The least place of `count` entries of `size` bytes whose key is not above the one before.
 #[tactic(auto, using(crate::proofs::Steps::disorder_steps))]
@@ -34,10 +27,10 @@ pub(crate) fn disorder(bytes: &[u8], size: usize, count: usize) -> Option<usize>
     if count == 0 {
         return None;
     }
-    let mut before = key(bytes, 101);
+    let mut before = get_key(bytes, HEADER);
     for place in 1..count {
-        let here = key(bytes, 101 + size * place);
-        if !is_below(&before, &here) {
+        let here = get_key(bytes, HEADER + size * place);
+        if !before.is_below(&here) {
             return Some(place);
         }
         before = here;
@@ -53,7 +46,7 @@ pub(crate) fn newer(bytes: &[u8], generation: u64, count: usize) -> Option<usize
     ensures { result ≡ least_from (newer_at bytes.now) 0 count }
 {
     for place in 0..count {
-        if long(bytes, 126 + 33 * place) > generation {
+        if get_u64(bytes, HEADER + POINTER * place + 25) > generation {
             return Some(place);
         }
     }
@@ -67,11 +60,11 @@ pub(crate) fn misplaced(bytes: &[u8], count: usize) -> Option<usize>
     requires fits { 101 + 25 * count ≤ length bytes.now }
     ensures { result ≡ least_from (misplaced_at bytes.now count) 0 count }
 {
-    let floor = 25 * count as u64;
-    let mut end = (bytes.len() - 101) as u64;
+    let floor = (ITEM * count) as u64;
+    let mut end = (bytes.len() - HEADER) as u64;
     for place in 0..count {
-        let offset = u64::from(word(bytes, 118 + 25 * place));
-        let size = u64::from(word(bytes, 122 + 25 * place));
+        let offset = u64::from(get_u32(bytes, HEADER + ITEM * place + 17));
+        let size = u64::from(get_u32(bytes, HEADER + ITEM * place + 21));
         if offset + size != end || offset < floor {
             return Some(place);
         }

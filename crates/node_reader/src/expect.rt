@@ -1,6 +1,9 @@
 //! What the walk of a tree knows of a block before it reads it.
 
-use verdict::Key;
+ghost use Rattle.std.specs.Prelude.{◌≡◌};
+ghost use Rattle.node_reader.specs.Faults.{block_finding};
+
+use verdict::{Family, Finding, Key, Rule};
 
 /// What is expected of a tree block by whatever points to it.
 #[derive(Clone, Copy, Debug, PartialEq, Eq)]
@@ -17,6 +20,22 @@ pub struct Expect {
     pub low: Option<Key>,
     /// The key that all its keys are below, or `None` on the rightmost path of a tree.
     pub high: Option<Key>,
+}
+
+impl Expect {
+    /// The finding of a rule on the block that is expected: its tree, its address, and its low key or
+    /// (0, 0, 0).
+    pub fn finding(&self, family: Family, number: u8, detail: u64) -> Finding
+        ensures { result ≡ block_finding self.now family number detail }
+    {
+        Finding {
+            rule: Rule { family, number },
+            tree: self.tree,
+            block: self.address,
+            key: self.low.unwrap_or(Key::none()),
+            detail,
+        }
+    }
 }
 
 /// A pointer of a node to a block one level below: 33 bytes of the node.

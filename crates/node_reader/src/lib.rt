@@ -5,7 +5,6 @@
 mod block;
 mod entries;
 mod expect;
-mod fields;
 mod rules;
 
 pub use block::{Block, read_block};

@@ -5,13 +5,13 @@ ghost use Rattle.recon_crc.specs.Checksum.{crc32c_of};
 ghost use Rattle.verdict.specs.Image.{range};
 ghost use Rattle.verdict.specs.Rules.{first_failing};
 ghost use Rattle.node_reader.specs.Layout.{count_of, entry_size};
-ghost use Rattle.node_reader.specs.Faults.{block_finding, needs_entry, differs_from, reaches, header_rules, count_rules, key_rules, body_rules, block_fault};
+ghost use Rattle.node_reader.specs.Faults.{needs_entry, header_rules, count_rules, key_rules, body_rules, block_fault};
 
 use crate::Expect;
-use crate::entries::{disorder, is_below, is_same, misplaced, newer};
-use crate::fields::{key, long, word};
+use crate::entries::{HEADER, ITEM, POINTER, disorder, misplaced, newer};
+use recon_bytes::{get_u32, get_u64};
 use recon_crc::crc32c;
-use verdict::{Family, Finding, Key, Rule};
+use verdict::{Family, Finding, get_key};
 
 /// The finding of the first rule that a block breaks.
 #[tactic(auto, using(crate::proofs::Sound::fault_steps), unfolding(crate::specs::Faults::block_fault))]
@@ -38,30 +38,30 @@ fn header_fault(bytes: &[u8], fsid: &[u8; 16], e: &Expect) -> Option<Finding>
     ensures { result ≡ first_failing (header_rules bytes.now fsid.now e.now) }
 {
     let sum = sum_of(bytes);
-    if sum != word(bytes, 0) {
-        return Some(finding(e, Family::N, 3, u64::from(sum)));
+    if sum != get_u32(bytes, 0) {
+        return Some(e.finding(Family::N, 3, u64::from(sum)));
     }
     if !has_fsid(bytes, fsid) {
-        return Some(finding(e, Family::N, 4, 0));
+        return Some(e.finding(Family::N, 4, 0));
     }
-    let address = long(bytes, 0x30);
+    let address = get_u64(bytes, 0x30);
     if address != e.address {
-        return Some(finding(e, Family::N, 5, address));
+        return Some(e.finding(Family::N, 5, address));
     }
     if bytes[0x38] & 2 == 2 {
-        return Some(finding(e, Family::U, 12, 0));
+        return Some(e.finding(Family::U, 12, 0));
     }
-    let owner = long(bytes, 0x58);
+    let owner = get_u64(bytes, 0x58);
     if owner != e.tree {
-        return Some(finding(e, Family::N, 6, owner));
+        return Some(e.finding(Family::N, 6, owner));
     }
-    let generation = long(bytes, 0x50);
+    let generation = get_u64(bytes, 0x50);
     if generation != e.generation {
-        return Some(finding(e, Family::N, 7, generation));
+        return Some(e.finding(Family::N, 7, generation));
     }
     let level = bytes[0x64];
     if level != e.level {
-        return Some(finding(e, Family::N, 8, u64::from(level)));
+        return Some(e.finding(Family::N, 8, u64::from(level)));
     }
     None
 }
@@ -72,10 +72,10 @@ fn count_fault(bytes: &[u8], e: &Expect) -> Option<Finding>
     requires { 101 ≤ length bytes.now }
     ensures { result ≡ first_failing (count_rules bytes.now e.now) }
 {
-    let count = word(bytes, 0x60);
-    let room = (bytes.len() - 101) / size_of_entry(e);
+    let count = get_u32(bytes, 0x60);
+    let room = (bytes.len() - HEADER) / size_of_entry(e);
     if count as usize > room || (count == 0 && must_have_entry(e)) {
-        return Some(finding(e, Family::N, 9, u64::from(count)));
+        return Some(e.finding(Family::N, 9, u64::from(count)));
     }
     None
 }
@@ -89,20 +89,20 @@ fn key_fault(bytes: &[u8], e: &Expect) -> Option<Finding>
     ensures { result ≡ first_failing (key_rules bytes.now e.now) }
 {
     let size = size_of_entry(e);
-    let count = word(bytes, 0x60) as usize;
+    let count = get_u32(bytes, 0x60) as usize;
     if let Some(low) = e.low
-        && !is_same(&low, &key(bytes, 101))
+        && low != get_key(bytes, HEADER)
     {
-        return Some(finding(e, Family::N, 10, 0));
+        return Some(e.finding(Family::N, 10, 0));
     }
     if let Some(place) = disorder(bytes, size, count) {
-        return Some(finding(e, Family::N, 11, place as u64));
+        return Some(e.finding(Family::N, 11, place as u64));
     }
     if let Some(high) = e.high
         && count > 0
-        && !is_below(&key(bytes, 101 + size * (count - 1)), &high)
+        && !get_key(bytes, HEADER + size * (count - 1)).is_below(&high)
     {
-        return Some(finding(e, Family::N, 12, (count - 1) as u64));
+        return Some(e.finding(Family::N, 12, (count - 1) as u64));
     }
     None
 }
@@ -114,35 +114,13 @@ fn body_fault(bytes: &[u8], e: &Expect) -> Option<Finding>
     requires fits { 101 + entry_size e.now.level * count_of bytes.now ≤ length bytes.now }
     ensures { result ≡ first_failing (body_rules bytes.now e.now) }
 {
-    let count = word(bytes, 0x60) as usize;
+    let count = get_u32(bytes, 0x60) as usize;
     if e.level == 0 {
         let place = misplaced(bytes, count)?;
-        Some(finding(e, Family::N, 14, place as u64))
+        Some(e.finding(Family::N, 14, place as u64))
     } else {
-        let place = newer(bytes, long(bytes, 0x50), count)?;
-        Some(finding(e, Family::N, 13, place as u64))
-    }
-}
-
-/// A finding of the block that is expected.
-fn finding(e: &Expect, family: Family, number: u8, detail: u64) -> Finding
-    ensures { result ≡ block_finding e.now family number detail }
-{
-    let key = match e.low {
-        Some(low) => low,
-        None => Key {
-            objectid: 0,
-            kind: 0,
-            offset: 0,
-        },
-    };
-    let rule = Rule { family, number };
-    Finding {
-        rule,
-        tree: e.tree,
-        block: e.address,
-        key,
-        detail,
+        let place = newer(bytes, get_u64(bytes, 0x50), count)?;
+        Some(e.finding(Family::N, 13, place as u64))
     }
 }
 
@@ -166,7 +144,7 @@ fn has_fsid(bytes: &[u8], fsid: &[u8; 16]) -> bool
 fn size_of_entry(e: &Expect) -> usize
     ensures { result ≡ entry_size e.now.level }
 {
-    if e.level == 0 { 25 } else { 33 }
+    if e.level == 0 { ITEM } else { POINTER }
 }
 
 /// Whether the block that is expected may not be empty.

@@ -1,7 +1,7 @@
 //! Leaves and nodes that the tests build, and what they become with a field or two changed.
 
 ghost use Rattle.std.specs.Prelude.{◌≡◌, length, true};
-ghost use Rattle.node_reader.specs.Layout.{is_block_size};
+ghost use Rattle.verdict.specs.Trees.{is_node_size};
 
 use crate::{Expect, Pointer, read_block};
 use recon_crc::crc32c;
@@ -101,7 +101,7 @@ fn found(family: Family, number: u8, detail: u64) -> Option<Finding> {
 }
 
 fn fault(bytes: &[u8], e: &Expect) -> Option<Finding>
-    requires { is_block_size (length bytes.now) ≡ true }
+    requires { is_node_size (length bytes.now) ≡ true }
 {
     match read_block(bytes, &FSID, e) {
         Ok(_) => None,

@@ -1,10 +1,12 @@
 -- The superblock: its fields, and the rules that it is judged by, in their order. Offsets are in bytes
 -- from the superblock's first byte.
-use Rattle.std.specs.Prelude.{ℕ, ◌+◌, ◌^◌, Bool, not, ◌&&◌, ◌||◌, ◌==◌, nat_lt, List, [], ◌∷◌, ◌++◌, drop, slice_index, bit_and, Option, Some, None, Result, Ok, Err}
+use Rattle.std.specs.Prelude.{ℕ, ◌≡◌, ◌≤◌, ◌+◌, ◌^◌, Bool, not, true, ◌&&◌, ◌==◌, nat_lt, List, [], ◌∷◌, ◌++◌, drop, slice_index, bit_and, Result}
 use Rattle.recon_bytes.specs.Field.{field}
 use Rattle.recon_crc.specs.Checksum.{crc32c_of}
 use Rattle.verdict.specs.Image.{range}
-use Rattle.verdict.specs.Rules.{TableRow, first_failing, image_rule}
+use Rattle.verdict.specs.Rules.{TableRow, first_failing, finding_or, image_rule}
+use Rattle.verdict.specs.Trees.{is_node_size, sort_of}
+use Rattle.verdict.specs.declared.place.At.{At}
 use Rattle.verdict.specs.declared.finding.Finding.{Finding}
 use Rattle.verdict.specs.declared.finding.Family.TheVariants.{S, U}
 use Rattle.super_reader.specs.declared.Super.{Super}
@@ -33,10 +35,6 @@ has_all word bits = bit_and word bits == bits
 -- whether a word has no bit outside a set
 abbrev pub has_only : ℕ → ℕ → Bool
 has_only word bits = bit_and word bits == word
-
--- the sizes in bytes that a tree block may have
-abbrev pub is_node_size : ℕ → Bool
-is_node_size n = n == 4096 || n == 8192 || n == 16384 || n == 32768 || n == 65536
 
 -- the rules of the superblock in their order: where each fails, its name and its detail. First what
 -- tells that it is one: magic, checksum kind, checksum and own place
@@ -91,11 +89,28 @@ superblock_fields bytes = record {
   array = range 0x32b 2048 bytes;
 }
 
--- the finding, where there is one, else the fields
-abbrev pub finding_or : Option Finding → Super → Result Super Finding
-finding_or (Some finding) fields = Err finding
-finding_or None fields = Ok fields
-
 -- what a superblock's 4096 bytes say: the finding of the first rule that fails, else the fields
 unfoldable pub superblock_of : List ℕ → Result Super Finding
 superblock_of bytes = finding_or (first_failing (superblock_rules bytes)) (superblock_fields bytes)
+
+-- what an accepted superblock keeps: a node size of the five, and an array that lies inside its 2048 bytes
+pub record IsReadable (sup : Super) : Type 0 where
+  pub nodesize : is_node_size sup.nodesize ≡ true
+  pub array : sup.array_size ≤ 2048
+
+-- the place of an item of a tree, in the leaf at an address whose header has a generation
+abbrev pub item_place : Super → ℕ → ℕ → ℕ → At
+item_place sup tree block generation = record {
+  tree = tree;
+  sort = sort_of tree;
+  block = block;
+  generation = generation;
+  nodesize = sup.nodesize;
+  devid = sup.devid;
+  incompat = sup.incompat;
+  compat_ro = sup.compat_ro;
+}
+
+-- the place of the items of the system chunk array: the chunk tree, and no leaf of it
+abbrev pub array_place : Super → At
+array_place sup = item_place sup 3 0 sup.chunk_root_generation

@@ -1,16 +1,24 @@
 //! The superblock of a Btrfs image: the rules that it must keep, and its fields.
 #![tactic(auto)]
 
-ghost use Rattle.std.specs.Prelude.{◌≡◌, ◌+◌, ◌≤◌, drop};
+ghost use Rattle.std.specs.Prelude.{◌≡◌, drop, IfOk};
 ghost use Rattle.recon_crc.specs.Checksum.{crc32c_of};
-ghost use Rattle.recon_bytes.specs.Field.{field};
 ghost use Rattle.verdict.specs.Image.{range};
-ghost use Rattle.verdict.specs.Rules.{image_finding, first_failing};
-ghost use Rattle.super_reader.specs.Superblock.{identity_rules, feature_rules, limit_rules, superblock_rules, superblock_fields, superblock_of, is_node_size};
+ghost use Rattle.verdict.specs.Rules.{first_failing};
+ghost use Rattle.super_reader.specs.Superblock.{
+  identity_rules,
+  feature_rules,
+  limit_rules,
+  superblock_rules,
+  superblock_fields,
+  superblock_of,
+  item_place,
+  IsReadable,
+};
 
-use recon_bytes::{u16_at, u32_at, u64_at};
+use recon_bytes::{get_u16, get_u32, get_u64};
 use recon_crc::crc32c;
-use verdict::{Family, Finding, Key, Rule};
+use verdict::{At, Family, Finding, TreeSort, is_node_size};
 
 /// The eight bytes `_BHRfS_M` at 0x40, as a number whose lowest byte is the first.
 const MAGIC: u64 = 0x4D5F_5366_5248_425F;
@@ -63,13 +71,32 @@ pub struct Super {
     pub array: [u8; 2048],
 }
 
+impl Super {
+    /// The place of an item of a tree, in the leaf at a logical address whose header has a generation.
+    pub fn place(&self, tree: u64, block: u64, generation: u64) -> At
+        ensures { result ≡ item_place self.now tree block generation }
+    {
+        At {
+            tree,
+            sort: TreeSort::of(tree),
+            block,
+            generation,
+            nodesize: self.nodesize,
+            devid: self.devid,
+            incompat: self.incompat,
+            compat_ro: self.compat_ro,
+        }
+    }
+}
+
 /// The fields of the superblock in these bytes, or the finding of the first rule that they break, in
 /// the order magic (S2), checksum kind (U1), checksum (S3), own place (S4), incompat bits (U2),
 /// compat_ro bits (U3), sector size (U4), node size (S5), number of devices (U5), levels (S6) and size
 /// of the system chunk array (S8).
 #[tactic(auto, unfolding(crate::specs::Superblock::superblock_of))]
 pub fn read_super(bytes: &[u8; 4096]) -> Result<Super, Finding>
-    ensures { result ≡ superblock_of bytes.now }
+    ensures rules { result ≡ superblock_of bytes.now }
+    ensures readable { IfOk result IsReadable }
 {
     match fault_of(bytes) {
         Some(finding) => Err(finding),
@@ -78,7 +105,7 @@ pub fn read_super(bytes: &[u8; 4096]) -> Result<Super, Finding>
 }
 
 /// The finding of the first rule of the superblock that the bytes break.
-#[tactic(auto, using(crate::proofs::Parts::first_failing_joined))]
+#[tactic(auto, using(verdict::proofs::Tables::first_failing_joined))]
 fn fault_of(bytes: &[u8; 4096]) -> Option<Finding>
     ensures { result ≡ first_failing (superblock_rules bytes.now) }
 {
@@ -96,20 +123,20 @@ fn fault_of(bytes: &[u8; 4096]) -> Option<Finding>
 fn identity_fault(bytes: &[u8; 4096]) -> Option<Finding>
     ensures { result ≡ first_failing (identity_rules bytes.now) }
 {
-    if long_at(bytes, 0x40) != MAGIC {
-        return Some(finding(Family::S, 2, 0));
+    if get_u64(bytes, 0x40) != MAGIC {
+        return Some(Finding::of_image(Family::S, 2, 0));
     }
-    let kind = short_at(bytes, 0xc4);
+    let kind = get_u16(bytes, 0xc4);
     if kind != 0 {
-        return Some(finding(Family::U, 1, u64::from(kind)));
+        return Some(Finding::of_image(Family::U, 1, u64::from(kind)));
     }
     let sum = sum_of(bytes);
-    if sum != word_at(bytes, 0) {
-        return Some(finding(Family::S, 3, u64::from(sum)));
+    if sum != get_u32(bytes, 0) {
+        return Some(Finding::of_image(Family::S, 3, u64::from(sum)));
     }
-    let place = long_at(bytes, 0x30);
+    let place = get_u64(bytes, 0x30);
     if place != 65536 {
-        return Some(finding(Family::S, 4, place));
+        return Some(Finding::of_image(Family::S, 4, place));
     }
     None
 }
@@ -119,25 +146,25 @@ fn identity_fault(bytes: &[u8; 4096]) -> Option<Finding>
 fn feature_fault(bytes: &[u8; 4096]) -> Option<Finding>
     ensures { result ≡ first_failing (feature_rules bytes.now) }
 {
-    let incompat = long_at(bytes, 0xbc);
+    let incompat = get_u64(bytes, 0xbc);
     if incompat & NEEDED_INCOMPAT != NEEDED_INCOMPAT || incompat & ALLOWED_INCOMPAT != incompat {
-        return Some(finding(Family::U, 2, incompat));
+        return Some(Finding::of_image(Family::U, 2, incompat));
     }
-    let compat_ro = long_at(bytes, 0xb4);
+    let compat_ro = get_u64(bytes, 0xb4);
     if compat_ro & ALLOWED_COMPAT_RO != compat_ro {
-        return Some(finding(Family::U, 3, compat_ro));
+        return Some(Finding::of_image(Family::U, 3, compat_ro));
     }
-    let sectorsize = word_at(bytes, 0x90);
+    let sectorsize = get_u32(bytes, 0x90);
     if sectorsize != 4096 {
-        return Some(finding(Family::U, 4, u64::from(sectorsize)));
+        return Some(Finding::of_image(Family::U, 4, u64::from(sectorsize)));
     }
-    let nodesize = word_at(bytes, 0x94);
-    if !is_nodesize(nodesize) {
-        return Some(finding(Family::S, 5, u64::from(nodesize)));
+    let nodesize = get_u32(bytes, 0x94);
+    if !is_node_size(nodesize) {
+        return Some(Finding::of_image(Family::S, 5, u64::from(nodesize)));
     }
-    let devices = long_at(bytes, 0x88);
+    let devices = get_u64(bytes, 0x88);
     if devices != 1 {
-        return Some(finding(Family::U, 5, devices));
+        return Some(Finding::of_image(Family::U, 5, devices));
     }
     None
 }
@@ -148,14 +175,14 @@ fn limit_fault(bytes: &[u8; 4096]) -> Option<Finding>
     ensures { result ≡ first_failing (limit_rules bytes.now) }
 {
     if bytes[0xc6] > 7 {
-        return Some(finding(Family::S, 6, u64::from(bytes[0xc6])));
+        return Some(Finding::of_image(Family::S, 6, u64::from(bytes[0xc6])));
     }
     if bytes[0xc7] > 7 {
-        return Some(finding(Family::S, 6, u64::from(bytes[0xc7])));
+        return Some(Finding::of_image(Family::S, 6, u64::from(bytes[0xc7])));
     }
-    let array_size = word_at(bytes, 0xa0);
+    let array_size = get_u32(bytes, 0xa0);
     if array_size > 2048 {
-        return Some(finding(Family::S, 8, u64::from(array_size)));
+        return Some(Finding::of_image(Family::S, 8, u64::from(array_size)));
     }
     None
 }
@@ -166,20 +193,20 @@ fn fields_of(bytes: &[u8; 4096]) -> Super
 {
     Super {
         fsid: fsid_of(bytes),
-        generation: long_at(bytes, 0x48),
-        root: long_at(bytes, 0x50),
-        chunk_root: long_at(bytes, 0x58),
-        log_root: long_at(bytes, 0x60),
-        bytes_used: long_at(bytes, 0x78),
-        nodesize: word_at(bytes, 0x94),
-        incompat: long_at(bytes, 0xbc),
-        compat_ro: long_at(bytes, 0xb4),
-        chunk_root_generation: long_at(bytes, 0xa4),
+        generation: get_u64(bytes, 0x48),
+        root: get_u64(bytes, 0x50),
+        chunk_root: get_u64(bytes, 0x58),
+        log_root: get_u64(bytes, 0x60),
+        bytes_used: get_u64(bytes, 0x78),
+        nodesize: get_u32(bytes, 0x94),
+        incompat: get_u64(bytes, 0xbc),
+        compat_ro: get_u64(bytes, 0xb4),
+        chunk_root_generation: get_u64(bytes, 0xa4),
         root_level: bytes[0xc6],
         chunk_root_level: bytes[0xc7],
         log_root_level: bytes[0xc8],
-        devid: long_at(bytes, 0xc9),
-        array_size: word_at(bytes, 0xa0),
+        devid: get_u64(bytes, 0xc9),
+        array_size: get_u32(bytes, 0xa0),
         array: array_of(bytes),
     }
 }
@@ -207,63 +234,6 @@ fn sum_of(bytes: &[u8; 4096]) -> u32
     ensures { result ≡ crc32c_of (drop 0x20 bytes.now) }
 {
     crc32c(&bytes[0x20..])
-}
-
-/// Whether a tree block may have this size in bytes.
-fn is_nodesize(size: u32) -> bool
-    ensures { result ≡ is_node_size size }
-{
-    size == 4096 || size == 8192 || size == 16384 || size == 32768 || size == 65536
-}
-
-/// A finding of the whole image.
-fn finding(family: Family, number: u8, detail: u64) -> Finding
-    ensures { result ≡ image_finding family number detail }
-{
-    Finding {
-        rule: Rule { family, number },
-        tree: 0,
-        block: 0,
-        key: Key {
-            objectid: 0,
-            kind: 0,
-            offset: 0,
-        },
-        detail,
-    }
-}
-
-/// The two-byte number at byte `at`.
-fn short_at(bytes: &[u8; 4096], at: usize) -> u16
-    requires { at + 2 ≤ 4096 }
-    ensures { result ≡ field 2 bytes.now at }
-{
-    match u16_at(bytes, at) {
-        Some(number) => number,
-        None => unreachable!(),
-    }
-}
-
-/// The four-byte number at byte `at`.
-fn word_at(bytes: &[u8; 4096], at: usize) -> u32
-    requires { at + 4 ≤ 4096 }
-    ensures { result ≡ field 4 bytes.now at }
-{
-    match u32_at(bytes, at) {
-        Some(number) => number,
-        None => unreachable!(),
-    }
-}
-
-/// The eight-byte number at byte `at`.
-fn long_at(bytes: &[u8; 4096], at: usize) -> u64
-    requires { at + 8 ≤ 4096 }
-    ensures { result ≡ field 8 bytes.now at }
-{
-    match u64_at(bytes, at) {
-        Some(number) => number,
-        None => unreachable!(),
-    }
 }
 
 #[cfg(test)]

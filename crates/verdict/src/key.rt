@@ -1,7 +1,7 @@
 //! Keys, by which Btrfs orders the items of a tree.
 
 ghost use Rattle.std.specs.Prelude.{◌≡◌, ◌+◌, ◌≤◌, length, SomeIff};
-ghost use Rattle.verdict.specs.OnDisk.{key_of};
+ghost use Rattle.verdict.specs.OnDisk.{key_below, key_of};
 ghost use Rattle.verdict.specs.Rules.{no_key};
 
 use recon_bytes::u64_at;
@@ -30,6 +30,13 @@ impl Key {
             kind: 0,
             offset: 0,
         }
+    }
+
+    /// Whether this key stands before another.
+    pub fn is_below(&self, other: &Key) -> bool
+        ensures { result ≡ key_below self.now other.now }
+    {
+        self < other
     }
 }
 

@@ -2,12 +2,12 @@
 use Rattle.std.proofs.Common.{◌≡◌, ℕ, zero, suc, ◌-◌, ◌*◌, ◌/◌, ◌<◌, ◌≤◌, List, [], ◌∷◌, ◌++◌, length, take, drop, true, false, refl, ap, sym, ◌∙◌, cond, arith, length-drop}
 use Rattle.std.proofs.lemmas.Grind.{common_steps}
 use Rattle.std.specs.Prelude.{Option, Some, None, Ok, Err}
-use Rattle.verdict.specs.Rules.{TableRow, first_failing}
+use Rattle.verdict.specs.Rules.{TableRow, first_failing, finding_or}
 use Rattle.recon_bytes.specs.Field.{field}
 use Rattle.verdict.specs.declared.finding.Finding.{Finding}
 use Rattle.verdict.specs.declared.key.Key.{Key}
 use Rattle.verdict.specs.declared.place.At.{At}
-use Rattle.volume_items.specs.ChunkRow.{stripe_list, stripes_of, frame_rows, field_rows, stripe_rows, chunk_rows, chunk_row, chunk_fields, finding_or}
+use Rattle.volume_items.specs.ChunkRow.{stripe_list, stripes_of, frame_rows, field_rows, stripe_rows, chunk_rows, chunk_row, chunk_fields}
 
 abbrev pub found_or : Option Finding → Option Finding → Option Finding
 found_or (Some finding) rest = Some finding

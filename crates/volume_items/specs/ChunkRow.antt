@@ -2,7 +2,7 @@
 use Rattle.std.specs.Prelude.{ℕ, zero, suc, ◌+◌, ◌*◌, ◌/◌, ◌%◌, Bool, not, ◌||◌, ◌==◌, nat_lt, List, [], ◌∷◌, ◌++◌, length, drop, slice_get, bit_and, Option, Some, None, Result, Ok, Err, if◌then◌else◌}
 use Rattle.std.specs.Option.{option_map, unwrap_or}
 use Rattle.recon_bytes.specs.Field.{field}
-use Rattle.verdict.specs.Rules.{TableRow, first_failing}
+use Rattle.verdict.specs.Rules.{TableRow, first_failing, finding_or}
 use Rattle.verdict.specs.Items.{item_rule}
 use Rattle.verdict.specs.declared.key.Key.{Key}
 use Rattle.verdict.specs.declared.finding.Finding.{Finding}
@@ -90,11 +90,6 @@ chunk_fields key bytes = record {
   class = field 8 bytes 24;
   stripes = stripes_of (drop 48 bytes);
 }
-
--- the finding, where there is one, else the fields
-abbrev pub finding_or : Option Finding → ChunkFields → Result ChunkFields Finding
-finding_or (Some finding) fields = Err finding
-finding_or None fields = Ok fields
 
 -- what a chunk item says at its place: the finding of the first rule that fails, else its fields
 unfoldable pub chunk_row : At → Key → List ℕ → Result ChunkFields Finding

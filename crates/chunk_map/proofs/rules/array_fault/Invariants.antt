@@ -1,6 +1,6 @@
 use Rattle.std.proofs.Common.{◌≡◌, drop}
 use Rattle.verdict.specs.Rules.{first_failing}
-use Rattle.chunk_map.specs.MapRules.{array_rows}
+use Rattle.volume_items.specs.MapRules.{array_rows}
 use Rattle.chunk_map.proofs.rules.array_fault.Given as goal
 
 -- what is left decides

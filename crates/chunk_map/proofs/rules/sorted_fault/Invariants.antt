@@ -1,6 +1,6 @@
 use Rattle.std.proofs.Common.{◌≡◌, [], take, drop}
 use Rattle.verdict.specs.Rules.{first_failing}
-use Rattle.chunk_map.specs.MapRules.{rows_by_start}
+use Rattle.volume_items.specs.MapRules.{rows_by_start}
 use Rattle.chunk_map.proofs.rules.sorted_fault.Given as goal
 
 -- what is left, behind those so far, decides

@@ -7,7 +7,7 @@ use Rattle.verdict.specs.declared.finding.Finding.{Finding}
 use Rattle.verdict.specs.declared.finding.Family.{Family}
 use Rattle.verdict.specs.declared.finding.Family.TheVariants.{S, M}
 use Rattle.verdict.specs.declared.place.Chunk.{Chunk}
-use Rattle.chunk_map.specs.Order.{by_start}
+use Rattle.volume_items.specs.ChunkOrder.{by_start}
 
 -- a finding on a chunk of the map
 abbrev pub chunk_finding : Family → ℕ → ℕ → ℕ → Finding
