@@ -69,15 +69,6 @@ pointers_of bytes = each_from (pointer_of bytes) 0 (count_of bytes)
 abbrev pub items_of : List ℕ → List LeafItem
 items_of bytes = each_from (item_of bytes) 0 (count_of bytes)
 
--- what a block holds: pointers or items
-pub data Parts : Type 0 where
-  Pointers : List Pointer → Parts
-  Items : List LeafItem → Parts
-
--- the pointers or the items that a block's header counts
-abbrev pub block_parts : List ℕ → Parts
-block_parts bytes = if level_of bytes == 0 then Items (items_of bytes) else Pointers (pointers_of bytes)
-
 -- a block whose header, entries and items' bytes lie inside it
 pub record IsSound (bytes : List ℕ) : Type 0 where
   pub header : 101 ≤ length bytes

@@ -66,6 +66,18 @@ pub struct Finding {
     pub detail: u64,
 }
 
+/// What the full check says of an image.
+#[derive(Clone, Copy, Debug, PartialEq, Eq)]
+pub enum Verdict {
+    /// The image is accepted.
+    Accept {
+        /// The generation of its superblock.
+        generation: u64,
+    },
+    /// The first rule that fails.
+    Found(Finding),
+}
+
 impl Finding {
     /// The finding of a rule on the whole image, which names no tree, no block and no key.
     pub fn of_image(family: Family, number: u8, detail: u64) -> Finding

@@ -10,7 +10,7 @@ mod place;
 mod tests;
 
 pub use bytes::{Bytes, NoMemory};
-pub use finding::{Family, Finding, Rule};
+pub use finding::{Family, Finding, Rule, Verdict};
 pub use key::{Key, get_key, key_at};
 pub use machine::{
     Answer, Event, HeldWrite, SUPERBLOCK_AT, SUPERBLOCK_SIZE, Stop, meets_superblock,

@@ -1,5 +1,5 @@
 -- The bytes of a tree block in an image, of which the chunks say where its one or two copies stand.
-use Rattle.std.specs.Prelude.{ℕ, ◌+◌, ◌≤◌, Bool, not, ◌==◌, List, length, slice_index, Option, Some, None, Result, Ok, Err, if◌then◌else◌}
+use Rattle.std.specs.Prelude.{ℕ, Bool, not, ◌==◌, List, length, slice_index, Option, Some, None, Result, Ok, Err, if◌then◌else◌}
 use Rattle.verdict.specs.Image.{range}
 use Rattle.verdict.specs.Chunks.{place}
 use Rattle.verdict.specs.declared.finding.Finding.{Finding}
@@ -7,7 +7,7 @@ use Rattle.verdict.specs.declared.finding.Family.TheVariants.{N}
 use Rattle.verdict.specs.declared.place.Chunk.{Chunk}
 use Rattle.verdict.specs.declared.place.Place.{Place}
 use Rattle.verdict.specs.declared.place.Place.TheVariants.{Nowhere, One, Two}
-use Rattle.volume_items.specs.ChunkRow.{is_multiple}
+use Rattle.verdict.specs.Items.{is_multiple}
 use Rattle.node_reader.specs.Places.{least_from}
 use Rattle.node_reader.specs.Faults.{block_finding}
 use Rattle.node_reader.specs.declared.expect.Expect.{Expect}
@@ -41,9 +41,3 @@ bytes_at e nodesize image (Two first second) =
 unfoldable pub block_bytes : List ℕ → List Chunk → ℕ → Expect → Result (List ℕ) Finding
 block_bytes image chunks nodesize e =
     if is_multiple e.address then bytes_at e nodesize image (place chunks e.address nodesize (length image)) else nowhere e
-
--- the copies at a place, of n bytes each, end at most at the end
-abbrev pub FitsIn : ℕ → ℕ → Place → Type 0
-FitsIn n end Nowhere = Unit {0}
-FitsIn n end (One first) = first + n ≤ end
-FitsIn n end (Two first second) = (first + n ≤ end) × (second + n ≤ end)

@@ -1,0 +1,113 @@
+-- What an image holds: the records of its superblock, and of all blocks and items of its trees; or the first finding. The steps come
+-- in the order of the check.
+use Rattle.std.specs.Prelude.{ℕ, Bool, not, ◌==◌, nat_lt, List, [], ◌∷◌, ◌++◌, length, Option, Some, None, Result, Ok, Err, if◌then◌else◌}
+use Rattle.std.specs.List.{list_any}
+use Rattle.verdict.specs.Image.{range}
+use Rattle.verdict.specs.Rules.{TableRow, first_failing, or_found, finding_or, and_then, image_finding, no_key}
+use Rattle.verdict.specs.declared.finding.Finding.{Finding}
+use Rattle.verdict.specs.declared.finding.Family.TheVariants.{S, X}
+use Rattle.verdict.specs.declared.key.Key.{Key}
+use Rattle.verdict.specs.declared.place.Chunk.{Chunk}
+use Rattle.super_reader.specs.declared.Super.{Super}
+use Rattle.super_reader.specs.Superblock.{superblock_of, array_place}
+use Rattle.volume_items.specs.SystemArray.{array_chunks}
+use Rattle.volume_items.specs.MapRules.{map_finding}
+use Rattle.volume_items.specs.declared.root.RootItem.{RootItem}
+use Rattle.node_reader.specs.declared.expect.Expect.{Expect}
+use Rattle.records.specs.Part.{Located}
+use Rattle.records.specs.Part.Part.{SuperPart}
+use Rattle.records.specs.Walk.{Records, each, then_records, walk_of, block_reading}
+use Rattle.records.specs.Takes.{held_after, with_chunk, with_root}
+
+-- the superblock of an image, or the first finding: the image has fewer than 69,632 bytes, so that no superblock lies in it, or a
+-- rule of the superblock fails
+unfoldable pub superblock_in : List ℕ → Result Super Finding
+superblock_in image =
+    if nat_lt (length image) 69632 then Err (image_finding S 1 (length image))
+    else superblock_of (range 65536 4096 image)
+
+-- what is expected of the root block of a tree, which has no low key and no high key
+abbrev pub root_expected : ℕ → ℕ → ℕ → ℕ → Expect
+root_expected tree address generation level = record {
+  tree = tree;
+  address = address;
+  generation = generation;
+  level = level;
+  low = None;
+  high = None;
+}
+
+-- the root of the chunk tree, by the superblock
+abbrev pub chunk_tree_root : Super → Expect
+chunk_tree_root sup = root_expected 3 sup.chunk_root sup.chunk_root_generation sup.chunk_root_level
+
+-- the root of the root tree, by the superblock
+abbrev pub root_tree_root : Super → Expect
+root_tree_root sup = root_expected 1 sup.root sup.generation sup.root_level
+
+-- the root of the tree that a root item names
+abbrev pub named_root : RootItem → Expect
+named_root root = root_expected root.key.objectid root.bytenr root.generation root.level
+
+-- a finding on the list of root items
+abbrev pub roots_finding : ℕ → Key → Finding
+roots_finding number key = record { rule = record { family = X; number = number }; tree = 1; block = 0; key = key; detail = 0 }
+
+-- whether a root item names a tree
+abbrev pub names : ℕ → RootItem → Bool
+names id root = root.key.objectid == id
+
+-- X1: a root item has the id of an earlier root item; those before are given first
+unfoldable pub repeated_after : List RootItem → List RootItem → Option Finding
+repeated_after before [] = None
+repeated_after before (root ∷ roots) =
+    if list_any (names root.key.objectid) before then Some (roots_finding 1 root.key) else repeated_after (before ++ root ∷ []) roots
+
+-- X2: no root item names a tree that each image has
+abbrev pub missing_row : List RootItem → ℕ → TableRow
+missing_row roots id = record { fails = not (list_any (names id) roots); finding = roots_finding 2 (record { objectid = id; kind = 132; offset = 0 }) }
+
+-- X2 of the extent tree, the device tree, the first file tree and the tree of checksums
+abbrev pub missing_rows : List RootItem → List TableRow
+missing_rows roots = missing_row roots 2 ∷ missing_row roots 4 ∷ missing_row roots 5 ∷ missing_row roots 7 ∷ []
+
+-- the first finding on the list of root items
+unfoldable pub roots_fault : List RootItem → Option Finding
+roots_fault roots = or_found (repeated_after [] roots) (first_failing (missing_rows roots))
+
+-- the chunk tree's records, read through the chunks of the system array
+abbrev pub chunk_records : Super → List Chunk → List ℕ → Records
+chunk_records sup array image = walk_of sup (block_reading array sup image) (chunk_tree_root sup)
+
+-- the root tree's records
+abbrev pub root_records : Super → List Chunk → List ℕ → Records
+root_records sup chunks image = walk_of sup (block_reading chunks sup image) (root_tree_root sup)
+
+-- the records of the trees that root items name, in the order of the items, which is that of the ids as unsigned numbers
+abbrev pub tree_records : Super → List Chunk → List RootItem → List ℕ → Records
+tree_records sup chunks roots image = each (λ root. walk_of sup (block_reading chunks sup image) (named_root root)) roots
+
+-- the record of the superblock
+abbrev pub super_record : Super → Located
+super_record sup = record { tree = 0; block = 0; key = no_key; part = SuperPart sup.bytes_used }
+
+-- what an image holds: its superblock, its chunks, its root items and all records
+pub record Contents : Type 0 where
+  pub sup : Super
+  pub chunks : List Chunk
+  pub roots : List RootItem
+  pub records : List Located
+
+-- what an image holds, or the first finding: the superblock, the system array, the chunk tree, the rules on the chunk map, the root
+-- tree, the rules on the list of root items, and the trees that these name
+unfoldable pub contents : List ℕ → Result Contents Finding
+contents image =
+    and_then (superblock_in image) (λ sup.
+    and_then (array_chunks (array_place sup) sup.array sup.array_size) (λ array.
+    and_then (held_after with_chunk [] (chunk_records sup array image)) (λ chunks.
+    and_then (finding_or (map_finding chunks array (length image)) (tt {0})) (λ _.
+    and_then (held_after with_root [] (root_records sup chunks image)) (λ roots.
+    and_then (finding_or (roots_fault roots) (tt {0})) (λ _.
+    and_then (then_records (chunk_records sup array image)
+                (then_records (root_records sup chunks image) (tree_records sup chunks roots image))) (λ records.
+    Ok (record { sup = sup; chunks = chunks; roots = roots; records = super_record sup ∷ records }))))))))

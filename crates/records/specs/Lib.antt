@@ -1,0 +1,7 @@
+pub mod Part
+pub mod Item
+pub mod Walk
+pub mod Takes
+pub mod Contents
+pub mod FullCheck
+pub mod WalkLaw

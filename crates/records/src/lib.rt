@@ -1,0 +1,12 @@
+//! The records of an image: what its superblock, its blocks and its items say, and who takes them.
+#![tactic(auto)]
+
+mod item;
+mod law;
+mod rec;
+mod take;
+
+pub use item::read_item;
+pub use law::visits_decide;
+pub use rec::{Rec, RecAt};
+pub use take::{Both, Nothing, Taker};
