@@ -43,7 +43,11 @@ pub fn read_pair<'a>(sup: &'a Super, at: usize) -> Result<Pair<'a>, Finding>
     };
     let start = at + KEY;
     let end = start + head.size;
-    match read_chunk(&sup.place(3, 0, sup.chunk_root_generation), head.key, &sup.array[start..end]) {
+    match read_chunk(
+        &sup.place(3, 0, sup.chunk_root_generation),
+        head.key,
+        &sup.array[start..end],
+    ) {
         Ok(item) => Ok(Pair { item, end }),
         Err(found) => Err(found),
     }

@@ -1,5 +1,4 @@
-pub mod Told
-pub mod Blocks
+pub mod Copies
 pub mod Walking
-pub mod Alike
-pub mod Judging
+pub mod Chain
+pub mod RootList

@@ -1,9 +1,4 @@
-pub mod Superblock
-pub mod FullCheck
-pub mod Cause
-pub mod BlockBytes
-pub mod Walk
-pub mod WalkLaw
-pub mod Found
-pub mod Contents
-pub mod Judging
+pub mod Gives
+pub mod Takes
+pub mod Judged
+pub mod Private

@@ -1,20 +1,19 @@
 //! The full check of an image, plain and slow: the disk's bytes with the waiting writes over them.
 #![tactic(auto)]
 
-mod block;
-mod contents;
-mod image;
-mod law;
+mod check;
+mod halt;
+mod items;
+mod judging;
+mod primary;
+mod read;
+mod roots;
+mod takers;
 mod walk;
 
-pub use block::{Volume, read_bytes};
-pub use image::{Fault, Verdict, judge, superblock};
-pub use law::visits_decide;
-pub use walk::{Found, walk_tree};
-
-#[cfg(test)]
-mod contents_tests;
-#[cfg(test)]
-mod tests;
-#[cfg(test)]
-mod walk_tests;
+pub use halt::Fault;
+pub use judging::judge;
+pub use primary::superblock;
+pub use read::{Volume, read_under};
+pub use verdict::Verdict;
+pub use walk::walk_tree;

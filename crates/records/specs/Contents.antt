@@ -79,13 +79,32 @@ roots_fault roots = or_found (repeated_after [] roots) (first_failing (missing_r
 abbrev pub chunk_records : Super → List Chunk → List ℕ → Records
 chunk_records sup array image = walk_of sup (block_reading array sup image) (chunk_tree_root sup)
 
+-- the chunks of the chunk tree, where the rules on the chunk map keep
+unfoldable pub chunk_map_in : Super → List Chunk → List ℕ → Result (List Chunk) Finding
+chunk_map_in sup array image =
+    and_then (held_after with_chunk [] (chunk_records sup array image)) (λ chunks.
+    and_then (finding_or (map_finding chunks array (length image)) (tt {0})) (λ _.
+    Ok chunks))
+
 -- the root tree's records
 abbrev pub root_records : Super → List Chunk → List ℕ → Records
 root_records sup chunks image = walk_of sup (block_reading chunks sup image) (root_tree_root sup)
 
+-- the root items of the root tree, where the rules on their list keep
+unfoldable pub root_items_in : Super → List Chunk → List ℕ → Result (List RootItem) Finding
+root_items_in sup chunks image =
+    and_then (held_after with_root [] (root_records sup chunks image)) (λ roots.
+    and_then (finding_or (roots_fault roots) (tt {0})) (λ _.
+    Ok roots))
+
 -- the records of the trees that root items name, in the order of the items, which is that of the ids as unsigned numbers
 abbrev pub tree_records : Super → List Chunk → List RootItem → List ℕ → Records
 tree_records sup chunks roots image = each (λ root. walk_of sup (block_reading chunks sup image) (named_root root)) roots
+
+-- the records of all trees
+unfoldable pub all_records : Super → List Chunk → List Chunk → List RootItem → List ℕ → Records
+all_records sup array chunks roots image =
+    then_records (chunk_records sup array image) (then_records (root_records sup chunks image) (tree_records sup chunks roots image))
 
 -- the record of the superblock
 abbrev pub super_record : Super → Located
@@ -98,16 +117,13 @@ pub record Contents : Type 0 where
   pub roots : List RootItem
   pub records : List Located
 
--- what an image holds, or the first finding: the superblock, the system array, the chunk tree, the rules on the chunk map, the root
--- tree, the rules on the list of root items, and the trees that these name
+-- what an image holds, or the first finding: of the superblock, of the system array, of the chunk tree and the rules on the chunk map,
+-- of the root tree and the rules on its items, and of the trees that these name
 unfoldable pub contents : List ℕ → Result Contents Finding
 contents image =
     and_then (superblock_in image) (λ sup.
     and_then (array_chunks (array_place sup) sup.array sup.array_size) (λ array.
-    and_then (held_after with_chunk [] (chunk_records sup array image)) (λ chunks.
-    and_then (finding_or (map_finding chunks array (length image)) (tt {0})) (λ _.
-    and_then (held_after with_root [] (root_records sup chunks image)) (λ roots.
-    and_then (finding_or (roots_fault roots) (tt {0})) (λ _.
-    and_then (then_records (chunk_records sup array image)
-                (then_records (root_records sup chunks image) (tree_records sup chunks roots image))) (λ records.
-    Ok (record { sup = sup; chunks = chunks; roots = roots; records = super_record sup ∷ records }))))))))
+    and_then (chunk_map_in sup array image) (λ chunks.
+    and_then (root_items_in sup chunks image) (λ roots.
+    and_then (all_records sup array chunks roots image) (λ records.
+    Ok (record { sup = sup; chunks = chunks; roots = roots; records = super_record sup ∷ records }))))))

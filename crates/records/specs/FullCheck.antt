@@ -1,15 +1,20 @@
--- The full check of an image: the generation of its superblock, or the first finding.
+-- The full check of an image: it is accepted, with the generation of its superblock, or the first finding.
 use Rattle.std.specs.Prelude.{ℕ, List, Result, Ok, Err}
+use Rattle.verdict.specs.Rules.{and_then}
 use Rattle.verdict.specs.declared.finding.Finding.{Finding}
 use Rattle.verdict.specs.declared.finding.Verdict.{Verdict}
 use Rattle.verdict.specs.declared.finding.Verdict.TheVariants.{Accept, Found}
-use Rattle.records.specs.Contents.{Contents, contents}
+use Rattle.records.specs.Contents.{contents}
 
--- what the check says of an image that holds this
-abbrev pub verdict_of : Result Contents Finding → Verdict
-verdict_of (Ok held) = Accept held.sup.generation
+-- the generation of an image in which no rule fails, or the first finding
+unfoldable pub checked : List ℕ → Result ℕ Finding
+checked image = and_then (contents image) (λ held. Ok held.sup.generation)
+
+-- that as a verdict
+abbrev pub verdict_of : Result ℕ Finding → Verdict
+verdict_of (Ok generation) = Accept generation
 verdict_of (Err finding) = Found finding
 
 -- the full check of an image
-unfoldable pub full_check : List ℕ → Verdict
-full_check image = verdict_of (contents image)
+abbrev pub full_check : List ℕ → Verdict
+full_check image = verdict_of (checked image)

@@ -1,5 +1,5 @@
 -- What a record says, as a plain value, and where it stands.
-use Rattle.std.specs.Prelude.{ℕ, List}
+use Rattle.std.specs.Prelude.{ℕ, ◌+◌, ◌^◌, ◌<◌, List}
 use Rattle.verdict.specs.declared.key.Key.{Key}
 use Rattle.volume_items.specs.ChunkRow.{ChunkFields}
 use Rattle.volume_items.specs.ChunkItems.{fields_in}
@@ -35,3 +35,8 @@ part_of (Block address level) = BlockPart address level
 -- a lent record where it stands
 abbrev pub located : RecAt → Located
 located one = record { tree = one.tree; block = one.block; key = one.key; part = part_of one.part }
+
+-- what the readers see to of a record by itself: a chunk ends at an address of 64 bits
+abbrev pub IsLawful : Part → Type 0
+IsLawful (ChunkPart fields) = fields.key.offset + fields.length < 2 ^ 64
+IsLawful other = Unit {0}

@@ -1,7 +1,7 @@
 //! What takes the records of walks.
 
 ghost use Rattle.std.specs.Prelude.{◌≡◌, OnOk};
-ghost use Rattle.records.specs.Part.{Located, located};
+ghost use Rattle.records.specs.Part.{IsLawful, Located, located, part_of};
 ghost use Rattle.records.specs.Takes.{with_both};
 
 use crate::RecAt;
@@ -16,8 +16,9 @@ pub trait Taker {
     /// That, with one record more.
     ghost with: { Held → Located → Held };
 
-    /// Takes a record. Where memory runs out, it may have taken it or not.
+    /// Takes a record that a reader gave. Where memory runs out, it may have taken it or not.
     fn take(&mut self, one: &RecAt<'_>) -> Result<(), NoMemory>
+        requires { IsLawful (part_of one.now.part) }
         ensures { OnOk result (held self.new ≡ with (held self.old) (located one.now)) };
 }
 

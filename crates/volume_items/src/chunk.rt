@@ -1,6 +1,6 @@
 //! Chunk items.
 
-ghost use Rattle.std.specs.Prelude.{◌≡◌, ◌+◌, ◌*◌, ◌≤◌, ◌<◌, ◌^◌, length, drop, MatchResult, Ok, Err, IsNone};
+ghost use Rattle.std.specs.Prelude.{◌≡◌, ◌+◌, ◌*◌, ◌≤◌, ◌<◌, ◌^◌, length, drop, MatchResult, Ok, Err, IfOk, IsNone};
 ghost use Rattle.recon_bytes.specs.Field.{field};
 ghost use Rattle.verdict.specs.Rules.{first_failing};
 ghost use Rattle.verdict.specs.Items.{item_finding};
@@ -95,7 +95,8 @@ impl<'a> Iterator for Stripes<'a> {
 /// stripe its device (U5) and its physical offset (I3).
 #[tactic(auto, unfolding(crate::specs::ChunkRow::chunk_row), using(crate::proofs::Rows::first_failing_joined))]
 pub fn read_chunk<'a>(at: &At, key: Key, bytes: &'a [u8]) -> Result<ChunkItem<'a>, Finding>
-    ensures { MatchResult result (λ item. chunk_row at.now key bytes.now ≡ Ok (fields_in item)) (λ finding. chunk_row at.now key bytes.now ≡ Err finding) }
+    ensures row { MatchResult result (λ item. chunk_row at.now key bytes.now ≡ Ok (fields_in item)) (λ finding. chunk_row at.now key bytes.now ≡ Err finding) }
+    ensures fits { IfOk result (λ item. item.key.offset + item.length < 2 ^ 64) }
 {
     if let Some(found) = frame_fault(at, key, bytes) {
         return Err(found);
@@ -139,7 +140,8 @@ fn frame_fault(at: &At, key: Key, bytes: &[u8]) -> Option<Finding>
 #[tactic(auto, unfolding(crate::specs::ChunkRow::field_rows))]
 fn field_fault(at: &At, key: Key, bytes: &[u8]) -> Option<Finding>
     requires { 48 ≤ length bytes.now }
-    ensures { result ≡ first_failing (field_rows at.now key bytes.now) }
+    ensures found { result ≡ first_failing (field_rows at.now key bytes.now) }
+    ensures fits { IsNone result → key.offset + field 8 bytes.now 0 < 2 ^ 64 }
 {
     let length = long_at(bytes, 0);
     if length == 0 || !multiple(length) || length > u64::MAX - key.offset {

@@ -9,9 +9,9 @@ returns-in_default-clause-read c = pair_bad c.args.sup.now c.args.at (c.in_defau
 pub returns-in-Ok-clause-read : goal.returns-in-Ok-clause-read
 returns-in-Ok-clause-read c =
     let head = c.in-Some.ensures {u = tt} in
-    pair_read c.args.sup.now c.args.at c.in-Some.head.size (c.args.at + 17) (c.args.at + 17 + c.in-Some.head.size) c.in-Some.head.key _ c.place.result head.0 head.1 head.2 refl refl (part_is c.args.sup.now.array (c.args.at + 17) c.in-Some.head.size (c.args.at + 17 + c.in-Some.head.size) refl) c.place.ensures ∙ c.in-Ok.ensures {u = tt}
+    pair_read c.args.sup.now c.args.at c.in-Some.head.size (c.args.at + 17) (c.args.at + 17 + c.in-Some.head.size) c.in-Some.head.key _ c.place.result head.0 head.1 head.2 refl refl (part_is c.args.sup.now.array (c.args.at + 17) c.in-Some.head.size (c.args.at + 17 + c.in-Some.head.size) refl) c.place.ensures ∙ c.in-Ok.ensures.row
 
 pub returns-in-Err-clause-read : goal.returns-in-Err-clause-read
 returns-in-Err-clause-read c =
     let head = c.in-Some.ensures {u = tt} in
-    pair_read c.args.sup.now c.args.at c.in-Some.head.size (c.args.at + 17) (c.args.at + 17 + c.in-Some.head.size) c.in-Some.head.key _ c.place.result head.0 head.1 head.2 refl refl (part_is c.args.sup.now.array (c.args.at + 17) c.in-Some.head.size (c.args.at + 17 + c.in-Some.head.size) refl) c.place.ensures ∙ c.in-Err.ensures {u = tt}
+    pair_read c.args.sup.now c.args.at c.in-Some.head.size (c.args.at + 17) (c.args.at + 17 + c.in-Some.head.size) c.in-Some.head.key _ c.place.result head.0 head.1 head.2 refl refl (part_is c.args.sup.now.array (c.args.at + 17) c.in-Some.head.size (c.args.at + 17 + c.in-Some.head.size) refl) c.place.ensures ∙ c.in-Err.ensures.row

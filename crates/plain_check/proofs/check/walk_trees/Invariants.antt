@@ -1,0 +1,11 @@
+use Rattle.std.proofs.Common.{drop}
+use Rattle.records.specs.Contents.{tree_records}
+use Rattle.plain_check.proofs.Walking.{SoFar}
+use Rattle.plain_check.proofs.check.walk_trees.Given as goal
+
+-- what is left of the trees gives what all of them give
+abbrev pub invariant-loop-root : goal.invariant-loop-root
+invariant-loop-root g l =
+    let sup = l.volume.sup.now in
+    SoFar g.D.Disk g.T.Taker l.volume.cache.now l.fn.disk l.disk l.fn.into l.into
+    (tree_records sup l.volume.map.now (drop l.root-index l.roots)) (tree_records sup l.volume.map.now l.fn.roots)

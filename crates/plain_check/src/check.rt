@@ -1,0 +1,129 @@
+//! The check of all that an image holds.
+
+ghost use Rattle.std.specs.Prelude.{◌≡◌, ◌≤◌, OnOk, true};
+ghost use Rattle.verdict.specs.Trees.{is_node_size};
+ghost use Rattle.recon_disk.specs.Keeping.{Kept};
+ghost use Rattle.super_reader.specs.Superblock.{array_place};
+ghost use Rattle.volume_items.specs.SystemArray.{array_chunks};
+ghost use Rattle.records.specs.Contents.{chunk_map_in, root_items_in, tree_records};
+ghost use Rattle.records.specs.FullCheck.{checked};
+ghost use Rattle.plain_check.specs.Gives.{Gives, IsOutcome, is_disk_halt};
+ghost use Rattle.plain_check.specs.Takes.{ReadsInto, handing};
+
+use crate::halt::Halt;
+use crate::primary::read_superblock;
+use crate::read::Volume;
+use crate::roots::{check_roots, chunk_root, named, top_root};
+use crate::takers::{Chunks, Roots};
+use crate::walk::walk_tree;
+use chunk_map::{ChunkMap, Sys};
+use recon_disk::Disk;
+use records::{Nothing, Taker};
+use std::alloc::Global;
+use super_reader::Super;
+use volume_items::RootItem;
+use write_cache::WriteCache;
+
+// Checks all that the image holds which the disk's bytes make with the waiting writes over them: its superblock, the
+// chunks of the system array, the chunk tree through these, the rules on the chunk map, the root tree through the whole
+// map, the rules on the list of root items, and then each tree that a root item names, in the order of their ids as
+// unsigned numbers. Gives the generation of the superblock.
+#[tactic(auto, unfolding(records::specs::FullCheck::checked, records::specs::Contents::contents))]
+pub fn check<D: Disk>(alloc: Global, disk: &mut D, cache: &WriteCache) -> Result<u64, Halt>
+    ensures gives { Gives D.Disk disk.old cache.now result checked }
+    ensures room { OnOk result (69632 ≤ D.len disk.old) }
+    ensures kept { Kept D.Disk disk.old disk.new (is_disk_halt result) }
+{
+    let end = disk.length()?;
+    let sup = read_superblock(disk, cache, end)?;
+    let array = system_chunks(alloc, &sup)?;
+    let base = Volume {
+        cache,
+        map: &array,
+        sup: &sup,
+        end,
+    };
+    let chunks = chunk_map(alloc, disk, &base)?;
+    let volume = Volume {
+        map: &chunks,
+        ..base
+    };
+    let roots = root_items(alloc, disk, &volume)?;
+    match walk_trees(alloc, disk, &volume, &roots, &mut Nothing) {
+        Ok(()) => Ok(sup.generation),
+        Err(halt) => Err(halt),
+    }
+}
+
+// The chunks of the system array.
+fn system_chunks(alloc: Global, sup: &Super) -> Result<ChunkMap, Halt>
+    requires { sup.now.array_size ≤ 2048 }
+    ensures { IsOutcome result (array_chunks (array_place sup.now) sup.now.array sup.now.array_size) }
+{
+    match ChunkMap::from_sys(alloc, sup)? {
+        Sys::Map(map) => Ok(map),
+        Sys::Found(finding) => Err(Halt::Found(finding)),
+    }
+}
+
+// The chunks of the chunk tree, where the rules on the chunk map keep. It is walked through the chunks of the system
+// array.
+#[tactic(auto, unfolding(records::specs::Contents::chunk_map_in), using(crate::proofs::Copies::overlays))]
+fn chunk_map<D: Disk>(alloc: Global, disk: &mut D, volume: &Volume<'_>) -> Result<ChunkMap, Halt>
+    requires size { is_node_size volume.now.sup.now.nodesize ≡ true }
+    requires end { volume.now.end ≡ D.len disk.old }
+    ensures gives { let sup = volume.now.sup.now in
+        Gives D.Disk disk.old volume.now.cache.now result
+        (λ image. chunk_map_in sup volume.now.map.now image) }
+    ensures kept { Kept D.Disk disk.old disk.new (is_disk_halt result) }
+{
+    let mut chunks = Chunks::new(alloc);
+    walk_tree(alloc, disk, volume, &chunk_root(volume.sup), &mut chunks)?;
+    let map = chunks.map;
+    match map.map_fault(volume.map, volume.sup.devid, volume.end) {
+        Some(found) => Err(Halt::Found(found)),
+        None => Ok(map),
+    }
+}
+
+// The root items of the root tree, where the rules on their list keep.
+#[tactic(auto, unfolding(records::specs::Contents::root_items_in))]
+fn root_items<D: Disk>(
+    alloc: Global,
+    disk: &mut D,
+    volume: &Volume<'_>,
+) -> Result<Vec<RootItem>, Halt>
+    requires size { is_node_size volume.now.sup.now.nodesize ≡ true }
+    requires end { volume.now.end ≡ D.len disk.old }
+    ensures gives { let sup = volume.now.sup.now in
+        Gives D.Disk disk.old volume.now.cache.now (handing (λ roots. roots.items) result)
+        (λ image. root_items_in sup volume.now.map.now image) }
+    ensures kept { Kept D.Disk disk.old disk.new (is_disk_halt result) }
+{
+    let mut roots = Roots::new(alloc);
+    walk_tree(alloc, disk, volume, &top_root(volume.sup), &mut roots)?;
+    check_roots(alloc, &roots.items)?;
+    Ok(roots.items)
+}
+
+// Walks the trees that root items name, one after the other, and gives their records to a taker.
+#[tactic(auto, using(crate::proofs::Walking::steps))]
+fn walk_trees<D: Disk, T: Taker>(
+    alloc: Global,
+    disk: &mut D,
+    volume: &Volume<'_>,
+    roots: &[RootItem],
+    into: &mut T,
+) -> Result<(), Halt>
+    requires size { is_node_size volume.now.sup.now.nodesize ≡ true }
+    requires end { volume.now.end ≡ D.len disk.old }
+    ensures taken { let sup = volume.now.sup.now in
+        ReadsInto D.Disk T.Taker disk.old volume.now.cache.now into.old into.new result
+        (λ image. tree_records sup volume.now.map.now roots.now image) }
+    ensures kept { Kept D.Disk disk.old disk.new (is_disk_halt result) }
+{
+    for root in roots {
+        walk_tree(alloc, disk, volume, &named(root), into)?;
+    }
+    Ok(())
+}

@@ -1,0 +1,168 @@
+//! The bytes of a tree block: its one or two copies on the disk, with the waiting writes over them.
+
+ghost use Rattle.std.specs.Prelude.{◌≡◌, ◌+◌, ◌^◌, ◌<◌, ◌≤◌, length, true, OnOk, IfOk, IfSome};
+ghost use Rattle.verdict.specs.Image.{range};
+ghost use Rattle.verdict.specs.Trees.{is_node_size};
+ghost use Rattle.recon_disk.specs.Keeping.{Kept};
+ghost use Rattle.write_cache.specs.Cache.{overlaid};
+ghost use Rattle.node_reader.specs.BlockBytes.{least_difference, bytes_at, block_bytes};
+ghost use Rattle.node_reader.specs.Layout.{level_of};
+ghost use Rattle.records.specs.Walk.{block_reading};
+ghost use Rattle.plain_check.specs.Gives.{Gives, is_disk_fault, is_disk_halt};
+ghost use Rattle.plain_check.specs.Takes.{leaving};
+ghost use Rattle.plain_check.specs.Private.{FitsIn};
+
+use crate::Fault;
+use crate::halt::Halt;
+use chunk_map::ChunkMap;
+use node_reader::{Block, Expect};
+use recon_disk::Disk;
+use super_reader::Super;
+use verdict::{Family, Place, is_multiple};
+use write_cache::WriteCache;
+
+/// Where the tree blocks of a file system are read from.
+#[derive(Clone, Copy)]
+pub struct Volume<'a> {
+    /// The writes that wait, which lie over the disk's bytes.
+    pub cache: &'a WriteCache,
+    /// The chunks by which logical addresses stand on the disk.
+    pub map: &'a ChunkMap,
+    /// The superblock.
+    pub sup: &'a Super,
+    /// The length of the disk in bytes.
+    pub end: u64,
+}
+
+/// Reads 1 to 65,536 bytes of the disk from the byte `at` on, with the waiting writes over them.
+#[tactic(auto, using(crate::proofs::Copies::overlays))]
+pub fn read_under<D: Disk>(
+    disk: &mut D,
+    cache: &WriteCache,
+    at: u64,
+    into: &mut [u8],
+) -> Result<(), Fault>
+    requires some { 0 < length into.old }
+    requires few { length into.old ≤ 65536 }
+    requires inside { at + length into.old ≤ D.len disk.old }
+    requires fits { at + length into.old < 2 ^ 64 }
+    ensures bytes { OnOk result (IfSome (D.bytes disk.old)
+        (λ image. into.new ≡ range at (length into.old) (overlaid cache.now 0 image))) }
+    ensures kept { Kept D.Disk disk.old disk.new (is_disk_fault result) }
+{
+    disk.read(at, into)?;
+    cache.overlay(at, into);
+    Ok(())
+}
+
+// Reads a copy of a block, of a tree block's size.
+fn read_copy<D: Disk>(
+    disk: &mut D,
+    volume: &Volume<'_>,
+    at: u64,
+    into: &mut [u8],
+) -> Result<(), Halt>
+    requires size { is_node_size (length into.old) ≡ true }
+    requires inside { at + length into.old ≤ volume.now.end }
+    requires end { volume.now.end ≡ D.len disk.old }
+    ensures gives { Gives D.Disk disk.old volume.now.cache.now (leaving result into.new)
+        (λ image. Ok (range at (length into.old) image)) }
+    ensures kept { Kept D.Disk disk.old disk.new (is_disk_halt result) }
+{
+    let _end = volume.end;
+    read_under(disk, volume.cache, at, into)?;
+    Ok(())
+}
+
+// The least place at which the second of two lists of bytes of one length differs from the first.
+#[tactic(auto, using(crate::proofs::Copies::difference_steps))]
+fn first_difference(first: &[u8], second: &[u8]) -> Option<usize>
+    requires { length second.now ≡ length first.now }
+    ensures { result ≡ least_difference first.now second.now }
+{
+    for place in 0..first.len() {
+        if first[place] != second[place] {
+            return Some(place);
+        }
+    }
+    None
+}
+
+// Reads the first copy of a block, or gives the finding that it has none, or that a second copy differs from it.
+fn read_copies<D: Disk>(
+    disk: &mut D,
+    volume: &Volume<'_>,
+    e: &Expect,
+    place: Place,
+    first: &mut [u8],
+    second: &mut [u8],
+) -> Result<(), Halt>
+    requires size { is_node_size (length first.old) ≡ true }
+    requires same { length second.old ≡ length first.old }
+    requires fits { FitsIn (length first.old) volume.now.end place }
+    requires end { volume.now.end ≡ D.len disk.old }
+    ensures gives { Gives D.Disk disk.old volume.now.cache.now (leaving result first.new)
+        (λ image. bytes_at e.now (length first.old) image place) }
+    ensures kept { Kept D.Disk disk.old disk.new (is_disk_halt result) }
+{
+    match place {
+        Place::Nowhere => Err(Halt::Found(e.finding(Family::N, 1, 0))),
+        Place::One(at) => read_copy(disk, volume, at, first),
+        Place::Two(at, other) => {
+            read_copy(disk, volume, at, first)?;
+            read_copy(disk, volume, other, second)?;
+            match first_difference(first, second) {
+                None => Ok(()),
+                Some(place) => Err(Halt::Found(e.finding(Family::N, 2, place as u64))),
+            }
+        }
+    }
+}
+
+// Reads the bytes of the block that is expected, or gives the finding: its address is no multiple of 4096 or has no
+// place (N1), or its two copies differ (N2).
+#[tactic(auto, using(crate::proofs::Copies::block_steps))]
+fn read_bytes<D: Disk>(
+    disk: &mut D,
+    volume: &Volume<'_>,
+    e: &Expect,
+    first: &mut [u8],
+    second: &mut [u8],
+) -> Result<(), Halt>
+    requires size { is_node_size (length first.old) ≡ true }
+    requires same { length second.old ≡ length first.old }
+    requires end { volume.now.end ≡ D.len disk.old }
+    ensures gives { Gives D.Disk disk.old volume.now.cache.now (leaving result first.new)
+        (λ image. block_bytes image volume.now.map.now (length first.old) e.now) }
+    ensures kept { Kept D.Disk disk.old disk.new (is_disk_halt result) }
+{
+    if !is_multiple(e.address) {
+        return Err(Halt::Found(e.finding(Family::N, 1, 0)));
+    }
+    let place = volume.map.place(e.address, first.len() as u64, volume.end);
+    read_copies(disk, volume, e, place, first, second)
+}
+
+// Reads the block that is expected into a buffer of a tree block's size, and lends it there. The second buffer is for
+// its second copy.
+#[tactic(auto, unfolding(records::specs::Walk::block_reading))]
+pub fn read_block<'a, D: Disk>(
+    disk: &mut D,
+    volume: &Volume<'_>,
+    e: &Expect,
+    first: &'a mut [u8],
+    second: &mut [u8],
+) -> Result<Block<'a>, Halt>
+    requires size { is_node_size volume.now.sup.now.nodesize ≡ true }
+    requires first { length first.old ≡ volume.now.sup.now.nodesize }
+    requires second { length second.old ≡ volume.now.sup.now.nodesize }
+    requires end { volume.now.end ≡ D.len disk.old }
+    ensures gives { Gives D.Disk disk.old volume.now.cache.now result
+        (λ image. block_reading volume.now.map.now volume.now.sup.now image e.now) }
+    ensures level { IfOk result (λ block. level_of block ≡ e.now.level) }
+    ensures kept { Kept D.Disk disk.old disk.new (is_disk_halt result) }
+{
+    read_bytes(disk, volume, e, first, second)?;
+    let block = node_reader::read_block(first, &volume.sup.fsid, e)?;
+    Ok(block)
+}

@@ -1,0 +1,161 @@
+//! The rules on the list of root items, and what is expected of the roots of trees.
+
+ghost use Rattle.std.specs.Prelude.{◌≡◌, []};
+ghost use Rattle.std.specs.List.{list_any};
+ghost use Rattle.verdict.specs.Rules.{finding_or, first_failing};
+ghost use Rattle.records.specs.Contents.{
+  chunk_tree_root,
+  missing_rows,
+  named_root,
+  names,
+  repeated_after,
+  root_tree_root,
+  roots_fault,
+  roots_finding,
+};
+ghost use Rattle.plain_check.specs.Gives.{IsOutcome};
+
+use crate::halt::Halt;
+use node_reader::Expect;
+use std::alloc::Global;
+use std::collections::BTreeSet;
+use super_reader::Super;
+use verdict::{Family, Finding, Key, Rule};
+use volume_items::RootItem;
+
+// What is expected of the root of the chunk tree.
+pub fn chunk_root(sup: &Super) -> Expect
+    ensures { result ≡ chunk_tree_root sup.now }
+{
+    Expect {
+        tree: 3,
+        address: sup.chunk_root,
+        generation: sup.chunk_root_generation,
+        level: sup.chunk_root_level,
+        low: None,
+        high: None,
+    }
+}
+
+// What is expected of the root of the root tree.
+pub fn top_root(sup: &Super) -> Expect
+    ensures { result ≡ root_tree_root sup.now }
+{
+    Expect {
+        tree: 1,
+        address: sup.root,
+        generation: sup.generation,
+        level: sup.root_level,
+        low: None,
+        high: None,
+    }
+}
+
+// What is expected of the root of the tree that a root item names.
+pub fn named(root: &RootItem) -> Expect
+    ensures { result ≡ named_root root.now }
+{
+    Expect {
+        tree: root.key.objectid,
+        address: root.bytenr,
+        generation: root.generation,
+        level: root.level,
+        low: None,
+        high: None,
+    }
+}
+
+// Passes where no rule on the list of root items fails: no two of one id (X1), and one for each of the ids 2, 4, 5
+// and 7 (X2).
+#[tactic(auto, unfolding(records::specs::Contents::roots_fault))]
+pub fn check_roots(alloc: Global, roots: &[RootItem]) -> Result<(), Halt>
+    ensures { IsOutcome result (finding_or (roots_fault roots.now) (tt {0})) }
+{
+    if let Some(found) = repeated(alloc, roots)? {
+        return Err(Halt::Found(found));
+    }
+    match missing(roots) {
+        Some(found) => Err(Halt::Found(found)),
+        None => Ok(()),
+    }
+}
+
+// The finding on the first root item with the id of an earlier one.
+fn repeated(alloc: Global, roots: &[RootItem]) -> Result<Option<Finding>, Halt>
+    ensures { IsOutcome result (Ok (repeated_after [] roots.now)) }
+{
+    let mut seen = BTreeSet::new(alloc);
+    for root in roots {
+        let id = root.key.objectid;
+        if seen.contains(&id) {
+            return Ok(Some(finding(1, root.key)));
+        }
+        let Ok(_) = seen.insert(id) else {
+            return Err(Halt::NoMemory);
+        };
+    }
+    Ok(None)
+}
+
+// The finding on the least of the ids 2, 4, 5 and 7 that no root item has.
+fn missing(roots: &[RootItem]) -> Option<Finding>
+    ensures { result ≡ first_failing (missing_rows roots.now) }
+{
+    if !is_named(roots, 2) {
+        return Some(missing_tree(2));
+    }
+    if !is_named(roots, 4) {
+        return Some(missing_tree(4));
+    }
+    if !is_named(roots, 5) {
+        return Some(missing_tree(5));
+    }
+    if !is_named(roots, 7) {
+        return Some(missing_tree(7));
+    }
+    None
+}
+
+// Whether a root item names a tree.
+fn is_named(roots: &[RootItem], id: u64) -> bool
+    ensures { result ≡ list_any (names id) roots.now }
+{
+    roots.iter().any(|root| has_id(root, id))
+}
+
+// Whether this root item names a tree.
+fn has_id(root: &RootItem, id: u64) -> bool
+    ensures { result ≡ names id root.now }
+{
+    root.key.objectid == id
+}
+
+// The finding of a tree without a root item.
+fn missing_tree(id: u64) -> Finding
+    ensures { result ≡ roots_finding 2 (record { objectid = id; kind = 132; offset = 0 }) }
+{
+    finding(
+        2,
+        Key {
+            objectid: id,
+            kind: 132,
+            offset: 0,
+        },
+    )
+}
+
+// A finding on the list of root items.
+fn finding(number: u8, key: Key) -> Finding
+    ensures { result ≡ roots_finding number key }
+{
+    Finding {
+        rule: Rule {
+            family: Family::X,
+            number,
+        },
+        tree: 1,
+        block: 0,
+        key,
+        detail: 0,
+    }
+}

@@ -1,0 +1,84 @@
+//! Who takes records in the check itself: the chunks of the chunk tree, the root items of the root tree.
+
+ghost use Rattle.std.specs.Prelude.{◌≡◌, []};
+ghost use Rattle.verdict.specs.declared.place.Chunk.{Chunk as AChunk};
+ghost use Rattle.volume_items.specs.declared.root.RootItem.{RootItem as ARoot};
+ghost use Rattle.records.specs.Takes.{with_chunk, with_root};
+
+use chunk_map::ChunkMap;
+use records::{Rec, RecAt, Taker};
+use std::alloc::Global;
+use verdict::NoMemory;
+use volume_items::RootItem;
+
+// The chunks of chunk items, in their order.
+#[derive(Debug, Drop)]
+pub struct Chunks {
+    // The list of the chunks.
+    pub map: ChunkMap,
+}
+
+impl Chunks {
+    // None yet. They take their memory from this allocator.
+    pub fn new(alloc: Global) -> Chunks
+        ensures { result.map ≡ [] }
+    {
+        Chunks {
+            map: ChunkMap::new(alloc),
+        }
+    }
+}
+
+impl Taker for Chunks {
+    ghost use Rattle.std.specs.Prelude.{List};
+
+    ghost Held = { List AChunk };
+
+    ghost held = { λ chunks. chunks.map };
+
+    ghost with = { with_chunk };
+
+    fn take(&mut self, one: &RecAt<'_>) -> Result<(), NoMemory> {
+        if let Rec::ChunkItem(item) = one.part {
+            return self.map.add(&item.chunk());
+        }
+        Ok(())
+    }
+}
+
+// The root items, in their order.
+#[derive(Debug, Drop)]
+pub struct Roots {
+    // The list of the items.
+    pub items: Vec<RootItem>,
+}
+
+impl Roots {
+    // None yet. They take their memory from this allocator.
+    pub fn new(alloc: Global) -> Roots
+        ensures { result.items.items ≡ [] }
+    {
+        Roots {
+            items: Vec::new(alloc),
+        }
+    }
+}
+
+impl Taker for Roots {
+    ghost use Rattle.std.specs.Prelude.{List};
+
+    ghost Held = { List ARoot };
+
+    ghost held = { λ roots. roots.items.items };
+
+    ghost with = { with_root };
+
+    fn take(&mut self, one: &RecAt<'_>) -> Result<(), NoMemory> {
+        if let Rec::RootItem(item) = one.part
+            && self.items.push(item).is_err()
+        {
+            return Err(NoMemory);
+        }
+        Ok(())
+    }
+}
