@@ -1,0 +1,9 @@
+pub mod Parts
+pub mod InodeRow
+pub mod InodeRefRow
+pub mod XattrRow
+pub mod OrphanRow
+pub mod DirRow
+pub mod FileExtentRow
+pub mod SumsRow
+pub mod Lent
