@@ -1,23 +1,14 @@
--- A table of rules in two parts: the first that fails is that of the first part, else of the second.
-use Rattle.std.proofs.Common.{◌≡◌, ℕ, zero, suc, ◌-◌, ◌*◌, ◌/◌, ◌<◌, ◌≤◌, List, [], ◌∷◌, ◌++◌, length, take, drop, true, false, refl, ap, sym, ◌∙◌, cond, arith, length-drop}
+-- The stripes of a chunk, one behind the other, and the three parts of the rules on a chunk.
+use Rattle.std.proofs.Common.{◌≡◌, ℕ, zero, suc, ◌-◌, ◌*◌, ◌/◌, ◌<◌, ◌≤◌, List, [], ◌∷◌, ◌++◌, length, take, drop, refl, ap, sym, ◌∙◌, arith, length-drop}
 use Rattle.std.proofs.lemmas.Grind.{common_steps}
 use Rattle.std.specs.Prelude.{Option, Some, None, Ok, Err}
-use Rattle.verdict.specs.Rules.{TableRow, first_failing, finding_or}
+use Rattle.verdict.specs.Rules.{TableRow, first_failing, or_found, finding_or}
+use Rattle.verdict.proofs.Tables.{first_failing_joined}
 use Rattle.recon_bytes.specs.Field.{field}
 use Rattle.verdict.specs.declared.finding.Finding.{Finding}
 use Rattle.verdict.specs.declared.key.Key.{Key}
 use Rattle.verdict.specs.declared.place.At.{At}
 use Rattle.volume_items.specs.ChunkRow.{stripe_list, stripes_of, frame_rows, field_rows, stripe_rows, chunk_rows, chunk_row, chunk_fields}
-
-abbrev pub found_or : Option Finding → Option Finding → Option Finding
-found_or (Some finding) rest = Some finding
-found_or None rest = rest
-
-pub first_failing_joined : (first second : List TableRow) → first_failing (first ++ second) ≡ found_or (first_failing first) (first_failing second)
-first_failing_joined [] second = refl
-first_failing_joined (row ∷ rows) second =
-    elim row.fails as (λ fails. cond fails (Some row.finding) (first_failing (rows ++ second)) ≡ found_or (cond fails (Some row.finding) (first_failing rows)) (first_failing second))
-    [ true ↦ refl | false ↦ first_failing_joined rows second ]
 
 -- one stripe more fits where 32 bytes are there, and none where fewer are
 pub stripes_more : (bytes : List ℕ) → 32 ≤ length bytes → stripes_of bytes ≡ record { devid = field 8 bytes 0; physical = field 8 bytes 8 } ∷ stripes_of (drop 32 bytes)
@@ -48,9 +39,9 @@ three : (at : At) (key : Key) (bytes rest : List ℕ) (size : ℕ) (frame fields
 three at key bytes rest size frame fields f f0 g g0 s r =
     let last : List TableRow = stripe_rows at key (field 8 bytes 0) 48 (stripes_of (drop 48 bytes)) in
     first_failing_joined (frame_rows at key bytes) (field_rows at key bytes ++ last)
-    ∙ ap (λ o. found_or o (first_failing (field_rows at key bytes ++ last))) (sym f ∙ f0)
+    ∙ ap (λ o. or_found o (first_failing (field_rows at key bytes ++ last))) (sym f ∙ f0)
     ∙ first_failing_joined (field_rows at key bytes) last
-    ∙ ap (λ o. found_or o (first_failing last)) (sym g ∙ g0)
+    ∙ ap (λ o. or_found o (first_failing last)) (sym g ∙ g0)
     ∙ ap (λ n. first_failing (stripe_rows at key n 48 (stripes_of (drop 48 bytes)))) (sym s)
     ∙ ap (λ b. first_failing (stripe_rows at key size 48 (stripes_of b))) (sym r)
 

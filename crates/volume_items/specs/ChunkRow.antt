@@ -1,9 +1,10 @@
--- The CHUNK_ITEM (256, 228, start): its fields, and the rules that it is judged by, in their order. Offsets are in bytes from the item's first byte.
-use Rattle.std.specs.Prelude.{ℕ, zero, suc, ◌+◌, ◌*◌, ◌/◌, ◌%◌, Bool, not, ◌||◌, ◌==◌, nat_lt, List, [], ◌∷◌, ◌++◌, length, drop, slice_get, bit_and, Option, Some, None, Result, Ok, Err, if◌then◌else◌}
+-- The CHUNK_ITEM (256, 228, start): its fields, and the rules that it is judged by, in their order.
+-- Offsets are in bytes from the item's first byte.
+use Rattle.std.specs.Prelude.{ℕ, zero, suc, ◌+◌, ◌*◌, ◌/◌, Bool, not, ◌||◌, ◌==◌, nat_lt, List, [], ◌∷◌, ◌++◌, length, drop, slice_get, bit_and, Result, if◌then◌else◌}
 use Rattle.std.specs.Option.{option_map, unwrap_or}
 use Rattle.recon_bytes.specs.Field.{field}
 use Rattle.verdict.specs.Rules.{TableRow, first_failing, finding_or}
-use Rattle.verdict.specs.Items.{item_rule}
+use Rattle.verdict.specs.Items.{item_rule, is_multiple, listed_rule, passes_64}
 use Rattle.verdict.specs.declared.key.Key.{Key}
 use Rattle.verdict.specs.declared.finding.Finding.{Finding}
 use Rattle.verdict.specs.declared.finding.Family.TheVariants.{U, I}
@@ -27,14 +28,6 @@ stripe_list (suc n) bytes = record { devid = field 8 bytes 0; physical = field 8
 abbrev pub stripes_of : List ℕ → List Stripe
 stripes_of bytes = stripe_list (length bytes / 32) bytes
 
--- a multiple of a sector
-abbrev pub is_multiple : ℕ → Bool
-is_multiple n = n % 4096 == 0
-
--- whether n bytes from an offset on end beyond the greatest number of 64 bits
-abbrev pub passes_64 : ℕ → ℕ → Bool
-passes_64 at n = nat_lt 18446744073709551615 (at + n)
-
 -- the type bits that a chunk may have: 1 data, 2 system, 4 metadata, 32 dup
 abbrev pub allowed_class : ℕ
 allowed_class = 1 + 2 + 4 + 32
@@ -54,7 +47,8 @@ stripes_wanted class = if is_dup class then 2 else 1
 -- the rules in their order, first on the key and the size
 unfoldable pub frame_rows : At → Key → List ℕ → List TableRow
 frame_rows at key bytes =
-    item_rule at key (not (key.objectid == 256)) I 2 0
+    listed_rule at key
+    ∷ item_rule at key (not (key.objectid == 256)) I 2 0
     ∷ item_rule at key (not (is_multiple key.offset)) I 2 0
     ∷ item_rule at key (nat_lt (length bytes) 48) I 1 (length bytes)
     ∷ item_rule at key (not (length bytes == 48 + 32 * field 2 bytes 44)) I 1 (length bytes)

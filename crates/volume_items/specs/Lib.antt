@@ -1,6 +1,10 @@
 pub mod RootRow
+pub mod RootLinkRow
+pub mod RootLinkItems
+pub mod DeviceRow
 pub mod ChunkRow
 pub mod ChunkItems
+pub mod DevExtentRow
 pub mod ChunkOrder
 pub mod MapRules
 pub mod SystemArray

@@ -1,31 +1,29 @@
--- The ROOT_ITEM (id, 132, any): its fields, and the rules that it is judged by, in their order. Offsets are in bytes from the item's first byte.
-use Rattle.std.specs.Prelude.{ℕ, Bool, not, ◌&&◌, ◌||◌, ◌==◌, nat_lt, nat_le, List, [], ◌∷◌, length, slice_index, bytes_eq, replicate, Option, Some, None, Result, Ok, Err}
+-- The ROOT_ITEM (id, 132, any): its fields, and the rules that it is judged by, in their order.
+-- Offsets are in bytes from the item's first byte.
+use Rattle.std.specs.Prelude.{ℕ, Bool, not, ◌||◌, ◌==◌, nat_lt, List, [], ◌∷◌, length, slice_index, bytes_eq, replicate, Result}
 use Rattle.recon_bytes.specs.Field.{field}
 use Rattle.verdict.specs.Image.{range}
-use Rattle.verdict.specs.Rules.{TableRow, first_failing}
-use Rattle.verdict.specs.Items.{item_rule}
+use Rattle.verdict.specs.Rules.{TableRow, first_failing, finding_or}
+use Rattle.verdict.specs.Items.{is_free_id, item_rule, listed_rule}
 use Rattle.verdict.specs.declared.key.Key.{Key}
 use Rattle.verdict.specs.declared.finding.Finding.{Finding}
 use Rattle.verdict.specs.declared.finding.Family.TheVariants.{U, I}
 use Rattle.verdict.specs.declared.place.At.{At}
 use Rattle.volume_items.specs.declared.root.RootItem.{RootItem}
 
--- the ids from 256 to 2^64 - 256, which subvolumes have
-abbrev pub is_subvolume : ℕ → Bool
-is_subvolume id = nat_le 256 id && nat_le id 18446744073709551360
-
 -- the ids of trees that a root item may have: 2 extents, 4 device, 5 and the subvolumes files, 7 checksums,
 -- 8, 9 and 10, whose items stay unread, and -9, files too
 abbrev pub is_root_id : ℕ → Bool
 is_root_id id =
     id == 2 || id == 4 || id == 5 || id == 7 || id == 8 || id == 9 || id == 10
-    || id == 18446744073709551607 || is_subvolume id
+    || id == 18446744073709551607 || is_free_id id
 
--- the rules in their order: the id, the size, the generation, which is at most the leaf's, drop_progress,
--- which is zero, and the level
+-- the rules in their order: the tree lists the item, the id, the size, the generation, which is at most the leaf's,
+-- drop_progress, which is zero, and the level
 unfoldable pub root_rows : At → Key → List ℕ → List TableRow
 root_rows at key bytes =
-    item_rule at key (not (is_root_id key.objectid)) U 7 key.objectid
+    listed_rule at key
+    ∷ item_rule at key (not (is_root_id key.objectid)) U 7 key.objectid
     ∷ item_rule at key (not (length bytes == 439 || length bytes == 239)) I 1 (length bytes)
     ∷ item_rule at key (nat_lt at.generation (field 8 bytes 160)) I 3 160
     ∷ item_rule at key (not (bytes_eq (range 220 17 bytes) (replicate 17 0))) U 8 0
@@ -42,11 +40,6 @@ root_fields key bytes = record {
   level = slice_index bytes 238;
 }
 
--- the finding, where there is one, else the fields
-abbrev pub finding_or_root : Option Finding → RootItem → Result RootItem Finding
-finding_or_root (Some finding) fields = Err finding
-finding_or_root None fields = Ok fields
-
 -- what a root item says at its place: the finding of the first rule that fails, else its fields
 unfoldable pub root_row : At → Key → List ℕ → Result RootItem Finding
-root_row at key bytes = finding_or_root (first_failing (root_rows at key bytes)) (root_fields key bytes)
+root_row at key bytes = finding_or (first_failing (root_rows at key bytes)) (root_fields key bytes)

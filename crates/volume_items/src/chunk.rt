@@ -4,11 +4,11 @@ ghost use Rattle.std.specs.Prelude.{◌≡◌, ◌+◌, ◌*◌, ◌≤◌, ◌<
 ghost use Rattle.recon_bytes.specs.Field.{field};
 ghost use Rattle.verdict.specs.Rules.{first_failing};
 ghost use Rattle.verdict.specs.Items.{item_finding};
-ghost use Rattle.volume_items.specs.ChunkRow.{frame_rows, field_rows, stripe_rows, chunk_rows, chunk_row, chunk_of, is_multiple, is_kind, stripes_wanted};
+ghost use Rattle.volume_items.specs.ChunkRow.{frame_rows, field_rows, stripe_rows, chunk_rows, chunk_row, chunk_of, is_kind, stripes_wanted};
 ghost use Rattle.volume_items.specs.ChunkItems.{fields_in, stripes_left};
 
-use recon_bytes::{u16_at, u64_at};
-use verdict::{At, Chunk, Family, Finding, Key};
+use recon_bytes::{get_u16, get_u64};
+use verdict::{At, Chunk, Family, Finding, Key, is_multiple};
 
 /// The type bits that a chunk may have: 1 data, 2 system, 4 metadata, 32 dup.
 const ALLOWED_CLASS: u64 = 1 | 2 | 4 | DUP;
@@ -83,19 +83,21 @@ impl<'a> Iterator for Stripes<'a> {
         if self.left.len() < 32 {
             return None;
         }
-        let devid = u64_at(self.left, 0)?;
-        let physical = u64_at(self.left, 8)?;
+        let devid = get_u64(self.left, 0);
+        let physical = get_u64(self.left, 8);
         self.left = &self.left[32..];
         Some(Stripe { devid, physical })
     }
 }
 
 /// The chunk item with this key in these bytes, or the finding of the first rule that it breaks, in
-/// the order key (I2), size (I1), length (I3), type (U6, I3), number of stripes (I3), and for each
+/// the order kind (U9), key (I2), size (I1), length (I3), type (U6, I3), number of stripes (I3), and for each
 /// stripe its device (U5) and its physical offset (I3).
-#[tactic(auto, unfolding(crate::specs::ChunkRow::chunk_row), using(crate::proofs::Rows::first_failing_joined))]
+#[tactic(auto, unfolding(crate::specs::ChunkRow::chunk_row), using(verdict::proofs::Tables::first_failing_joined))]
 pub fn read_chunk<'a>(at: &At, key: Key, bytes: &'a [u8]) -> Result<ChunkItem<'a>, Finding>
-    ensures row { MatchResult result (λ item. chunk_row at.now key bytes.now ≡ Ok (fields_in item)) (λ finding. chunk_row at.now key bytes.now ≡ Err finding) }
+    ensures row { MatchResult result
+        (λ item. chunk_row at.now key bytes.now ≡ Ok (fields_in item))
+        (λ finding. chunk_row at.now key bytes.now ≡ Err finding) }
     ensures fits { IfOk result (λ item. item.key.offset + item.length < 2 ^ 64) }
 {
     if let Some(found) = frame_fault(at, key, bytes) {
@@ -104,7 +106,7 @@ pub fn read_chunk<'a>(at: &At, key: Key, bytes: &'a [u8]) -> Result<ChunkItem<'a
     if let Some(found) = field_fault(at, key, bytes) {
         return Err(found);
     }
-    let length = long_at(bytes, 0);
+    let length = get_u64(bytes, 0);
     let stripes = &bytes[48..];
     if let Some(found) = stripes_fault(at, key, length, Stripes { left: stripes }) {
         return Err(found);
@@ -112,7 +114,7 @@ pub fn read_chunk<'a>(at: &At, key: Key, bytes: &'a [u8]) -> Result<ChunkItem<'a
     Ok(ChunkItem {
         key,
         length,
-        class: long_at(bytes, 24),
+        class: get_u64(bytes, 24),
         stripes,
     })
 }
@@ -123,14 +125,17 @@ fn frame_fault(at: &At, key: Key, bytes: &[u8]) -> Option<Finding>
     ensures found { result ≡ first_failing (frame_rows at.now key bytes.now) }
     ensures sized { IsNone result → 48 ≤ length bytes.now }
 {
-    if key.objectid != 256 || !multiple(key.offset) {
+    if !at.sort.lists(key) {
+        return Some(at.finding(key, Family::U, 9, u64::from(key.kind)));
+    }
+    if key.objectid != 256 || !is_multiple(key.offset) {
         return Some(at.finding(key, Family::I, 2, 0));
     }
     let size = bytes.len() as u64;
     if size < 48 {
         return Some(at.finding(key, Family::I, 1, size));
     }
-    if size != 48 + 32 * u64::from(short_at(bytes, 44)) {
+    if size != 48 + 32 * u64::from(get_u16(bytes, 44)) {
         return Some(at.finding(key, Family::I, 1, size));
     }
     None
@@ -143,18 +148,18 @@ fn field_fault(at: &At, key: Key, bytes: &[u8]) -> Option<Finding>
     ensures found { result ≡ first_failing (field_rows at.now key bytes.now) }
     ensures fits { IsNone result → key.offset + field 8 bytes.now 0 < 2 ^ 64 }
 {
-    let length = long_at(bytes, 0);
-    if length == 0 || !multiple(length) || length > u64::MAX - key.offset {
+    let length = get_u64(bytes, 0);
+    if length == 0 || !is_multiple(length) || length > u64::MAX - key.offset {
         return Some(at.finding(key, Family::I, 3, 0));
     }
-    let class = long_at(bytes, 24);
+    let class = get_u64(bytes, 24);
     if class & ALLOWED_CLASS != class {
         return Some(at.finding(key, Family::U, 6, class));
     }
     if !kind(class) {
         return Some(at.finding(key, Family::I, 3, 24));
     }
-    if u64::from(short_at(bytes, 44)) != wanted(class) {
+    if u64::from(get_u16(bytes, 44)) != wanted(class) {
         return Some(at.finding(key, Family::I, 3, 44));
     }
     None
@@ -162,26 +167,20 @@ fn field_fault(at: &At, key: Key, bytes: &[u8]) -> Option<Finding>
 
 /// The first finding on the stripes, the first of which begins at byte 48 of the item.
 fn stripes_fault(at: &At, key: Key, length: u64, stripes: Stripes<'_>) -> Option<Finding>
-    ensures { result ≡ first_failing (stripe_rows at.now key length 48 (stripes_left stripes.entry)) }
+    ensures { result ≡ first_failing
+        (stripe_rows at.now key length 48 (stripes_left stripes.entry)) }
 {
     let mut offset = 48;
     for stripe in stripes {
         if stripe.devid != at.devid {
             return Some(at.finding(key, Family::U, 5, stripe.devid));
         }
-        if !multiple(stripe.physical) || length > u64::MAX - stripe.physical {
+        if !is_multiple(stripe.physical) || length > u64::MAX - stripe.physical {
             return Some(at.finding(key, Family::I, 3, offset + 8));
         }
         offset += 32;
     }
     None
-}
-
-/// Whether a number is a multiple of a sector.
-fn multiple(n: u64) -> bool
-    ensures { result ≡ is_multiple n }
-{
-    n % 4096 == 0
 }
 
 /// Whether a chunk's type without dup is data, system, metadata, or data and metadata.
@@ -197,26 +196,4 @@ fn wanted(class: u64) -> u64
     ensures { result ≡ stripes_wanted class }
 {
     if class & DUP == DUP { 2 } else { 1 }
-}
-
-/// The two-byte number at byte `at`.
-fn short_at(bytes: &[u8], at: usize) -> u16
-    requires { at + 2 ≤ length bytes.now }
-    ensures { result ≡ field 2 bytes.now at }
-{
-    match u16_at(bytes, at) {
-        Some(number) => number,
-        None => unreachable!(),
-    }
-}
-
-/// The eight-byte number at byte `at`.
-fn long_at(bytes: &[u8], at: usize) -> u64
-    requires { at + 8 ≤ length bytes.now }
-    ensures { result ≡ field 8 bytes.now at }
-{
-    match u64_at(bytes, at) {
-        Some(number) => number,
-        None => unreachable!(),
-    }
 }

@@ -6,8 +6,8 @@ ghost use Rattle.verdict.specs.Image.{range};
 ghost use Rattle.verdict.specs.Rules.{first_failing};
 ghost use Rattle.volume_items.specs.RootRow.{is_root_id, root_row, root_rows};
 
-use recon_bytes::{u32_at, u64_at};
-use verdict::{At, Family, Finding, Key};
+use recon_bytes::{get_u32, get_u64};
+use verdict::{At, Family, Finding, Key, is_free_id};
 
 /// A root item that keeps its rules: where a tree begins.
 #[derive(Clone, Copy, Debug, PartialEq, Eq)]
@@ -28,7 +28,7 @@ pub struct RootItem {
 const NO_PROGRESS: [u8; 17] = [0; 17];
 
 /// The root item with this key in these bytes, or the finding of the first rule that it breaks, in the
-/// order id (U7), size (I1), generation (I3), drop_progress (U8), level (I3).
+/// order kind (U9), id (U7), size (I1), generation (I3), drop_progress (U8), level (I3).
 #[tactic(auto, unfolding(crate::specs::RootRow::root_row))]
 pub fn read_root(at: &At, key: Key, bytes: &[u8]) -> Result<RootItem, Finding>
     ensures { result ≡ root_row at.now key bytes.now }
@@ -38,9 +38,9 @@ pub fn read_root(at: &At, key: Key, bytes: &[u8]) -> Result<RootItem, Finding>
     }
     Ok(RootItem {
         key,
-        generation: u64_at(bytes, 160).unwrap(),
-        bytenr: u64_at(bytes, 176).unwrap(),
-        refs: u32_at(bytes, 216).unwrap(),
+        generation: get_u64(bytes, 160),
+        bytenr: get_u64(bytes, 176),
+        refs: get_u32(bytes, 216),
         level: bytes[238],
     })
 }
@@ -51,6 +51,9 @@ fn root_fault(at: &At, key: Key, bytes: &[u8]) -> Option<Finding>
     ensures found { result ≡ first_failing (root_rows at.now key bytes.now) }
     ensures sized { IsNone result → 239 ≤ length bytes.now }
 {
+    if !at.sort.lists(key) {
+        return Some(at.finding(key, Family::U, 9, u64::from(key.kind)));
+    }
     if !may_be_root(key.objectid) {
         return Some(at.finding(key, Family::U, 7, key.objectid));
     }
@@ -58,7 +61,7 @@ fn root_fault(at: &At, key: Key, bytes: &[u8]) -> Option<Finding>
     if size != 439 && size != 239 {
         return Some(at.finding(key, Family::I, 1, size));
     }
-    if u64_at(bytes, 160).unwrap() > at.generation {
+    if get_u64(bytes, 160) > at.generation {
         return Some(at.finding(key, Family::I, 3, 160));
     }
     if !is_at_rest(bytes) {
@@ -82,7 +85,7 @@ fn may_be_root(id: u64) -> bool
         || id == 9
         || id == 10
         || id == 18_446_744_073_709_551_607
-        || (256 <= id && id <= 18_446_744_073_709_551_360)
+        || is_free_id(id)
 }
 
 // Whether no deletion of the tree is in progress.

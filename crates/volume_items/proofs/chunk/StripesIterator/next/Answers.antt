@@ -4,7 +4,7 @@ use Rattle.volume_items.proofs.Rows.{stripes_step, all_behind, stripes_fewer}
 use Rattle.volume_items.proofs.chunk.StripesIterator.next.Goals as goal
 
 pub returns-clause-steps : goal.returns-clause-steps
-returns-clause-steps c = stripes_step _ _ _ _ c.if-self-lt32.false (c.in_ok-devid.ensures {u = tt}).1 (c.in_ok-physical.ensures {u = tt}).1 (all_behind 32 c.args.self.now.left.now)
+returns-clause-steps c = stripes_step _ _ _ _ c.if-self-lt32.false c.get_u64-devid.ensures c.get_u64-physical.ensures (all_behind 32 c.args.self.now.left.now)
 
 pub returns-clause-goes : goal.returns-clause-goes
 returns-clause-goes c =

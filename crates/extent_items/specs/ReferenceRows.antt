@@ -1,0 +1,42 @@
+-- The rules on the references of an extent's item. The first fault decides, and nothing behind it is looked at.
+use Rattle.std.specs.Prelude.{ℕ, zero, suc, ◌+◌, not, ◌||◌, ◌==◌, nat_lt, List, [], ◌∷◌, ◌++◌, length, if◌then◌else◌}
+use Rattle.verdict.specs.Rules.{TableRow}
+use Rattle.verdict.specs.Items.{item_rule}
+use Rattle.verdict.specs.declared.key.Key.{Key}
+use Rattle.verdict.specs.declared.finding.Family.TheVariants.{U, I}
+use Rattle.verdict.specs.declared.place.At.{At}
+use Rattle.extent_items.specs.References.{body_size, count_at, inline_reference}
+
+-- a reference of an EXTENT_ITEM whose type stands at an offset of the item: its type, its body, its count, and whether
+-- a leaf refers, which is outside the profile
+unfoldable pub data_reference_rows : At → Key → ℕ → ℕ → List ℕ → List TableRow
+data_reference_rows at key offset kind body =
+    item_rule at key (not (kind == 178 || kind == 184)) I 3 offset
+    ∷ item_rule at key (nat_lt (length body) (body_size kind)) I 1 (offset + 1)
+    ∷ item_rule at key ((inline_reference kind body).count == 0) I 3 (offset + 1 + count_at kind)
+    ∷ item_rule at key (kind == 184) U 11 184
+    ∷ []
+
+-- a reference of a METADATA_ITEM: whether a node refers, which is outside the profile, its type, and its body
+unfoldable pub block_reference_rows : At → Key → ℕ → ℕ → List ℕ → List TableRow
+block_reference_rows at key offset kind body =
+    item_rule at key (kind == 182) U 11 182
+    ∷ item_rule at key (not (kind == 176)) I 3 offset
+    ∷ item_rule at key (nat_lt (length body) (body_size kind)) I 1 (offset + 1)
+    ∷ []
+
+-- a reference of the item with this key
+abbrev pub one_reference_rows : At → Key → ℕ → ℕ → List ℕ → List TableRow
+one_reference_rows at key offset kind body =
+    if key.kind == 168 then data_reference_rows at key offset kind body else block_reference_rows at key offset kind body
+
+-- one whole reference after the other, behind so many bytes, the first of which stands at an offset of the item
+abbrev pub rows_behind : At → Key → ℕ → ℕ → List ℕ → List TableRow
+rows_behind at key n offset [] = []
+rows_behind at key (suc n) offset (byte ∷ bytes) = rows_behind at key n (offset + 1) bytes
+rows_behind at key zero offset (kind ∷ body) =
+    one_reference_rows at key offset kind body ++ rows_behind at key (body_size kind) (offset + 1) body
+
+-- the rules on all references in some bytes, the first of which stands at an offset of the item
+abbrev pub reference_rows : At → Key → ℕ → List ℕ → List TableRow
+reference_rows at key offset bytes = rows_behind at key 0 offset bytes
