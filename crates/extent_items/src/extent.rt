@@ -39,7 +39,8 @@ pub struct ExtentItem<'a> {
     pub generation: u64,
     /// The flags, a bit each: 1 data, 2 tree block. u64 at byte 16.
     pub flags: u64,
-    references: &'a [u8],
+    /// The bytes of the references, which `references` reads.
+    pub references: &'a [u8],
 }
 
 impl<'a> ExtentItem<'a> {

@@ -16,7 +16,8 @@ pub struct DirItem<'a> {
     /// The item's key, whose objectid is the directory's inode number. The offset of a DIR_ITEM is the
     /// hash of its names, that of a DIR_INDEX the index of its entry.
     pub key: Key,
-    bytes: &'a [u8],
+    /// The item's bytes, which `entries` reads.
+    pub bytes: &'a [u8],
 }
 
 /// One entry of a directory.

@@ -14,7 +14,8 @@ use verdict::{At, Family, Finding, Key};
 pub struct InodeRef<'a> {
     /// The item's key, whose objectid is the inode's number; of an INODE_REF the offset is the directory's.
     pub key: Key,
-    bytes: &'a [u8],
+    /// The item's bytes, which `names` reads.
+    pub bytes: &'a [u8],
 }
 
 /// The kind of an INODE_EXTREF, whose entries have the directory.

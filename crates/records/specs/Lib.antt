@@ -1,5 +1,6 @@
 pub mod Part
 pub mod Item
+pub mod Reads
 pub mod Walk
 pub mod Takes
 pub mod Contents

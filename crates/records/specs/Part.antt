@@ -1,18 +1,47 @@
 -- What a record says, as a plain value, and where it stands.
 use Rattle.std.specs.Prelude.{ℕ, ◌+◌, ◌^◌, ◌<◌, List}
 use Rattle.verdict.specs.declared.key.Key.{Key}
+use Rattle.volume_items.specs.declared.root.RootItem.{RootItem}
+use Rattle.volume_items.specs.RootLinkRow.{RootLinkFields}
+use Rattle.volume_items.specs.RootLinkItems.{link_fields_in}
+use Rattle.volume_items.specs.declared.device.DeviceItem.{DeviceItem}
 use Rattle.volume_items.specs.ChunkRow.{ChunkFields}
 use Rattle.volume_items.specs.ChunkItems.{fields_in}
-use Rattle.volume_items.specs.declared.root.RootItem.{RootItem}
+use Rattle.volume_items.specs.declared.dev_extent.DevExtent.{DevExtent}
+use Rattle.extent_items.specs.ExtentRow.{ExtentFields}
+use Rattle.extent_items.specs.ExtentItems.{extent_fields_in}
+use Rattle.extent_items.specs.declared.keyed.KeyedRef.{KeyedRef}
+use Rattle.extent_items.specs.declared.group.GroupItem.{GroupItem}
+use Rattle.fs_items.specs.declared.inode.InodeItem.{InodeItem}
+use Rattle.fs_items.specs.InodeRefRow.{InodeRefFields}
+use Rattle.fs_items.specs.Lent.{inode_ref_in, dir_in, sums_in}
+use Rattle.fs_items.specs.declared.xattr.Xattr.{Xattr}
+use Rattle.fs_items.specs.declared.orphan.Orphan.{Orphan}
+use Rattle.fs_items.specs.DirRow.{DirFields}
+use Rattle.fs_items.specs.declared.file_extent.FileExtent.{FileExtent}
+use Rattle.fs_items.specs.SumsRow.{SumFields}
 use Rattle.records.specs.declared.rec.Rec.{Rec}
-use Rattle.records.specs.declared.rec.Rec.TheVariants.{RootItem as ARoot, ChunkItem as AChunk, Unread, Super, Block}
+use Rattle.records.specs.declared.rec.Rec.TheVariants.{RootItem as ARootItem, RootLink as ARootLink, DeviceItem as ADeviceItem, ChunkItem as AChunkItem, DevExtent as ADevExtent, ExtentItem as AExtentItem, KeyedRef as AKeyedRef, GroupItem as AGroupItem, InodeItem as AInodeItem, InodeRef as AInodeRef, Xattr as AXattr, Orphan as AOrphan, DirItem as ADirItem, FileExtent as AFileExtent, SumRun as ASumRun, Unread, Super, Block}
 use Rattle.records.specs.declared.rec.RecAt.{RecAt}
 
--- what a record says: a root item, a chunk item, the bytes of an item that stays unread, the bytes_used of the superblock, or
--- the address and the level of a block
+-- what a record says: one sort for each reader of items; the bytes of an item that stays unread; the bytes_used of the superblock; the
+-- address and the level of a block
 pub data Part : Type 0 where
   RootPart : RootItem → Part
+  LinkPart : RootLinkFields → Part
+  DevicePart : DeviceItem → Part
   ChunkPart : ChunkFields → Part
+  DevExtentPart : DevExtent → Part
+  ExtentPart : ExtentFields → Part
+  KeyedPart : KeyedRef → Part
+  GroupPart : GroupItem → Part
+  InodePart : InodeItem → Part
+  NamesPart : InodeRefFields → Part
+  XattrPart : Xattr → Part
+  OrphanPart : Orphan → Part
+  EntriesPart : DirFields → Part
+  FileExtentPart : FileExtent → Part
+  SumsPart : SumFields → Part
   UnreadPart : List ℕ → Part
   SuperPart : ℕ → Part
   BlockPart : ℕ → ℕ → Part
@@ -26,8 +55,21 @@ pub record Located : Type 0 where
 
 -- what a lent record says
 abbrev pub part_of : Rec → Part
-part_of (ARoot item) = RootPart item
-part_of (AChunk item) = ChunkPart (fields_in item)
+part_of (ARootItem item) = RootPart item
+part_of (ARootLink item) = LinkPart (link_fields_in item)
+part_of (ADeviceItem item) = DevicePart item
+part_of (AChunkItem item) = ChunkPart (fields_in item)
+part_of (ADevExtent item) = DevExtentPart item
+part_of (AExtentItem item) = ExtentPart (extent_fields_in item)
+part_of (AKeyedRef item) = KeyedPart item
+part_of (AGroupItem item) = GroupPart item
+part_of (AInodeItem item) = InodePart item
+part_of (AInodeRef item) = NamesPart (inode_ref_in item)
+part_of (AXattr item) = XattrPart item
+part_of (AOrphan item) = OrphanPart item
+part_of (ADirItem item) = EntriesPart (dir_in item)
+part_of (AFileExtent item) = FileExtentPart item
+part_of (ASumRun item) = SumsPart (sums_in item)
 part_of (Unread bytes) = UnreadPart bytes.now
 part_of (Super bytes_used) = SuperPart bytes_used
 part_of (Block address level) = BlockPart address level

@@ -1,30 +1,150 @@
-//! The reader of any item.
+//! The reader of any item: the one place that knows the kinds of items.
 
-ghost use Rattle.std.specs.Prelude.{◌≡◌, MatchResult, Ok, Err, IfOk};
+ghost use Rattle.std.specs.Prelude.{◌≡◌, IfOk};
+ghost use Rattle.verdict.specs.Items.{item_finding};
 ghost use Rattle.records.specs.Part.{IsLawful, part_of};
-ghost use Rattle.records.specs.Item.{item_record};
+ghost use Rattle.records.specs.Reads.{Reads};
+ghost use Rattle.records.specs.Item.{
+    chunk_tree_record, device_tree_record, extent_tree_record, file_tree_record, groups_tree_record, inode_record,
+    item_record, root_tree_record, sums_tree_record};
 
 use crate::Rec;
-use verdict::{At, Finding, Key};
-use volume_items::{read_chunk, read_root};
+use extent_items::{read_extent, read_group, read_keyed};
+use fs_items::{
+    read_dir, read_file_extent, read_inode, read_inode_ref, read_orphan, read_sums, read_xattr,
+};
+use verdict::{At, Family, Finding, Key, TreeSort};
+use volume_items::{read_chunk, read_dev_extent, read_device, read_root, read_root_link};
 
 /// The record of the item with this key in these bytes, or the finding of the first rule of its kind that it
-/// breaks. Chunk items of the chunk tree and root items of the root tree are read, and all others stay unread.
+/// breaks. In the trees 8, 9 and 10 all items stay unread, in the root tree the kinds 1, 12 and 84, in the device
+/// tree the kind 249. An item of a kind that its tree does not list is U9.
 #[tactic(auto, unfolding(crate::specs::Item::item_record))]
 pub fn read_item<'a>(at: &At, key: Key, bytes: &'a [u8]) -> Result<Rec<'a>, Finding>
-    ensures row { let whole = item_record at.now key bytes.now in
-        MatchResult result (λ one. whole ≡ Ok (part_of one)) (λ finding. whole ≡ Err finding) }
+    ensures row { Reads result (item_record at.now key bytes.now) }
     ensures lawful { IfOk result (λ one. IsLawful (part_of one)) }
 {
-    match (at.tree, key.kind) {
-        (3, 228) => match read_chunk(at, key, bytes) {
-            Ok(item) => Ok(Rec::ChunkItem(item)),
-            Err(finding) => Err(finding),
-        },
-        (1, 132) => match read_root(at, key, bytes) {
-            Ok(item) => Ok(Rec::RootItem(item)),
-            Err(finding) => Err(finding),
-        },
-        _ => Ok(Rec::Unread(bytes)),
+    match at.sort {
+        TreeSort::Root => in_root_tree(at, key, bytes),
+        TreeSort::Extent => in_extent_tree(at, key, bytes),
+        TreeSort::Chunk => in_chunk_tree(at, key, bytes),
+        TreeSort::Device => in_device_tree(at, key, bytes),
+        TreeSort::File => in_file_tree(at, key, bytes),
+        TreeSort::Sums => in_sums_tree(at, key, bytes),
+        TreeSort::Groups => in_groups_tree(at, key, bytes),
+        TreeSort::Unread => Ok(Rec::Unread(bytes)),
+    }
+}
+
+// The finding of an item that its tree does not list.
+fn unlisted(at: &At, key: Key) -> Finding
+    ensures { result ≡ item_finding at.now key Family.U 9 key.kind }
+{
+    at.finding(key, Family::U, 9, u64::from(key.kind))
+}
+
+// The record of an item of the root tree.
+#[tactic(auto, unfolding(crate::specs::Item::root_tree_record))]
+fn in_root_tree<'a>(at: &At, key: Key, bytes: &'a [u8]) -> Result<Rec<'a>, Finding>
+    ensures row { Reads result (root_tree_record at.now key bytes.now) }
+    ensures lawful { IfOk result (λ one. IsLawful (part_of one)) }
+{
+    match key.kind {
+        132 => Ok(Rec::RootItem(read_root(at, key, bytes)?)),
+        144 | 156 => Ok(Rec::RootLink(read_root_link(at, key, bytes)?)),
+        1 | 12 | 84 => Ok(Rec::Unread(bytes)),
+        _ => Err(unlisted(at, key)),
+    }
+}
+
+// The record of an item of the extent tree.
+#[tactic(auto, unfolding(crate::specs::Item::extent_tree_record))]
+fn in_extent_tree<'a>(at: &At, key: Key, bytes: &'a [u8]) -> Result<Rec<'a>, Finding>
+    ensures row { Reads result (extent_tree_record at.now key bytes.now) }
+    ensures lawful { IfOk result (λ one. IsLawful (part_of one)) }
+{
+    match key.kind {
+        168 | 169 => Ok(Rec::ExtentItem(read_extent(at, key, bytes)?)),
+        176 | 178 | 182 | 184 => Ok(Rec::KeyedRef(read_keyed(at, key, bytes)?)),
+        192 => Ok(Rec::GroupItem(read_group(at, key, bytes)?)),
+        _ => Err(unlisted(at, key)),
+    }
+}
+
+// The record of an item of the chunk tree.
+#[tactic(auto, unfolding(crate::specs::Item::chunk_tree_record))]
+fn in_chunk_tree<'a>(at: &At, key: Key, bytes: &'a [u8]) -> Result<Rec<'a>, Finding>
+    ensures row { Reads result (chunk_tree_record at.now key bytes.now) }
+    ensures lawful { IfOk result (λ one. IsLawful (part_of one)) }
+{
+    match key.kind {
+        216 => Ok(Rec::DeviceItem(read_device(at, key, bytes)?)),
+        228 => Ok(Rec::ChunkItem(read_chunk(at, key, bytes)?)),
+        _ => Err(unlisted(at, key)),
+    }
+}
+
+// The record of an item of the device tree.
+#[tactic(auto, unfolding(crate::specs::Item::device_tree_record))]
+fn in_device_tree<'a>(at: &At, key: Key, bytes: &'a [u8]) -> Result<Rec<'a>, Finding>
+    ensures row { Reads result (device_tree_record at.now key bytes.now) }
+    ensures lawful { IfOk result (λ one. IsLawful (part_of one)) }
+{
+    match key.kind {
+        204 => Ok(Rec::DevExtent(read_dev_extent(at, key, bytes)?)),
+        249 => Ok(Rec::Unread(bytes)),
+        _ => Err(unlisted(at, key)),
+    }
+}
+
+// The record of an item of a tree of files.
+#[tactic(auto, unfolding(crate::specs::Item::file_tree_record))]
+fn in_file_tree<'a>(at: &At, key: Key, bytes: &'a [u8]) -> Result<Rec<'a>, Finding>
+    ensures row { Reads result (file_tree_record at.now key bytes.now) }
+    ensures lawful { IfOk result (λ one. IsLawful (part_of one)) }
+{
+    match key.kind {
+        84 | 96 => Ok(Rec::DirItem(read_dir(at, key, bytes)?)),
+        108 => Ok(Rec::FileExtent(read_file_extent(at, key, bytes)?)),
+        _ => of_inode(at, key, bytes),
+    }
+}
+
+// The record of an item of an inode by itself.
+#[tactic(auto, unfolding(crate::specs::Item::inode_record))]
+fn of_inode<'a>(at: &At, key: Key, bytes: &'a [u8]) -> Result<Rec<'a>, Finding>
+    ensures row { Reads result (inode_record at.now key bytes.now) }
+    ensures lawful { IfOk result (λ one. IsLawful (part_of one)) }
+{
+    match key.kind {
+        1 => Ok(Rec::InodeItem(read_inode(at, key, bytes)?)),
+        12 | 13 => Ok(Rec::InodeRef(read_inode_ref(at, key, bytes)?)),
+        24 => Ok(Rec::Xattr(read_xattr(at, key, bytes)?)),
+        48 => Ok(Rec::Orphan(read_orphan(at, key, bytes)?)),
+        _ => Err(unlisted(at, key)),
+    }
+}
+
+// The record of an item of the tree of checksums.
+#[tactic(auto, unfolding(crate::specs::Item::sums_tree_record))]
+fn in_sums_tree<'a>(at: &At, key: Key, bytes: &'a [u8]) -> Result<Rec<'a>, Finding>
+    ensures row { Reads result (sums_tree_record at.now key bytes.now) }
+    ensures lawful { IfOk result (λ one. IsLawful (part_of one)) }
+{
+    match key.kind {
+        128 => Ok(Rec::SumRun(read_sums(at, key, bytes)?)),
+        _ => Err(unlisted(at, key)),
+    }
+}
+
+// The record of an item of the tree of block groups.
+#[tactic(auto, unfolding(crate::specs::Item::groups_tree_record))]
+fn in_groups_tree<'a>(at: &At, key: Key, bytes: &'a [u8]) -> Result<Rec<'a>, Finding>
+    ensures row { Reads result (groups_tree_record at.now key bytes.now) }
+    ensures lawful { IfOk result (λ one. IsLawful (part_of one)) }
+{
+    match key.kind {
+        192 => Ok(Rec::GroupItem(read_group(at, key, bytes)?)),
+        _ => Err(unlisted(at, key)),
     }
 }

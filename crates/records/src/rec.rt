@@ -1,23 +1,51 @@
 //! Records.
 
+use extent_items::{ExtentItem, GroupItem, KeyedRef};
+use fs_items::{DirItem, FileExtent, InodeItem, InodeRef, Orphan, SumRun, Xattr};
 use verdict::Key;
-use volume_items::{ChunkItem, RootItem};
+use volume_items::{ChunkItem, DevExtent, DeviceItem, RootItem, RootLink};
 
 /// What one item, block or superblock says, in the bytes that it was read from.
 #[derive(Clone, Copy, Debug)]
 pub enum Rec<'a> {
-    /// A root item of the root tree.
+    /// A root item.
     RootItem(RootItem),
-    /// A chunk item of the chunk tree.
+    /// The name of a subvolume, from one of its two sides.
+    RootLink(RootLink<'a>),
+    /// A device item.
+    DeviceItem(DeviceItem),
+    /// A chunk item.
     ChunkItem(ChunkItem<'a>),
+    /// A range of the device that a chunk takes.
+    DevExtent(DevExtent),
+    /// An extent: file data or a tree block.
+    ExtentItem(ExtentItem<'a>),
+    /// A reference to an extent, with an item of its own.
+    KeyedRef(KeyedRef),
+    /// A block group.
+    GroupItem(GroupItem),
+    /// An inode.
+    InodeItem(InodeItem),
+    /// The names of a file in a directory.
+    InodeRef(InodeRef<'a>),
+    /// An extended attribute.
+    Xattr(Xattr),
+    /// An orphan: an inode that waits to be removed.
+    Orphan(Orphan),
+    /// The entries of a directory.
+    DirItem(DirItem<'a>),
+    /// A range of a file.
+    FileExtent(FileExtent),
+    /// Checksums of file data.
+    SumRun(SumRun<'a>),
     /// An item that stays unread: its bytes.
     Unread(&'a [u8]),
-    /// The superblock.
+    /// The superblock. No item is read as one.
     Super {
         /// The bytes that extents and tree blocks use.
         bytes_used: u64,
     },
-    /// A block of a tree.
+    /// A block of a tree. No item is read as one.
     Block {
         /// Its logical address in bytes.
         address: u64,

@@ -25,7 +25,8 @@ pub struct ChunkItem<'a> {
     pub length: u64,
     /// The chunk's type, a bit each: 1 data, 2 system, 4 metadata, 32 dup.
     pub class: u64,
-    stripes: &'a [u8],
+    /// The bytes of the stripes, 32 each, which `stripes` reads.
+    pub stripes: &'a [u8],
 }
 
 /// One copy of a chunk.
