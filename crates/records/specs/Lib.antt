@@ -6,3 +6,4 @@ pub mod Takes
 pub mod Contents
 pub mod FullCheck
 pub mod WalkLaw
+pub mod Owned

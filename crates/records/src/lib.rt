@@ -3,10 +3,12 @@
 
 mod item;
 mod law;
+mod owned;
 mod rec;
 mod take;
 
 pub use item::read_item;
 pub use law::visits_decide;
+pub use owned::{ItemAt, OwnedRec};
 pub use rec::{Rec, RecAt};
 pub use take::{Both, Nothing, Taker};
