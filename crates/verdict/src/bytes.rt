@@ -40,6 +40,14 @@ impl Bytes {
     {
         self.list.as_slice()
     }
+
+    /// The bytes, as a vector of the same memory.
+    pub fn into_vec(self) -> Vec<u8>
+        ensures { result.items ≡ self }
+    {
+        let Bytes { list } = self;
+        list
+    }
 }
 
 impl From<Vec<u8>> for Bytes {

@@ -12,10 +12,10 @@ use Rattle.verdict.specs.Image.{range, written, applied}
 use Rattle.verdict.proofs.Images.{length-written, get-written_in, get-written_before, get-written_behind}
 use Rattle.write_cache.specs.Cache.{with_bytes, with_writes, cache_of, overlaid, AllInside}
 
-eqb-same : (n : ℕ) → (n == n) ≡ true
+pub eqb-same : (n : ℕ) → (n == n) ≡ true
 eqb-same n = grind arith
 
-eqb-other : (m n : ℕ) → m ≢ n → (m == n) ≡ false
+pub eqb-other : (m n : ℕ) → m ≢ n → (m == n) ≡ false
 eqb-other m n h = grind arith
 
 -- at the offset of an insertion, and at another
@@ -52,6 +52,12 @@ pub get-with_bytes_in : (m : FinMap nat_cmp ℕ) (at : ℕ) (bs : List ℕ) (q :
 get-with_bytes_in m at bs q low high =
     ap (get (with_bytes m at bs)) (omega arith) ∙ get-with_bytes_at m at bs (q - at) (omega arith)
 
+-- to put no bytes
+pub with_bytes_none : (m : FinMap nat_cmp ℕ) (at : ℕ) (bs : List ℕ) → length bs ≡ 0 → m ≡ with_bytes m at bs
+unfolding with_bytes
+with_bytes_none m at [] h = refl
+with_bytes_none m at (b ∷ bs) h = absurd (omega arith)
+
 -- to put one write more
 with_writes-push : (m : FinMap nat_cmp ℕ) (ws : List HeldWrite) (w : HeldWrite) → with_writes m (ws ++ w ∷ []) ≡ with_bytes (with_writes m ws) w.at w.bytes
 unfolding with_writes
@@ -86,6 +92,9 @@ pub overlaid-empty : (at : ℕ) (xs : List ℕ) → overlaid empty at xs ≡ xs
 overlaid-empty at xs = same_bytes _ _ (length-overlaid empty at xs) (λ i h.
     let k : i < length xs = omega (arith, length-overlaid empty at xs) in
     get-overlaid empty at xs i k ∙ ap (λ o. unwrap_or o (get_or xs i 0)) (get-empty nat_cmp (at + i)))
+
+pub overlaid-nothing : (m : FinMap nat_cmp ℕ) (at : ℕ) (xs : List ℕ) → length xs ≡ 0 → xs ≡ overlaid m at xs
+overlaid-nothing m at xs none = sym (same_bytes _ _ (length-overlaid m at xs) (λ i h. absurd (omega (arith, length-overlaid m at xs))))
 
 -- a byte of a laid-over buffer after bytes were put: before them, behind them, and one of theirs
 get-overlaid_put_before : (m : FinMap nat_cmp ℕ) (a : ℕ) (bs : List ℕ) (at : ℕ) (xs : List ℕ) (i : ℕ) → i < length xs → at + i < a → get_or (overlaid (with_bytes m a bs) at xs) i 0 ≡ get_or (overlaid m at xs) i 0
@@ -225,11 +234,6 @@ AllInside-get end [] i d h g = absurd (omega arith)
 AllInside-get end (w ∷ ws) zero d h g = h.0
 AllInside-get end (w ∷ ws) (suc i) d h g = AllInside-get end ws i d h.1 (omega arith)
 
--- one write more, or none
-pub AllInside-pushed : (end : ℕ) (b : Bool) (ws vs : List HeldWrite) (w : HeldWrite) → vs ≡ cond b (ws ++ w ∷ []) ws → AllInside end ws → w.at + length w.bytes ≤ end → AllInside end vs
-AllInside-pushed end true ws vs w e h g = rw e (AllInside-push end ws w h g)
-AllInside-pushed end false ws vs w e h g = rw e h
-
 -- where a byte was put, one stays
 with_bytes-keeps : (m : FinMap nat_cmp ℕ) (a : ℕ) (bs : List ℕ) (q : ℕ) → IsSome (get m q) → IsSome (get (with_bytes m a bs) q)
 with_bytes-keeps m a bs q some =
@@ -308,30 +312,7 @@ next-fits end ws vs k w same is h all =
 next-map : (ws : List HeldWrite) (k : ℕ) (w : HeldWrite) → w ≡ get_or ws k w → k < length ws → cache_of (take (k + 1) ws) ≡ with_bytes (cache_of (take k ws)) w.at w.bytes
 next-map ws k w is h = cache_of-take_more ws k w h ∙ ap (λ u. with_bytes (cache_of (take k ws)) u.at u.bytes) (sym is)
 
--- to lay the next write over
-pub next-overlaid : (ws : List HeldWrite) (k : ℕ) (w : HeldWrite) (at : ℕ) (xs ys zs : List ℕ) → w ≡ get_or ws k w → k < length ws → ys ≡ overlaid (cache_of (take k ws)) at xs → zs ≡ overlaid (with_bytes empty w.at w.bytes) at ys → zs ≡ overlaid (cache_of (take (k + 1) ws)) at xs
-next-overlaid ws k w at xs ys zs is h so then_ =
-    then_ ∙ ap (overlaid (with_bytes empty w.at w.bytes) at) so
-    ∙ sym (ap (λ m. overlaid m at xs) (next-map ws k w is h) ∙ overlaid-with_bytes (cache_of (take k ws)) w.at w.bytes at xs)
-
--- an offset that neither the writes so far nor the next one covers
-pub next-none : (ws : List HeldWrite) (k : ℕ) (w : HeldWrite) (q : ℕ) → w ≡ get_or ws k w → k < length ws → ((w.at ≤ q) × (q < w.at + length w.bytes) → ⊥) → get (cache_of (take k ws)) q ≡ None → get (cache_of (take (k + 1) ws)) q ≡ None
-next-none ws k w q is h out none =
-    ap (λ m. get m q) (next-map ws k w is h) ∙ get-with_bytes_out (cache_of (take k ws)) w.at w.bytes q out ∙ none
-
 -- an offset that the write at a place covers
 pub next-covers : (ws : List HeldWrite) (k : ℕ) (w : HeldWrite) (q : ℕ) → w ≡ get_or ws k w → k < length ws → w.at ≤ q → q < w.at + length w.bytes → IsSome (get (cache_of ws) q)
 next-covers ws k w q is h low high =
     cache_of-covers ws k w q h (subst (λ u. u.at ≤ q) is low) (subst (λ u. q < u.at + length u.bytes) is high)
-
--- the map that a list of no writes makes
-pub cache_of_none : (ws : List HeldWrite) → ws ≡ [] → cache_of ws ≡ empty
-cache_of_none ws e = ap cache_of e ∙ cache_of-none
-
--- the map that a list makes to which a write was pushed, or not
-pub cache_of_pushed : (b : Bool) (ws vs : List HeldWrite) (w : HeldWrite) (m : FinMap nat_cmp ℕ) → vs ≡ cond b (ws ++ w ∷ []) ws → cache_of ws ≡ m → b ≡ true → cache_of vs ≡ with_bytes m w.at w.bytes
-cache_of_pushed b ws vs w m e is t =
-    ap cache_of (subst (λ c. vs ≡ cond c (ws ++ w ∷ []) ws) t e) ∙ cache_of-push ws w ∙ ap (λ k. with_bytes k w.at w.bytes) is
-
--- what a push leaves
-pub ruleset pushes = (AllInside-pushed, cache_of_pushed)

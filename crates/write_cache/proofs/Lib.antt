@@ -1,1 +1,3 @@
 pub mod CacheLaws
+pub mod PutLaws
+pub mod RunLaws

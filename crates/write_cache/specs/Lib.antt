@@ -1,2 +1,4 @@
 pub mod Cache
+pub mod Lent
 pub mod Pieces
+pub mod Runs

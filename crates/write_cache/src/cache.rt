@@ -2,20 +2,24 @@
 
 ghost use Rattle.std.specs.Prelude.{◌≡◌, ℕ, ◌+◌, ◌≤◌, ◌<◌, ◌^◌, ◌↔◌, length, OnOk, OnErr, IsTrue, IsSome};
 ghost use Rattle.std.specs.FinMap as map;
-ghost use Rattle.verdict.specs.Image.{written};
-ghost use Rattle.write_cache.specs.Cache.{with_bytes, cache_of, overlaid, AllInside};
+ghost use Rattle.write_cache.specs.Cache.{with_bytes, overlaid};
+ghost use Rattle.write_cache.specs.Lent.{pieces_left};
+ghost use Rattle.write_cache.specs.Pieces.{ArePiecesOf};
 
+use crate::pieces::Pieces;
+use crate::runs::{Runs, last_from, overwrite, put_copy, put_own};
 use std::alloc::Global;
+use std::collections::BTreeMap;
 use std::marker::Model;
-use verdict::{Bytes, HeldWrite, NoMemory};
+use verdict::{HeldWrite, NoMemory};
 
 /// The writes that wait, seen as the map from each offset on the device, in bytes, that one of them
 /// covers to the byte that the newest of these puts there.
 #[derive(Drop)]
 pub struct WriteCache {
     alloc: Global,
-    // In the order in which they were put.
-    held: Vec<HeldWrite>,
+    // Under the offset where it begins, the bytes of each piece.
+    runs: Runs,
 }
 
 impl Model for WriteCache {
@@ -28,46 +32,55 @@ impl Model for WriteCache {
 
     ghost coded = { map.code coded_ℕ coded_ℕ };
 
-    ghost use Rattle.write_cache.specs.Cache.{cache_of, AllInside};
+    ghost use Rattle.write_cache.specs.Pieces.{map_of};
+    ghost use Rattle.write_cache.specs.Runs.{pieces_of, AreKept};
 
-    ghost view = { λ c. cache_of c.held.items };
+    ghost view = { λ c. map_of (pieces_of c.runs.entries) };
 
-    // Each write ends at an offset of 64 bits.
-    ghost invariant = { λ c. AllInside 18446744073709551615 c.held.items };
+    ghost invariant = { λ c. AreKept c.runs.entries };
 }
 
 impl WriteCache {
     /// A cache in which nothing waits. It takes its memory from this allocator.
-    #[tactic(auto, using(crate::proofs::CacheLaws::cache_of_none))]
+    #[tactic(auto, using(crate::proofs::RunLaws::no_runs))]
     pub fn new(alloc: Global) -> WriteCache
         ensures { result ≡ map.empty }
     {
         WriteCache {
             alloc,
-            held: Vec::new(alloc),
+            runs: BTreeMap::new(alloc),
         }
     }
 
     /// Puts a copy of these bytes from the offset `at` on, over what waits there. When memory is
     /// wanting, nothing changes.
+    #[tactic(auto, using(crate::proofs::CacheLaws::with_bytes_none))]
     pub fn put(&mut self, at: u64, bytes: &[u8]) -> Result<(), NoMemory>
         requires { at + length bytes.now < 2 ^ 64 }
         ensures ok { OnOk result (self.new ≡ with_bytes self.old at bytes.now) }
         ensures err { OnErr result (self.new ≡ self.old) }
     {
-        let bytes = Bytes::of(self.alloc, bytes)?;
-        self.hold(HeldWrite { at, bytes })
+        if bytes.is_empty() {
+            return Ok(());
+        }
+        match put_copy(&mut self.runs, self.alloc, at, bytes) {
+            Ok(()) => Ok(()),
+            Err(_) => Err(NoMemory),
+        }
     }
 
-    /// Puts the bytes of this write, which are not copied, over what waits there. When memory is
-    /// wanting, nothing changes.
-    #[tactic(auto, using(crate::proofs::CacheLaws::pushes))]
+    /// Puts the bytes of this write over what waits there. They are not copied where no piece that
+    /// waits reaches them from before. When memory is wanting, nothing changes.
+    #[tactic(auto, using(crate::proofs::CacheLaws::with_bytes_none))]
     pub fn hold(&mut self, write: HeldWrite) -> Result<(), NoMemory>
         requires { write.at + length write.bytes < 2 ^ 64 }
         ensures ok { OnOk result (self.new ≡ with_bytes self.old write.at write.bytes) }
         ensures err { OnErr result (self.new ≡ self.old) }
     {
-        match self.held.push(write) {
+        if write.bytes.as_slice().is_empty() {
+            return Ok(());
+        }
+        match put_own(&mut self.runs, self.alloc, write.at, write.bytes.into_vec()) {
             Ok(()) => Ok(()),
             Err(_) => Err(NoMemory),
         }
@@ -75,75 +88,84 @@ impl WriteCache {
 
     /// Puts what waits over a buffer that begins at the offset `at` of the device.
     pub fn overlay(&self, at: u64, into: &mut [u8])
-        requires { at + length into.old < 2 ^ 64 }
         ensures { into.new ≡ overlaid self.now at into.old }
     {
-        for write in &self.held {
-            overlay_one(write, at, into);
+        if into.is_empty() {
+            return;
+        }
+        let last = at.saturating_add(into.len() as u64 - 1);
+        let mut runs = self.runs.range(..=last);
+        while let Some((begin, bytes)) = runs.next_back() {
+            if !overlay_run(*begin, bytes.as_slice(), at, into) {
+                return;
+            }
         }
     }
 
     /// Whether one of the `len` bytes from the offset `at` on waits.
     pub fn touches(&self, at: u64, len: u64) -> bool
-        ensures { IsTrue result ↔ ((i : ℕ) × (at ≤ i) × (i < at + len) × IsSome (map.get self.now i)) }
+        ensures { IsTrue result
+            ↔ ((i : ℕ) × (at ≤ i) × (i < at + len) × IsSome (map.get self.now i)) }
     {
-        for write in &self.held {
-            if meets(write, at, len) {
-                return true;
-            }
+        if len == 0 {
+            return false;
         }
-        false
+        match last_from(&self.runs, at.saturating_add(len - 1)) {
+            Some((begin, bytes)) => at < begin + bytes.len() as u64,
+            None => false,
+        }
+    }
+
+    /// Whether each of the `len` bytes from the offset `at` on waits.
+    pub fn covers(&self, at: u64, len: u64) -> bool
+        ensures { IsTrue result
+            ↔ ((i : ℕ) → at ≤ i → i < at + len → IsSome (map.get self.now i)) }
+    {
+        if len == 0 {
+            return true;
+        }
+        match last_from(&self.runs, at) {
+            Some((begin, bytes)) => {
+                let end = begin + bytes.len() as u64;
+                at <= end && len <= end - at
+            }
+            None => false,
+        }
     }
 
     /// Lets go of all that waits.
-    #[tactic(auto, using(crate::proofs::CacheLaws::cache_of_none))]
+    #[tactic(auto, using(crate::proofs::RunLaws::no_runs))]
     pub fn clear(&mut self)
         ensures { self.new ≡ map.empty }
     {
-        self.held.clear();
+        self.runs.clear();
     }
 
-    /// Writes that, put in their order, make what waits.
-    pub fn writes(&self) -> &[HeldWrite]
-        ensures make { cache_of result.now ≡ self.now }
-        ensures fit { AllInside 18446744073709551615 result.now }
+    /// The pieces of what waits: the maximal runs of offsets at which a byte waits, in rising order.
+    pub fn pieces(&self) -> Pieces<'_>
+        ensures { ArePiecesOf self.now (pieces_left result) }
     {
-        self.held.as_slice()
+        Pieces::new(self.runs.iter())
     }
 }
 
-// Puts one write over a buffer that begins at an offset.
-fn overlay_one(write: &HeldWrite, at: u64, into: &mut [u8])
-    requires write_fits { write.now.at + length write.now.bytes < 2 ^ 64 }
-    requires buffer_fits { at + length into.old < 2 ^ 64 }
-    ensures { into.new ≡ overlaid (with_bytes map.empty write.now.at write.now.bytes) at into.old }
+// Puts the bytes that begin at an offset over a buffer that begins at the offset `at`, and says whether they
+// end behind `at`.
+fn overlay_run(begin: u64, bytes: &[u8], at: u64, into: &mut [u8]) -> bool
+    requires { begin + length bytes.now < 2 ^ 64 }
+    ensures laid { into.new ≡ overlaid (with_bytes map.empty begin bytes.now) at into.old }
+    ensures behind { IsTrue result ↔ (at < begin + length bytes.now) }
 {
-    let bytes = write.bytes.as_slice();
-    let low = at.max(write.at);
-    let high = (at + into.len() as u64).min(write.at + bytes.len() as u64);
+    let end = begin + bytes.len() as u64;
+    if end <= at {
+        return false;
+    }
+    let room = into.len() as u64;
+    let low = at.max(begin);
+    let high = if room < end - at { at + room } else { end };
     if low < high {
-        let part = &bytes[(low - write.at) as usize..(high - write.at) as usize];
+        let part = &bytes[(low - begin) as usize..(high - begin) as usize];
         overwrite(into, (low - at) as usize, part);
     }
-}
-
-// Puts these bytes over the range that begins at a place.
-#[tactic(auto, unfolding(verdict::specs::Image::written))]
-fn overwrite(into: &mut [u8], at: usize, from: &[u8])
-    requires { at + length from.now ≤ length into.old }
-    ensures { into.new ≡ written into.old at from.now }
-{
-    into[at..at + from.len()].copy_from_slice(from);
-}
-
-// Whether one of the `len` bytes from an offset on is of this write.
-fn meets(write: &HeldWrite, at: u64, len: u64) -> bool
-    ensures { IsTrue result ↔ ((i : ℕ) × (at ≤ i) × (i < at + len) × (write.now.at ≤ i) × (i < write.now.at + length write.now.bytes)) }
-{
-    let held = write.bytes.as_slice().len() as u64;
-    if write.at < at {
-        0 < len && at - write.at < held
-    } else {
-        0 < held && write.at - at < len
-    }
+    true
 }

@@ -1,16 +1,34 @@
-use Rattle.std.proofs.Common.{ap, sym, ◌∙◌, arith, ◌+◌, ◌≤◌, length}
-use Rattle.write_cache.specs.Cache.{overlaid}
-use Rattle.write_cache.proofs.CacheLaws.{cache_of-none, overlaid-empty, next-fits, next-overlaid}
+use Rattle.std.proofs.Common.{rules, ◌≡◌, ◌+◌, ◌≤◌, length, inl, inr, arith, ap, subst, true, false}
+use Rattle.std.proofs.lemmas.Bool.{cases_lt}
+use Rattle.write_cache.specs.Runs.{AreKept}
+use Rattle.write_cache.proofs.CacheLaws.{overlaid-nothing}
+use Rattle.write_cache.proofs.RunLaws.{over_start, over_step, over_stop, over_end, kept_last}
 use Rattle.write_cache.proofs.cache.WriteCache.overlay.Goals as goal
 
-pub loop-write-init : goal.loop-write-init
-loop-write-init c = sym (ap (λ m. overlaid m c.args.at c.args.into.now) cache_of-none ∙ overlaid-empty _ _)
+pub returns-then-is_empty : goal.returns-then-is_empty
+returns-then-is_empty c = overlaid-nothing c.args.self.now c.args.at c.args.into.now (search rules)
 
-pub overlay_one-requires-clause-write_fits : goal.overlay_one-requires-clause-write_fits
-overlay_one-requires-clause-write_fits c =
-    let fits : c.write-item.result.at + length c.write-item.result.bytes ≤ 18446744073709551615 = next-fits 18446744073709551615 c.self.inside.held.items c.deref-write-items.result.now c.loop-write.write-index c.write-item.result c.deref-write-items.ensures.value c.write-item.is c.loop-write-test.true c.self.invariant in
+pub loop-begin-init : goal.loop-begin-init
+loop-begin-init c = over_start c.self.inside.runs.entries c.range-runs.result c.args.self.now c.args.at c.saturating_add-last.result c.args.into.now c.self.invariant c.self.view_is (c.range-runs.ensures.between tt) (omega arith)
+
+pub overlay_run-requires : goal.overlay_run-requires
+overlay_run-requires c =
+    let size : length c.as_slice.result.now ≡ length c.in-Some.bytes.now.items = ap length c.as_slice.ensures.value in
+    let fits : c.in-Some.begin.now + length c.in-Some.bytes.now.items ≤ 18446744073709551615 = kept_last c.next_back.new.self (c.in-Some.begin.now, c.in-Some.bytes.now) (subst AreKept c.in-Some.ensures.steps c.loop-begin.invariant.0) in
     omega arith
 
-pub loop-write-preserved : goal.loop-write-preserved
-loop-write-preserved c =
-    next-overlaid c.deref-write-items.result.now c.loop-write.write-index c.write-item.result c.args.at c.args.into.now c.loop-write.into c.overlay_one.new.into c.write-item.is c.loop-write-test.true c.loop-write.invariant c.overlay_one.ensures
+pub returns-then-not-overlay_run : goal.returns-then-not-overlay_run
+returns-then-not-overlay_run c =
+    over_stop c.next_back.new.self c.loop-begin.runs (c.in-Some.begin.now, c.in-Some.bytes.now) c.args.self.now c.args.at c.args.into.now c.loop-begin.into c.overlay_run.new.into c.as_slice.result.now c.in-Some.ensures.steps c.as_slice.ensures.value c.overlay_run.ensures.laid c.loop-begin.invariant
+    (elim (cases_lt c.args.at (c.in-Some.begin.now + length c.as_slice.result.now)) [
+      | inl behind ↦ let met : c.overlay_run.result ≡ true = c.overlay_run.ensures.behind.1 behind in let not_met : c.overlay_run.result ≡ false = c.if-not-overlay_run.true in cc
+      | inr before ↦ before
+    ])
+
+pub loop-begin-preserved : goal.loop-begin-preserved
+loop-begin-preserved c = over_step c.next_back.new.self c.loop-begin.runs (c.in-Some.begin.now, c.in-Some.bytes.now) c.args.self.now c.args.at c.args.into.now c.loop-begin.into c.overlay_run.new.into c.as_slice.result.now c.in-Some.ensures.steps c.as_slice.ensures.value c.overlay_run.ensures.laid c.loop-begin.invariant
+
+pub returns : goal.returns
+returns c =
+    let left = rw c.in_default.is at c.next_back.ensures.steps in
+    over_end c.loop-begin.runs c.args.self.now c.args.at c.args.into.now c.loop-begin.into left.0 c.loop-begin.invariant

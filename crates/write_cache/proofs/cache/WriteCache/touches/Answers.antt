@@ -1,23 +1,23 @@
-use Rattle.std.proofs.Common.{ap, ◌∙◌, refl, subst, ◌≡◌, false, true}
-use Rattle.std.specs.Ordering.{nat_cmp}
+use Rattle.std.proofs.Common.{◌≡◌, ◌+◌, ◌<◌, length, true, false, arith, sym, subst}
 use Rattle.std.specs.Prelude.{IsSome}
-use Rattle.std.specs.FinMap.{get, get-empty}
-use Rattle.write_cache.specs.Cache.{cache_of}
-use Rattle.write_cache.proofs.CacheLaws.{cache_of-none, next-none, next-covers}
+use Rattle.std.specs.FinMap.{get}
+use Rattle.write_cache.proofs.RunLaws.{last_fits, touches_here, touches_only, touches_none, ltb-is, ltb-so}
 use Rattle.write_cache.proofs.cache.WriteCache.touches.Goals as goal
 
-pub loop-write-init : goal.loop-write-init
-loop-write-init c = λ q low high. ap (λ m. get m q) cache_of-none ∙ get-empty nat_cmp q
+pub overflow_add-result : goal.overflow_add-result
+overflow_add-result c =
+    let fits : c.in-Some.begin + length c.in-Some.bytes.now < 18446744073709551616 = last_fits c.self.inside.runs.entries c.saturating_add.result c.in-Some.begin c.in-Some.bytes.now c.self.invariant c.in-Some.ensures.found in
+    omega arith
 
-pub returns-then-meets : goal.returns-then-meets
-returns-then-meets c = (
-  λ _. let at = c.meets.ensures.0 c.if-meets.true in
-      (at.0, at.1, at.2, subst (λ m. IsSome (get m at.0)) (ap cache_of c.deref-write-items.ensures.value ∙ c.self.view_is) (next-covers c.deref-write-items.result.now c.loop-write.write-index c.write-item.result at.0 c.write-item.is c.loop-write-test.true at.3 at.4)),
-  λ _. refl,
+pub returns-in-Some : goal.returns-in-Some
+returns-in-Some c = (
+  λ t. let found = touches_here c.self.inside.runs.entries c.saturating_add.result c.in-Some.begin c.args.at c.args.len c.in-Some.bytes.now c.self.invariant c.in-Some.ensures.found (omega arith) (ltb-is _ _ t) (omega arith) in
+      (found.0, found.1, found.2, subst (λ m. IsSome (get m found.0)) c.self.view_is found.3),
+  λ f. ltb-so _ _ (touches_only c.self.inside.runs.entries c.saturating_add.result c.in-Some.begin c.args.at c.args.len f.0 c.in-Some.bytes.now c.self.invariant c.in-Some.ensures.found (omega arith) f.1 f.2 (subst (λ m. IsSome (get m f.0)) (sym c.self.view_is) f.3)),
 )
 
-pub loop-write-preserved : goal.loop-write-preserved
-loop-write-preserved c = λ q low high.
-    next-none c.deref-write-items.result.now c.loop-write.write-index c.write-item.result q c.write-item.is c.loop-write-test.true
-    (λ p. let met : c.meets.result ≡ true = c.meets.ensures.1 (q, low, high, p.0, p.1) in let not_met : c.meets.result ≡ false = c.if-meets.false in cc)
-    (c.loop-write.invariant q low high)
+pub returns-in-None : goal.returns-in-None
+returns-in-None c = (
+  λ t. absurd (let f : false ≡ true = t in cc),
+  λ f. absurd (touches_none c.self.inside.runs.entries c.saturating_add.result c.args.at c.args.len f.0 c.self.invariant c.in-None.ensures.found (omega arith) f.1 f.2 (subst (λ m. IsSome (get m f.0)) (sym c.self.view_is) f.3)),
+)

@@ -1,0 +1,35 @@
+//! The pieces of what waits, lent one after the other.
+
+ghost use Rattle.std.specs.Prelude.{◌≡◌};
+ghost use Rattle.std.specs.Iterator.{item_count, YieldsFirstBy};
+ghost use Rattle.write_cache.specs.Lent.{piece_lent, pieces_left};
+
+use std::collections::btree_map::Iter;
+
+/// The pieces of a cache in rising order: each item is the offset on the device where a piece begins,
+/// and the piece's bytes.
+#[derive(Drop)]
+pub struct Pieces<'a> {
+    entries: Iter<'a, u64, Vec<u8>>,
+}
+
+impl<'a> Pieces<'a> {
+    pub(crate) fn new(entries: Iter<'a, u64, Vec<u8>>) -> Pieces<'a>
+        ensures { result.entries ≡ entries.entry }
+    {
+        Pieces { entries }
+    }
+}
+
+impl<'a> Iterator for Pieces<'a> {
+    type Item = (u64, &'a [u8]);
+
+    ghost next_gives = { YieldsFirstBy piece_lent pieces_left };
+
+    ghost remaining = { item_count pieces_left };
+
+    fn next(&mut self) -> Option<(u64, &'a [u8])> {
+        let (at, bytes) = self.entries.next()?;
+        Some((*at, bytes.as_slice()))
+    }
+}
