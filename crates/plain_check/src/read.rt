@@ -45,7 +45,6 @@ pub fn read_under<D: Disk>(
     requires some { 0 < length into.old }
     requires few { length into.old ≤ 65536 }
     requires inside { at + length into.old ≤ D.len disk.old }
-    requires fits { at + length into.old < 2 ^ 64 }
     ensures bytes { OnOk result (IfSome (D.bytes disk.old)
         (λ image. into.new ≡ range at (length into.old) (overlaid cache.now 0 image))) }
     ensures kept { Kept D.Disk disk.old disk.new (is_disk_fault result) }
