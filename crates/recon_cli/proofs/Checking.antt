@@ -4,8 +4,8 @@ use Rattle.std.specs.Ordering.{nat_cmp}
 use Rattle.std.specs.FinMap.{FinMap, empty}
 use Rattle.write_cache.specs.Cache.{overlaid}
 use Rattle.write_cache.proofs.CacheLaws.{overlaid-empty}
-use Rattle.plain_check.specs.FullCheck.{full_check}
-use Rattle.plain_check.specs.declared.image.Verdict.{Verdict}
+use Rattle.records.specs.FullCheck.{full_check}
+use Rattle.verdict.specs.declared.finding.Verdict.{Verdict}
 use Rattle.recon_cli.specs.Outcome.{verdict_status, verdict_text}
 use Rattle.recon_cli.specs.Run.{ChecksAs}
 

@@ -6,7 +6,8 @@ use Rattle.std.proofs.lemmas.List.{drop-drop, drop_at, get_or-append-add}
 use Rattle.verdict.specs.declared.machine.Event.{Event}
 use Rattle.verdict.specs.declared.machine.Event.TheVariants.{Write, Settle, Fetch}
 use Rattle.recon_core.specs.declared.checker.Checker.{Checker}
-use Rattle.recon_core.specs.Machine.{MachineState, machine_step, end_of, begin_of, IsSized}
+use Rattle.verdict.specs.Events.{end_of, begin_of, IsSized}
+use Rattle.recon_core.specs.Machine.{MachineState, machine_step}
 use Rattle.recon_core.specs.Standing.{StandsFor}
 use Rattle.trace_reader.specs.declared.fault.TraceFault.{TraceFault}
 use Rattle.trace_reader.specs.declared.fault.TraceFault.TheVariants.{BadHeader, BadTag, BadLength, Truncated, ReadFault, NoMemory, TooMany}

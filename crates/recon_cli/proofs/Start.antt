@@ -6,9 +6,9 @@ use Rattle.verdict.specs.declared.finding.Finding.{Finding}
 use Rattle.super_reader.specs.declared.Super.{Super}
 use Rattle.write_cache.specs.Cache.{overlaid}
 use Rattle.write_cache.proofs.CacheLaws.{overlaid-empty}
-use Rattle.plain_check.specs.FullCheck.{full_check}
+use Rattle.records.specs.FullCheck.{full_check}
 use Rattle.plain_check.specs.Superblock.{superblock_in}
-use Rattle.plain_check.specs.declared.image.Verdict.TheVariants.{Accept, Found}
+use Rattle.verdict.specs.declared.finding.Verdict.TheVariants.{Accept, Found}
 use Rattle.plain_check.proofs.Told.{accepted_superblock}
 use Rattle.recon_core.specs.Standing.{IsAccepted, first_state}
 use Rattle.trace_reader.specs.Trace.{IsBytes}

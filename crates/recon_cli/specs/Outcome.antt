@@ -6,10 +6,11 @@ use Rattle.verdict.specs.declared.machine.Event.{Event}
 use Rattle.verdict.specs.declared.machine.Event.TheVariants.{Write, Settle, Fetch}
 use Rattle.verdict.specs.declared.machine.Answer.{Answer}
 use Rattle.verdict.specs.declared.machine.Answer.TheVariants.{Held, Fetched, Passed, Rejected}
-use Rattle.plain_check.specs.FullCheck.{full_check}
-use Rattle.plain_check.specs.declared.image.Verdict.{Verdict}
-use Rattle.plain_check.specs.declared.image.Verdict.TheVariants.{Accept, Found}
-use Rattle.recon_core.specs.Machine.{MachineState, machine_step, end_of, begin_of, length_of}
+use Rattle.records.specs.FullCheck.{full_check}
+use Rattle.verdict.specs.declared.finding.Verdict.{Verdict}
+use Rattle.verdict.specs.declared.finding.Verdict.TheVariants.{Accept, Found}
+use Rattle.verdict.specs.Events.{end_of, begin_of, length_of}
+use Rattle.recon_core.specs.Machine.{MachineState, machine_step}
 use Rattle.recon_core.specs.Standing.{first_state}
 use Rattle.trace_reader.specs.Fault.{fault_number}
 use Rattle.trace_reader.specs.Trace.{spelling_of, Ending, End, Fault}

@@ -1,10 +1,11 @@
 -- What a run of the program says of the objects that it is handed.
 use Rattle.std.specs.Prelude.{ℕ, ◌≡◌, ◌-◌, ◌^◌, ◌<◌, ◌≤◌, ◌⊎◌, true, false, nat_lt, List, [], ◌++◌, length, drop, Option, Some, None, IfSome, Result, Ok, Err}
 use Rattle.recon_disk.specs.Outside.{counted}
-use Rattle.plain_check.specs.FullCheck.{full_check}
+use Rattle.records.specs.FullCheck.{full_check}
 use Rattle.verdict.specs.declared.machine.Event.{Event}
 use Rattle.recon_core.specs.declared.checker.Checker.{Checker}
-use Rattle.recon_core.specs.Machine.{MachineState, machine_step, end_of, begin_of}
+use Rattle.verdict.specs.Events.{end_of, begin_of}
+use Rattle.recon_core.specs.Machine.{MachineState, machine_step}
 use Rattle.recon_core.specs.Standing.{StandsFor}
 use Rattle.recon_cli.specs.declared.tally.Tally.{Tally}
 use Rattle.recon_cli.specs.Outcome.{Outcome, after_text, answer_text, no_tally, outcome_from, is_settle, past_end, replay_outcome, tally_after, verdict_status, verdict_text}

@@ -1,7 +1,7 @@
 //! Checks of images, each of which is the base image with a change.
 
 use crate::tests::{
-    ACCEPTED, AT_PLACE, END, HEADER, Piece, REPLAY, disk_over, failing_disk, run_over, run_with,
+    ACCEPTED, AT_PLACE, END, HEADER, Piece, REPLAY, disk_over, fails_in_turn, run_over, run_with,
     trace_of,
 };
 use image_maker::{
@@ -13,7 +13,7 @@ use std::alloc::{AllocError, Global};
 use std::test::Fail;
 use verdict::{Bytes, Event, Key};
 
-const CHECK: &[&str] = &["check", "image"];
+pub const CHECK: &[&str] = &["check", "image"];
 
 // Where the superblock stands on the device.
 const SUPER: u64 = 65_536;
@@ -70,8 +70,8 @@ fn part(bytes: &[u8], at: u64, len: usize) -> &[u8] {
     &bytes[at..at + len.min(bytes.len() - at)]
 }
 
-// Puts bytes at a place, where they lie inside.
-fn put(bytes: &mut [u8], at: usize, from: &[u8]) {
+/// Puts bytes at a place, where they lie inside.
+pub fn put(bytes: &mut [u8], at: usize, from: &[u8]) {
     if at < bytes.len() && from.len() <= bytes.len() - at {
         bytes[at..at + from.len()].copy_from_slice(from);
     }
@@ -263,25 +263,13 @@ fn a_changed_image_is_refused(rt: HostRuntime) -> Result<(), Fail> {
     Ok(())
 }
 
-// The check asks twice for the length, and reads the superblock, the chunk tree's block and two copies of
-// five others: no third question comes, and no thirteenth read.
 #[test]
 fn a_failing_call_of_a_check_has_status_4(rt: HostRuntime) -> Result<(), Fail> {
-    let rows: [(Op, &[(u64, &'static str)]); 2] = [
-        (Op::Length, &[(1, ""), (2, "")]),
-        (Op::Read, &[(1, ""), (2, ""), (12, "")]),
-    ];
-    let base = base_image(rt.alloc())?;
-    for (op, calls) in rows {
-        let mut disk = failing_disk(rt.alloc(), &base, op, calls)?;
-        for (nth, lines) in calls {
-            let (status, out) = run_over(rt.alloc(), CHECK, &mut disk, &[], &[1], &[])?;
-            assert_eq!(rt; status, 4, "{op:?} {nth}");
-            assert!(rt; out.bytes() == lines.as_bytes(), "{op:?} {nth}");
-        }
-        let (status, out) = run_over(rt.alloc(), CHECK, &mut disk, &[], &[1], &[])?;
-        assert_eq!(rt; status, 0, "{op:?}");
-        assert!(rt; out.bytes() == ACCEPTED.as_bytes(), "{op:?}");
+    for op in [Op::Length, Op::Read] {
+        assert!(rt;
+            fails_in_turn(rt.alloc(), CHECK, &[], op, ACCEPTED)?,
+            "{op:?}"
+        );
     }
     Ok(())
 }
@@ -322,8 +310,8 @@ fn a_commit_with_copies_that_differ_is_rejected(rt: HostRuntime) -> Result<(), F
     Ok(())
 }
 
-// Appends the record of a write to a trace.
-fn put_write(trace: &mut Vec<u8>, event: &Event) -> Result<(), AllocError> {
+/// Appends the record of a write to a trace.
+pub fn put_write(trace: &mut Vec<u8>, event: &Event) -> Result<(), AllocError> {
     if let Event::Write { at, bytes, .. } = event {
         trace.extend_from_slice(&[1, 0, 0])?;
         trace.extend_from_slice(&at.to_le_bytes())?;

@@ -7,6 +7,8 @@ mod check;
 mod check_tests;
 mod halt;
 mod lines;
+#[cfg(test)]
+mod machine_tests;
 mod replay;
 mod run;
 mod tally;

@@ -3,8 +3,7 @@
 ghost use Rattle.std.specs.Prelude.{ℕ, ◌≡◌, ◌==◌, if◌then◌else◌, ◌+◌, ◌<◌, ◌≤◌, ◌++◌, false, List, Some, Ok, IfOk, OnOk, IfSome, option_map};
 ghost use Rattle.std.specs.FinMap as map;
 ghost use Rattle.recon_core.specs.Machine.{MachineState};
-ghost use Rattle.recon_core.specs.Sending.{IsBelow};
-ghost use Rattle.recon_core.specs.Standing.{StandsFor, first_state};
+ghost use Rattle.recon_core.specs.Standing.{IsBelow, StandsFor, first_state};
 ghost use Rattle.trace_reader.specs.Trace.{IsBytes};
 ghost use Rattle.report.specs.Lines.{text_line};
 ghost use Rattle.trace_reader.specs.Fault.{fault_number};

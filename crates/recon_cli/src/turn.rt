@@ -1,9 +1,9 @@
 //! What one event does.
 
 ghost use Rattle.std.specs.Prelude.{ℕ, ◌≡◌, ◌+◌, ◌^◌, ◌<◌, ◌≤◌, ◌++◌, false, List, Some, IfOk, IfSome, OnOk, option_map};
-ghost use Rattle.recon_core.specs.Machine.{MachineState, IsSized, begin_of};
-ghost use Rattle.recon_core.specs.Sending.{IsBelow};
-ghost use Rattle.recon_core.specs.Standing.{StandsFor};
+ghost use Rattle.verdict.specs.Events.{IsSized, begin_of};
+ghost use Rattle.recon_core.specs.Machine.{MachineState};
+ghost use Rattle.recon_core.specs.Standing.{IsBelow, StandsFor};
 ghost use Rattle.recon_cli.specs.Outcome.{answer_text, is_settle, tally_after};
 ghost use Rattle.recon_cli.specs.Run.{HasPrintCause, HasTurnCause, Turns};
 

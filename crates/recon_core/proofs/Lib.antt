@@ -1,4 +1,5 @@
 pub mod Places
+pub mod Law
 pub mod Told
 pub mod Steps
 pub mod Nothing

@@ -2,7 +2,7 @@
 use Rattle.std.proofs.Common.{◌≡◌, ℕ, sym, subst}
 use Rattle.std.specs.Ordering.{nat_cmp}
 use Rattle.std.specs.FinMap.{FinMap, empty}
-use Rattle.recon_core.specs.Sending.{IsBelow}
+use Rattle.recon_core.specs.Standing.{IsBelow}
 use Rattle.recon_core.proofs.Steps.{below_none}
 
 -- its offsets lie below every end

@@ -6,7 +6,7 @@ use Rattle.std.proofs.lemmas.List.{ext_get_or, length-take, length-drop, length-
 use Rattle.verdict.specs.Image.{range, written}
 use Rattle.verdict.proofs.Images.{length-written, get-written_in, get-written_before, get-written_behind}
 use Rattle.write_cache.proofs.CacheLaws.{length-range, get-range}
-use Rattle.recon_core.specs.Sending.{with_place_of}
+use Rattle.recon_core.specs.Sent.{with_place_of}
 
 same_bytes : (xs ys : List ℕ) → length xs ≡ length ys → ((i : ℕ) → i < length xs → get_or xs i 0 ≡ get_or ys i 0) → xs ≡ ys
 same_bytes xs ys = ext_get_or 0 xs ys
@@ -93,106 +93,6 @@ place_ext xs other image n same long in_ out =
     same_bytes _ _ (n ∙ sym (length-with_place_of other image same long)) (λ i h. elim (where_is i) [
       | inside_place low high ↦ in_ i low high ∙ sym (get-with_place_of_in other image i same long low high)
       | outside_place w ↦ out i (omega arith) w ∙ sym (get-with_place_of_out other image i same long w)
-    ])
-
--- a write that ends before the place
-pub sent_low : (image bytes : List ℕ) (at : ℕ) → 69632 ≤ length image → at + length bytes ≤ length image → length bytes ≤ 65536 - at → (at < 65536) ⊎ (length bytes ≡ 0) → written image at bytes ≡ with_place_of image (written image at bytes)
-sent_low image bytes at long fits low some =
-    let n : length (written image at bytes) ≡ length image = length-written image bytes at fits in
-    place_ext (written image at bytes) image (written image at bytes) refl (sym n) (omega arith)
-    (λ i l h. elim some [
-      | inl a ↦ get-written_behind image bytes at i fits (omega arith)
-      | inr z ↦ elim (cases_lt i at) [
-        | inl b ↦ get-written_before image bytes at i fits b
-        | inr b ↦ get-written_behind image bytes at i fits (omega arith)
-      ]
-    ])
-    (λ i h w. refl)
-
--- a write of which the bytes before the place were written, and none lies behind it
-pub sent_front : (image bytes : List ℕ) (at : ℕ) → 69632 ≤ length image → at + length bytes ≤ length image → 65536 - at < length bytes → length bytes ≤ 69632 - at
-    → written image at (take (65536 - at) bytes) ≡ with_place_of image (written image at bytes)
-sent_front image bytes at long fits low high =
-    let k : length (take (65536 - at) bytes) ≡ 65536 - at = length-take-le (65536 - at) bytes (omega arith) in
-    let n : length (written image at bytes) ≡ length image = length-written image bytes at fits in
-    let m : length (written image at (take (65536 - at) bytes)) ≡ length image = length-written image (take (65536 - at) bytes) at (omega arith) in
-    place_ext (written image at (take (65536 - at) bytes)) image (written image at bytes) (m ∙ sym n) (sym n) (omega arith)
-    (λ i l h. elim (cases_lt i at) [
-      | inl b ↦ get-written_before image (take (65536 - at) bytes) at i (omega arith) b
-      | inr b ↦ get-written_behind image (take (65536 - at) bytes) at i (omega arith) (omega arith)
-    ])
-    (λ i h w. elim (cases_lt i at) [
-      | inl b ↦ get-written_before image (take (65536 - at) bytes) at i (omega arith) b ∙ sym (get-written_before image bytes at i fits b)
-      | inr b ↦ elim w [
-        | inl l ↦ get-written_in image (take (65536 - at) bytes) at i (omega arith) b (omega arith)
-            ∙ get_or-take (65536 - at) bytes (i - at) 0 (omega arith)
-            ∙ sym (get-written_in image bytes at i fits b (omega arith))
-        | inr l ↦ get-written_behind image (take (65536 - at) bytes) at i (omega arith) (omega arith)
-            ∙ sym (get-written_behind image bytes at i fits (omega arith))
-      ]
-    ])
-
--- a write of which the bytes before and behind the place were written
-pub sent_both : (image bytes : List ℕ) (at : ℕ) → 69632 ≤ length image → at + length bytes ≤ length image → 65536 - at < length bytes → 69632 - at < length bytes
-    → written (written image at (take (65536 - at) bytes)) (at + (69632 - at)) (drop (69632 - at) bytes) ≡ with_place_of image (written image at bytes)
-sent_both image bytes at long fits low high =
-    let k : length (take (65536 - at) bytes) ≡ 65536 - at = length-take-le (65536 - at) bytes (omega arith) in
-    let d : length (drop (69632 - at) bytes) ≡ length bytes - (69632 - at) = length-drop (69632 - at) bytes in
-    let n : length (written image at bytes) ≡ length image = length-written image bytes at fits in
-    let front : List ℕ = written image at (take (65536 - at) bytes) in
-    let m : length front ≡ length image = length-written image (take (65536 - at) bytes) at (omega arith) in
-    let both : List ℕ = written front (at + (69632 - at)) (drop (69632 - at) bytes) in
-    let q : length both ≡ length image = length-written front (drop (69632 - at) bytes) (at + (69632 - at)) (omega arith) ∙ m in
-    place_ext both image (written image at bytes) (q ∙ sym n) (sym n) (omega arith)
-    (λ i l h. elim (cases_lt i (at + (69632 - at))) [
-      | inl b ↦ get-written_before front (drop (69632 - at) bytes) (at + (69632 - at)) i (omega arith) b
-          ∙ elim (cases_lt i at) [
-            | inl c ↦ get-written_before image (take (65536 - at) bytes) at i (omega arith) c
-            | inr c ↦ get-written_behind image (take (65536 - at) bytes) at i (omega arith) (omega arith)
-          ]
-      | inr b ↦ absurd (omega arith)
-    ])
-    (λ i h w. elim (cases_lt i (at + (69632 - at))) [
-      | inl b ↦ get-written_before front (drop (69632 - at) bytes) (at + (69632 - at)) i (omega arith) b
-          ∙ elim (cases_lt i at) [
-            | inl c ↦ get-written_before image (take (65536 - at) bytes) at i (omega arith) c ∙ sym (get-written_before image bytes at i fits c)
-            | inr c ↦ elim w [
-              | inl l ↦ get-written_in image (take (65536 - at) bytes) at i (omega arith) c (omega arith)
-                  ∙ get_or-take (65536 - at) bytes (i - at) 0 (omega arith)
-                  ∙ sym (get-written_in image bytes at i fits c (omega arith))
-              | inr l ↦ absurd (omega arith)
-            ]
-          ]
-      | inr b ↦ elim (cases_lt i (at + length bytes)) [
-        | inl e ↦ get-written_in front (drop (69632 - at) bytes) (at + (69632 - at)) i (omega arith) b (omega arith)
-            ∙ get_or-drop (69632 - at) bytes (i - (at + (69632 - at))) 0
-            ∙ ap (λ j. get_or bytes j 0) (omega arith)
-            ∙ sym (get-written_in image bytes at i fits (omega arith) e)
-        | inr e ↦ get-written_behind front (drop (69632 - at) bytes) (at + (69632 - at)) i (omega arith) (omega arith)
-            ∙ get-written_behind image (take (65536 - at) bytes) at i (omega arith) (omega arith)
-            ∙ sym (get-written_behind image bytes at i fits e)
-      ]
-    ])
-
--- one more write over an image whose place is still another's
-pub sent_next : (image over bytes : List ℕ) (at : ℕ) → length over ≡ length image → 69632 ≤ length image → at + length bytes ≤ length image
-    → with_place_of (with_place_of image over) (written (with_place_of image over) at bytes) ≡ with_place_of image (written over at bytes)
-sent_next image over bytes at same long fits =
-    let n : length (with_place_of image over) ≡ length over = length-with_place_of image over (sym same) (omega arith) in
-    let m : length (written over at bytes) ≡ length over = length-written over bytes at (omega arith) in
-    let x : List ℕ = with_place_of image over in
-    let q : length (written x at bytes) ≡ length x = length-written x bytes at (omega arith) in
-    let left : length (with_place_of x (written x at bytes)) ≡ length (written x at bytes) = length-with_place_of x (written x at bytes) (sym q) (omega arith) in
-    place_ext (with_place_of x (written x at bytes)) image (written over at bytes) (left ∙ q ∙ n ∙ sym m) (sym (m ∙ same)) (omega arith)
-    (λ i l h. get-with_place_of_in x (written x at bytes) i (sym q) (omega arith) l h ∙ get-with_place_of_in image over i (sym same) (omega arith) l h)
-    (λ i h w. get-with_place_of_out x (written x at bytes) i (sym q) (omega arith) w ∙ elim (cases_lt i at) [
-      | inl b ↦ get-written_before x bytes at i (omega arith) b ∙ get-with_place_of_out image over i (sym same) (omega arith) w
-          ∙ sym (get-written_before over bytes at i (omega arith) b)
-      | inr b ↦ elim (cases_lt i (at + length bytes)) [
-        | inl e ↦ get-written_in x bytes at i (omega arith) b e ∙ sym (get-written_in over bytes at i (omega arith) b e)
-        | inr e ↦ get-written_behind x bytes at i (omega arith) e ∙ get-with_place_of_out image over i (sym same) (omega arith) w
-            ∙ sym (get-written_behind over bytes at i (omega arith) e)
-      ]
     ])
 
 -- the place of an image itself is no change

@@ -1,5 +1,5 @@
 -- What the machine's steps come to, by the cache of what waits.
-use Rattle.std.proofs.Common.{◌≡◌, ℕ, ◌+◌, ◌≤◌, inl, inr, true, false, List, [], ◌∷◌, ◌++◌, length, take, drop, Option, Some, None, IfSome, IsSome, Result, Ok, Err, OnOk, OnErr, IfOk, IfErr, refl, sym, ap, ◌∙◌, arith, subst, cond}
+use Rattle.std.proofs.Common.{◌≡◌, ℕ, ◌+◌, ◌≤◌, inl, inr, Bool, true, false, List, [], ◌∷◌, ◌++◌, length, take, drop, Option, Some, None, IfSome, IsSome, Result, Ok, Err, OnOk, OnErr, IfOk, IfErr, IsErrOf, refl, sym, ap, ◌∙◌, arith, subst, cond}
 use Rattle.std.specs.Ordering.{nat_cmp}
 use Rattle.std.specs.FinMap.{FinMap, get, empty, get-empty}
 use Rattle.std.proofs.lemmas.List.{take_at}
@@ -7,29 +7,25 @@ use Rattle.std.proofs.lemmas.Bool.{cases_lt}
 use Rattle.verdict.specs.declared.machine.Event.TheVariants.{Write, Settle, Fetch}
 use Rattle.verdict.specs.declared.machine.Answer.{Answer}
 use Rattle.verdict.specs.declared.machine.Answer.TheVariants.{Held, Fetched}
-use Rattle.recon_core.specs.Judged.{IsSettled, StaysWhereFound}
+use Rattle.std.specs.Bool.{MatchBool}
+use Rattle.std.specs.Option.{IsSomeAnd}
+use Rattle.verdict.specs.Events.{meets_superblock}
 use Rattle.verdict.specs.Image.{range, applied}
 use Rattle.verdict.specs.declared.machine.HeldWrite.{HeldWrite}
 use Rattle.verdict.specs.declared.finding.Finding.{Finding}
-use Rattle.write_cache.specs.Cache.{with_bytes, overlaid}
-use Rattle.write_cache.proofs.CacheLaws.{length-overlaid, overlaid-empty, overlaid-applied, range-overlaid_image, cache_of-push, cache_of-none, AllInside-push, get-with_bytes_before, get-with_bytes_behind}
-use Rattle.plain_check.specs.FullCheck.{full_check}
-use Rattle.plain_check.specs.declared.image.Verdict.{Verdict}
-use Rattle.plain_check.specs.declared.image.Verdict.TheVariants.{Accept, Found}
+use Rattle.write_cache.specs.Cache.{with_bytes, cache_of, overlaid}
+use Rattle.write_cache.proofs.CacheLaws.{length-overlaid, overlaid-empty, overlaid-applied, cache_of-push, cache_of-none, AllInside-push, get-with_bytes_before, get-with_bytes_behind}
+use Rattle.records.specs.FullCheck.{full_check}
+use Rattle.verdict.specs.declared.finding.Verdict.{Verdict}
+use Rattle.verdict.specs.declared.finding.Verdict.TheVariants.{Accept, Found}
 use Rattle.recon_core.specs.declared.checker.Checker.{Checker}
 use Rattle.recon_core.specs.declared.checker.Started.TheVariants.{Ready, Refused}
-use Rattle.recon_core.specs.Machine.{MachineState, answer_to, image_by, judged_image, settle_step, machine_step, with_pending, meets_superblock}
-use Rattle.recon_core.specs.Sending.{IsBelow}
-use Rattle.recon_core.specs.Standing.{StandsFor, IsAccepted, LetsNothingThrough, Takes, BeginsOver}
+use Rattle.recon_core.specs.Machine.{MachineState, answer_to, image_by, judged_image, settle_step, machine_step, with_pending}
+use Rattle.recon_core.specs.Standing.{StandsFor, IsAccepted, IsBelow, AllMissPlace, Takes, BeginsOver}
+use Rattle.recon_core.specs.Stops.{IsLeftBy, IsJudgedStop, IsStopImage}
+use Rattle.recon_core.specs.Judged.{IsSettled, IsLeftOf}
 
--- a range that was read, with what waits over it
-pub read_over : (told : Option (List ℕ)) (m : FinMap nat_cmp ℕ) (at n : ℕ) (read over : List ℕ)
-    → IfSome told (λ image. read ≡ range at n image) → over ≡ overlaid m at read
-    → IfSome told (λ image. over ≡ range at n (overlaid m 0 image))
-read_over None m at n read over was o = tt
-read_over (Some image) m at n read over was o = o ∙ ap (overlaid m at) was ∙ sym (range-overlaid_image m image at n)
-
--- the same in a vector of that length
+-- a range that was read into a vector of that length
 pub fetched : (told : Option (List ℕ)) (m : FinMap nat_cmp ℕ) (at n k len : ℕ) (over items bytes : List ℕ)
     → length over ≡ k → n ≡ len → IfSome told (λ image. over ≡ range at n (overlaid m 0 image))
     → bytes ≡ take k (over ++ drop (length over) items)
@@ -48,6 +44,7 @@ begins_ready (Some image) len generation m v checker empty_ is size none open_ s
   lawful = record {
     accepted = (generation, sym (sym is ∙ says ∙ ap full_check (ap (λ n. overlaid n 0 image) empty_ ∙ overlaid-empty 0 image)));
     inside = tt;
+    apart = tt;
   };
   cache = none ∙ sym cache_of-none;
   closed = open_;
@@ -110,6 +107,7 @@ takes_judged checker new s m said bytes accepted judged settled is open_ size =
         lawful = record {
           accepted = accepted_by (full_check (judged_image s)) (judged_image s) s.image refl accepted;
           inside = tt;
+          apart = tt;
         };
         cache = ap (λ k. k.cache) is ∙ sym cache_of-none;
         closed = ap (λ k. k.closed) is ∙ open_;
@@ -118,15 +116,11 @@ takes_judged checker new s m said bytes accepted judged settled is open_ size =
       image = settled.1 ∙ ap (λ i. Some (image_by (full_check i) i s.image)) judged;
     }
 
-nothing_through : (v : Verdict) (judged old : List ℕ) → LetsNothingThrough (answer_to v) → (finding : Finding) × (v ≡ Found finding)
-nothing_through (Accept generation) judged old h = absurd h
-nothing_through (Found finding) judged old h = (finding, refl)
-
-pub kept_judged : (s : MachineState) (m : FinMap nat_cmp ℕ) (bytes : Option (List ℕ)) → overlaid m 0 s.image ≡ judged_image s → StaysWhereFound m bytes s.image
-    → LetsNothingThrough (settle_step s).answer → bytes ≡ Some s.image
-kept_judged s m bytes judged stays nothing =
-    let f : (finding : Finding) × (full_check (judged_image s) ≡ Found finding) = nothing_through (full_check (judged_image s)) (judged_image s) s.image nothing in
-    stays f.0 (ap full_check judged ∙ f.1)
+-- what is left of an image where a call failed in a judged event
+judged_stop : (s : MachineState) (m : FinMap nat_cmp ℕ) (left : List ℕ) → m ≡ cache_of s.pending → overlaid m 0 s.image ≡ judged_image s → IsLeftOf m s.image left → IsJudgedStop s left
+judged_stop s m left waits judged h =
+    subst (λ k. IsLeftBy (full_check (judged_image s)) k (judged_image s) s.image left) waits
+    (subst (λ i. IsLeftBy (full_check i) m i s.image left) judged h)
 
 -- the step of a write, by whether it meets the superblock place
 pub commit_is : (s : MachineState) (submitter at : ℕ) (bytes : List ℕ) → meets_superblock at (length bytes) ≡ true
@@ -146,15 +140,34 @@ takes_commit checker new s submitter at data_ said before bytes stands fits meet
     (takes_judged checker new (with_pending s (record { at = at; bytes = data_ })) (with_bytes checker.cache at data_) said bytes stands.lawful.accepted
     (judged_more checker s at data_ stands fits) (subst (λ o. IfSome o (IsSettled (with_bytes checker.cache at data_) said bytes)) told settled) is stands.closed stands.size)
 
-pub kept_commit : (checker : Checker) (s : MachineState) (submitter at : ℕ) (data_ : List ℕ) (before bytes : Option (List ℕ)) → StandsFor checker s
+each_some : {P Q : List ℕ → Type 0} (o : Option (List ℕ)) → ((x : List ℕ) → P x → Q x) → IsSomeAnd o P → IsSomeAnd o Q
+each_some None f h = h
+each_some (Some x) f h = f x h
+
+by_true : (b : Bool) (P Q : Type 0) → b ≡ true → P → MatchBool b P Q
+by_true true P Q is p = p
+by_true false P Q is p = absurd (cc)
+
+pub stop_commit : (checker : Checker) (s : MachineState) (submitter at : ℕ) (data_ : List ℕ) (before after : Option (List ℕ)) → StandsFor checker s
     → at + length data_ ≤ length s.image → meets_superblock at (length data_) ≡ true → before ≡ Some s.image
-    → IfSome before (StaysWhereFound (with_bytes checker.cache at data_) bytes)
-    → LetsNothingThrough (machine_step s (Write submitter at data_)).answer → bytes ≡ before
-kept_commit checker s submitter at data_ before bytes stands fits meets told stays nothing =
-    kept_judged (with_pending s (record { at = at; bytes = data_ })) (with_bytes checker.cache at data_) bytes (judged_more checker s at data_ stands fits)
-    (subst (λ o. IfSome o (StaysWhereFound (with_bytes checker.cache at data_) bytes)) told stays)
-    (subst (λ t. LetsNothingThrough t.answer) (commit_is s submitter at data_ meets) nothing)
-    ∙ sym told
+    → IfSome before (λ image. IsSomeAnd after (IsLeftOf (with_bytes checker.cache at data_) image))
+    → IsSomeAnd after (IsStopImage s (Write submitter at data_))
+stop_commit checker s submitter at data_ before after stands fits meets told left =
+    let w : HeldWrite = record { at = at; bytes = data_ } in
+    let m : FinMap nat_cmp ℕ = with_bytes checker.cache at data_ in
+    let waits : m ≡ cache_of (s.pending ++ w ∷ []) = ap (λ k. with_bytes k at data_) stands.cache ∙ sym (cache_of-push s.pending w) in
+    each_some {P = IsLeftOf m s.image} {Q = IsStopImage s (Write submitter at data_)} after
+    (λ x h. by_true (meets_superblock at (length data_)) (IsJudgedStop (with_pending s w) x) (x ≡ s.image) meets
+    (judged_stop (with_pending s w) m x waits (judged_more checker s at data_ stands fits) h))
+    (subst (λ o. IfSome o (λ image. IsSomeAnd after (IsLeftOf m image))) told left)
+
+pub stop_settle : (checker : Checker) (s : MachineState) (before after : Option (List ℕ)) → StandsFor checker s → before ≡ Some s.image
+    → IfSome before (λ image. IsSomeAnd after (IsLeftOf checker.cache image))
+    → IsSomeAnd after (IsStopImage s Settle)
+stop_settle checker s before after stands told left =
+    each_some {P = IsLeftOf checker.cache s.image} {Q = IsStopImage s Settle} after
+    (λ x h. judged_stop s checker.cache x stands.cache (judged_all checker s stands) h)
+    (subst (λ o. IfSome o (λ image. IsSomeAnd after (IsLeftOf checker.cache image))) told left)
 
 pub takes_settle : (checker new : Checker) (s : MachineState) (said : Answer) (before bytes : Option (List ℕ)) → StandsFor checker s → before ≡ Some s.image
     → IfSome before (IsSettled checker.cache said bytes) → new ≡ record checker { cache = empty } → Takes (machine_step s Settle) said new bytes
@@ -162,10 +175,9 @@ takes_settle checker new s said before bytes stands told settled is =
     takes_judged checker new s checker.cache said bytes stands.lawful.accepted (judged_all checker s stands)
     (subst (λ o. IfSome o (IsSettled checker.cache said bytes)) told settled) is stands.closed stands.size
 
-pub kept_settle : (checker : Checker) (s : MachineState) (before bytes : Option (List ℕ)) → StandsFor checker s → before ≡ Some s.image
-    → IfSome before (StaysWhereFound checker.cache bytes) → LetsNothingThrough (machine_step s Settle).answer → bytes ≡ before
-kept_settle checker s before bytes stands told stays nothing =
-    kept_judged s checker.cache bytes (judged_all checker s stands) (subst (λ o. IfSome o (StaysWhereFound checker.cache bytes)) told stays) nothing ∙ sym told
+AllMissPlace-push : (ws : List HeldWrite) (w : HeldWrite) → AllMissPlace ws → meets_superblock w.at (length w.bytes) ≡ false → AllMissPlace (ws ++ w ∷ [])
+AllMissPlace-push [] w h g = (g, tt)
+AllMissPlace-push (v ∷ ws) w h g = (h.0, AllMissPlace-push ws w h.1 g)
 
 pub takes_held : (checker new : Checker) (s : MachineState) (submitter at : ℕ) (data_ : List ℕ) (said : Answer) (bytes : Option (List ℕ)) → StandsFor checker s
     → at + length data_ ≤ length s.image → meets_superblock at (length data_) ≡ false → bytes ≡ Some s.image → said ≡ Held
@@ -175,7 +187,7 @@ takes_held checker new s submitter at data_ said bytes stands fits misses told i
     subst (λ t. Takes t said new bytes) (sym (held_is s submitter at data_ misses)) (record {
       answer = is;
       stands = record {
-        lawful = record { accepted = stands.lawful.accepted; inside = AllInside-push (length s.image) s.pending w stands.lawful.inside fits };
+        lawful = record { accepted = stands.lawful.accepted; inside = AllInside-push (length s.image) s.pending w stands.lawful.inside fits; apart = AllMissPlace-push s.pending w stands.lawful.apart misses };
         cache = ap (λ k. k.cache) new_is ∙ ap (λ m. with_bytes m at data_) stands.cache ∙ sym (cache_of-push s.pending w);
         closed = ap (λ k. k.closed) new_is ∙ stands.closed;
         size = ap (λ k. k.length) new_is ∙ stands.size;
@@ -213,3 +225,8 @@ weaker (Err e) f h = f e h
 pub with_ok : {T E : Type 0} {P Q : T → Type 0} {O : Type 0} (r : Result T E) → ((x : T) → P x → O → Q x) → IfOk r P → OnOk r O → IfOk r Q
 with_ok (Ok x) f p o = f x p o
 with_ok (Err e) f p o = tt
+
+-- what an Err says, where it is this one
+pub at_err : {T E P : Type 0} (r : Result T E) (e : E) → IsErrOf r e → OnErr r P → P
+at_err (Ok x) e is h = absurd (cc)
+at_err (Err x) e is h = h

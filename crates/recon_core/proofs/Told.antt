@@ -1,160 +1,362 @@
--- The same of a disk that may not tell its bytes.
-use Rattle.std.proofs.Common.{◌≡◌, ℕ, ◌+◌, ◌-◌, ◌<◌, ◌≤◌, ◌⊎◌, inl, inr, List, [], ◌∷◌, get_or, length, take, drop, Bool, true, false, ◌==◌, ◌↔◌, IsTrue, IsSome, Option, Some, None, Result, Ok, Err, OnOk, IfSome, option_map, refl, sym, ap, ◌∙◌, arith}
-use Rattle.std.proofs.lemmas.Bool.{cases_lt}
-use Rattle.std.proofs.lemmas.List.{take_all}
-use Rattle.std.specs.Option.{unwrap_or}
-use Rattle.verdict.specs.Image.{range, written}
-use Rattle.verdict.specs.declared.machine.HeldWrite.{HeldWrite}
+-- What goes out to a disk that may not tell its bytes.
+use Rattle.std.proofs.Common.{◌≡◌, ℕ, ◌+◌, ◌-◌, ◌<◌, ◌≤◌, ◌⊎◌, ◌↔◌, inl, inr, min, Bool, true, false, List, [], ◌∷◌, get_or, length, take, drop, IsTrue, IsSome, Option, Some, None, IfSome, option_map, Result, Ok, Err, IsErr, OnOk, OnErr, refl, sym, ap, ◌∙◌, arith, subst}
+use Rattle.std.specs.Option.{IsSomeAnd, unwrap_or}
 use Rattle.std.specs.Ordering.{nat_cmp}
 use Rattle.std.specs.FinMap.{FinMap, get}
-use Rattle.write_cache.specs.Cache.{with_bytes, cache_of, overlaid}
-use Rattle.write_cache.proofs.CacheLaws.{length-overlaid, get-overlaid, overlaid-written, overlaid-empty, range-overlaid_image, cache_of-take_more, cache_of-none, next-covers}
-use Rattle.recon_core.specs.Sending.{IsBelow, with_place_of}
-use Rattle.recon_core.proofs.Places.{written-nil, written-more, sent_low, sent_front, sent_both, sent_next, place_same, place_last}
+use Rattle.std.proofs.lemmas.Bool.{cases_lt}
+use Rattle.std.proofs.lemmas.List.{length-drop, length-take-le, get_or-take, get_or-drop, get_or_past}
+use Rattle.verdict.specs.Image.{range, written}
+use Rattle.verdict.proofs.Images.{length-written, get-written_before, get-written_behind}
+use Rattle.recon_disk.specs.declared.disk.Disk.{Ghosts}
+use Rattle.recon_disk.specs.Outside.{IsPartlyWritten, MayBeWritten, counted}
+use Rattle.write_cache.specs.Cache.{overlaid}
+use Rattle.write_cache.specs.Pieces.{Piece, map_of, AreApart}
+use Rattle.write_cache.proofs.CacheLaws.{length-overlaid, get-overlaid, range-overlaid_image}
+use Rattle.recon_core.specs.Stops.{IsPartlySent}
+use Rattle.recon_core.specs.Standing.{IsBelow}
+use Rattle.recon_core.specs.Sent.{Sends, StaysOutside, StaysButForPiece, with_place_of, sent_piece, IsAllOrPart}
+use Rattle.recon_core.proofs.Places.{written-nil, written-more, place_same, place_last, length-with_place_of, get-with_place_of_in, get-with_place_of_out, inside_place, outside_place, where_is}
+use Rattle.recon_core.proofs.Law.{sent_all, some_is, length-sent_piece, sent_piece-out, sent_piece-place, first_inside, get-map_of_rest, get-map_of_first, in_range, out_of_range, ranged, all_sent}
 
-with_none : (m : FinMap nat_cmp ℕ) (at : ℕ) (bytes : List ℕ) → length bytes ≡ 0 → with_bytes m at bytes ≡ m
-unfolding with_bytes
-with_none m at [] h = refl
-with_none m at (b ∷ bs) h = absurd (omega arith)
+-- what holds of both an Ok and an Err
+pub if_ok : {T E P : Type 0} (r : Result T E) → P → OnOk r P
+if_ok (Ok x) p = p
+if_ok (Err e) p = tt
 
--- what follows from an Ok
-pub on_ok : {T E P Q : Type 0} (r : Result T E) → (P → Q) → OnOk r P → OnOk r Q
-on_ok (Ok x) f p = f p
-on_ok (Err e) f p = tt
+pub if_err : {T E P : Type 0} (r : Result T E) → P → OnErr r P
+if_err (Ok x) p = tt
+if_err (Err e) p = p
+
+-- a step that stops at a failed call
+pub sends_err : {D T E : Type 0} (disk : Ghosts D) (old new : D) (r : Result T E) (makes : List ℕ → List ℕ) (leaves : List ℕ → List ℕ → Type 0) → IsErr r
+    → IfSome (disk.bytes old) (λ image. IsSomeAnd (disk.bytes new) (leaves image)) → disk.len new ≡ disk.len old
+    → disk.faults old ≤ disk.faults new → counted (disk.faults old) ≤ disk.faults new → Sends disk old new r makes leaves
+sends_err disk old new (Ok x) makes leaves err left len grows failed = absurd (cc)
+sends_err disk old new (Err e) makes leaves err left len grows failed =
+    record { made = tt; left = left; len = len; cause = record { grows = grows; failed = failed; fine = tt } }
 
 -- nothing was written yet
 pub told_none : (o : Option (List ℕ)) (at : ℕ) (bytes : List ℕ) → o ≡ option_map (λ image. written image at (take 0 bytes)) o
 told_none None at bytes = refl
 told_none (Some image) at bytes = ap Some (sym (written-nil image at))
 
--- one more piece was written
-pub told_more : (first mid last : Option (List ℕ)) (len at done n : ℕ) (bytes piece : List ℕ) → IfSome first (λ image. length image ≡ len)
-    → at + length bytes ≤ len → done + n ≤ length bytes → piece ≡ take n (drop done bytes)
+-- one more call wrote its bytes
+pub told_more : (first mid last : Option (List ℕ)) (len at done n : ℕ) (bytes part : List ℕ) → IfSome first (λ image. length image ≡ len)
+    → at + length bytes ≤ len → done + n ≤ length bytes → part ≡ take n (drop done bytes)
     → mid ≡ option_map (λ image. written image at (take done bytes)) first
-    → last ≡ option_map (λ image. written image (at + done) piece) mid
+    → last ≡ option_map (λ image. written image (at + done) part) mid
     → last ≡ option_map (λ image. written image at (take (done + n) bytes)) first
-told_more None mid last len at done n bytes piece size fits few is m l = l ∙ ap (option_map (λ image. written image (at + done) piece)) m
-told_more (Some image) mid last len at done n bytes piece size fits few is m l =
-    l ∙ ap (option_map (λ i. written i (at + done) piece)) m
+told_more None mid last len at done n bytes part size fits few is m l = l ∙ ap (option_map (λ image. written image (at + done) part)) m
+told_more (Some image) mid last len at done n bytes part size fits few is m l =
+    l ∙ ap (option_map (λ i. written i (at + done) part)) m
     ∙ ap (λ p. Some (written (written image at (take done bytes)) (at + done) p)) is
     ∙ ap Some (written-more image bytes at done n (omega arith) few)
 
-low_or_none : (at n : ℕ) → n ≤ 65536 - at → (at < 65536) ⊎ (n ≡ 0)
-low_or_none at n h = elim (cases_lt at 65536) [ inl l ↦ inl l | inr g ↦ inr (omega arith) ]
+-- what a failed write leaves outside its range
+partly_outside : (image : List ℕ) (at : ℕ) (bytes left : List ℕ) → IsPartlyWritten image at bytes left → StaysOutside at (length bytes) image left
+partly_outside image at bytes left h = record {
+  same_length = h.same_length;
+  others = λ i out. elim out [
+    | inl low ↦ sym (get_or-take at left i 0 low) ∙ ap (λ xs. get_or xs i 0) h.before ∙ get_or-take at image i 0 low
+    | inr high ↦ ap (λ k. get_or left k 0) (omega arith) ∙ sym (get_or-drop (at + length bytes) left (i - (at + length bytes)) 0)
+        ∙ ap (λ xs. get_or xs (i - (at + length bytes)) 0) h.behind
+        ∙ get_or-drop (at + length bytes) image (i - (at + length bytes)) 0 ∙ ap (λ k. get_or image k 0) (omega arith)
+  ];
+}
 
--- a write went out: before the place, around it, or before and behind it
-pub told_low : (first last : Option (List ℕ)) (len at : ℕ) (bytes piece : List ℕ) → IfSome first (λ image. length image ≡ len) → 69632 ≤ len
-    → at + length bytes ≤ len → piece ≡ bytes → length piece ≤ 65536 - at
-    → last ≡ option_map (λ image. written image at piece) first
-    → last ≡ option_map (λ image. with_place_of image (written image at bytes)) first
-told_low None last len at bytes piece size long fits is low l = l
-told_low (Some image) last len at bytes piece size long fits is low l =
-    let n : length piece ≡ length bytes = ap length is in
-    l ∙ ap (λ p. Some (written image at p)) is
-    ∙ ap Some (sent_low image bytes at (omega arith) (omega arith) (omega arith) (low_or_none at (length bytes) (omega arith)))
+written_outside : (image : List ℕ) (at : ℕ) (bytes : List ℕ) → at + length bytes ≤ length image → StaysOutside at (length bytes) image (written image at bytes)
+written_outside image at bytes fits = record {
+  same_length = length-written image bytes at fits;
+  others = λ i out. elim out [
+    | inl low ↦ get-written_before image bytes at i fits low
+    | inr high ↦ get-written_behind image bytes at i fits high
+  ];
+}
 
-pub told_front : (first last : Option (List ℕ)) (len at : ℕ) (bytes piece : List ℕ) → IfSome first (λ image. length image ≡ len) → 69632 ≤ len
-    → at + length bytes ≤ len → 65536 - at < length bytes → length bytes ≤ 69632 - at → piece ≡ take (65536 - at) bytes
-    → last ≡ option_map (λ image. written image at piece) first
-    → last ≡ option_map (λ image. with_place_of image (written image at bytes)) first
-told_front None last len at bytes piece size long fits low high is l = l
-told_front (Some image) last len at bytes piece size long fits low high is l =
-    l ∙ ap (λ p. Some (written image at p)) is ∙ ap Some (sent_front image bytes at (omega arith) (omega arith) low high)
+outside_wider : (at n b m : ℕ) (old left : List ℕ) → at ≤ b → b + m ≤ at + n → StaysOutside b m old left → StaysOutside at n old left
+outside_wider at n b m old left from to h = record {
+  same_length = h.same_length;
+  others = λ i out. h.others i (elim out [ inl low ↦ inl (omega arith) | inr high ↦ inr (omega arith) ]);
+}
 
-pub told_both : (first mid last : Option (List ℕ)) (len at spot : ℕ) (bytes piece rest : List ℕ) → IfSome first (λ image. length image ≡ len) → 69632 ≤ len
-    → at + length bytes ≤ len → 65536 - at < length bytes → 69632 - at < length bytes → spot ≡ at + (69632 - at)
-    → piece ≡ take (65536 - at) bytes → rest ≡ drop (69632 - at) bytes
-    → mid ≡ option_map (λ image. written image at piece) first
-    → last ≡ option_map (λ image. written image spot rest) mid
-    → last ≡ option_map (λ image. with_place_of image (written image at bytes)) first
-told_both None mid last len at spot bytes piece rest size long fits low high sp is isr m l =
-    l ∙ ap (option_map (λ image. written image spot rest)) m
-told_both (Some image) mid last len at spot bytes piece rest size long fits low high sp is isr m l =
+outside_then : (at n : ℕ) (old mid left : List ℕ) → StaysOutside at n old mid → StaysOutside at n mid left → StaysOutside at n old left
+outside_then at n old mid left a b = record {
+  same_length = b.same_length ∙ a.same_length;
+  others = λ i out. b.others i out ∙ a.others i out;
+}
+
+-- a call of a run failed behind those before it
+run_left : (image : List ℕ) (last : Option (List ℕ)) (at done n : ℕ) (bytes part : List ℕ) → at + length bytes ≤ length image → done + n ≤ length bytes → length part ≡ n
+    → MayBeWritten (Some (written image at (take done bytes))) (at + done) part last
+    → IsSomeAnd last (StaysOutside at (length bytes) image)
+run_left image last at done n bytes part fits few size may =
+    let k : length (take done bytes) ≡ done = length-take-le done bytes (omega arith) in
+    let mid : List ℕ = written image at (take done bytes) in
+    subst (λ o. IsSomeAnd o (StaysOutside at (length bytes) image)) (sym may.1)
+    (outside_then at (length bytes) image mid may.0
+    (outside_wider at (length bytes) at (length (take done bytes)) image mid (omega arith) (omega arith) (written_outside image at (take done bytes) (omega arith)))
+    (outside_wider at (length bytes) (at + done) (length part) mid may.0 (omega arith) (omega arith) (partly_outside mid (at + done) part may.0 may.2)))
+
+pub run_fails : (first mid last : Option (List ℕ)) (len at done n : ℕ) (bytes part : List ℕ) → IfSome first (λ image. length image ≡ len)
+    → at + length bytes ≤ len → done + n ≤ length bytes → length part ≡ n
+    → mid ≡ option_map (λ image. written image at (take done bytes)) first → MayBeWritten mid (at + done) part last
+    → IfSome first (λ image. IsSomeAnd last (StaysOutside at (length bytes) image))
+run_fails None mid last len at done n bytes part size fits few n_is m may = tt
+run_fails (Some image) mid last len at done n bytes part size fits few n_is m may =
+    run_left image last at done n bytes part (omega arith) few n_is (subst (λ o. MayBeWritten o (at + done) part last) m may)
+
+-- a piece went out, or one of its two runs failed
+pub piece_sent : (first mid last : Option (List ℕ)) (at : ℕ) (bytes front rest : List ℕ) (spot : ℕ)
+    → front ≡ take (min (65536 - at) (length bytes)) bytes → rest ≡ drop (min (69632 - at) (length bytes)) bytes → spot ≡ at + min (69632 - at) (length bytes)
+    → mid ≡ option_map (λ image. written image at front) first → last ≡ option_map (λ image. written image spot rest) mid
+    → last ≡ option_map (λ image. sent_piece image at bytes) first
+unfolding sent_piece
+piece_sent None mid last at bytes front rest spot f r s m l = l ∙ ap (option_map (λ image. written image spot rest)) m
+piece_sent (Some image) mid last at bytes front rest spot f r s m l =
     l ∙ ap (option_map (λ i. written i spot rest)) m
-    ∙ ap (λ p. Some (written (written image at p) spot rest)) is
-    ∙ ap (λ p. Some (written (written image at (take (65536 - at) bytes)) spot p)) isr
-    ∙ ap (λ p. Some (written (written image at (take (65536 - at) bytes)) p (drop (69632 - at) bytes))) sp
-    ∙ ap Some (sent_both image bytes at (omega arith) (omega arith) low high)
+    ∙ ap (λ p. Some (written (written image at p) spot rest)) f
+    ∙ ap (λ p. Some (written (written image at (take (min (65536 - at) (length bytes)) bytes)) spot p)) r
+    ∙ ap (λ p. Some (written (written image at (take (min (65536 - at) (length bytes)) bytes)) p (drop (min (69632 - at) (length bytes)) bytes))) s
 
--- the map that a list makes with its next write
-next_map : (ws : List HeldWrite) (k : ℕ) (w : HeldWrite) → w ≡ get_or ws k w → k < length ws → cache_of (take (k + 1) ws) ≡ with_bytes (cache_of (take k ws)) w.at w.bytes
-next_map ws k w is h = cache_of-take_more ws k w h ∙ ap (λ u. with_bytes (cache_of (take k ws)) u.at u.bytes) (sym is)
+front_left : (image : List ℕ) (last : Option (List ℕ)) (at n b : ℕ) → b ≤ n → b ≤ 65536 - at → IsSomeAnd last (StaysOutside at b image) → IsSomeAnd last (StaysButForPiece at n image)
+front_left image None at n b few low h = h
+front_left image (Some left) at n b few low h = record {
+  outside = outside_wider at n at b image left (omega arith) (omega arith) h;
+  place = λ i from to. h.others i (elim (cases_lt i at) [ inl l ↦ inl l | inr g ↦ inr (omega arith) ]);
+}
 
--- one of the writes in a list went out, as the list so far had
-pub told_next : (first mid last : Option (List ℕ)) (len k : ℕ) (ws : List HeldWrite) (w : HeldWrite) → IfSome first (λ image. length image ≡ len) → 69632 ≤ len
-    → w ≡ get_or ws k w → k < length ws → w.at + length w.bytes ≤ len
-    → mid ≡ option_map (λ image. with_place_of image (overlaid (cache_of (take k ws)) 0 image)) first
-    → last ≡ option_map (λ image. with_place_of image (written image w.at w.bytes)) mid
-    → last ≡ option_map (λ image. with_place_of image (overlaid (cache_of (take (k + 1) ws)) 0 image)) first
-told_next None mid last len k ws w size long is h fits m l = l ∙ ap (option_map (λ image. with_place_of image (written image w.at w.bytes))) m
-told_next (Some image) mid last len k ws w size long is h fits m l =
-    l ∙ ap (option_map (λ i. with_place_of i (written i w.at w.bytes))) m
-    ∙ ap Some (sent_next image (overlaid (cache_of (take k ws)) 0 image) w.bytes w.at (length-overlaid (cache_of (take k ws)) 0 image) (omega arith) (omega arith)
-    ∙ ap (with_place_of image) (sym (overlaid-written (cache_of (take k ws)) w.at w.bytes image (omega arith))
-    ∙ ap (λ c. overlaid c 0 image) (sym (next_map ws k w is h))))
+pub front_fails : (first last : Option (List ℕ)) (at : ℕ) (bytes front : List ℕ) → front ≡ take (min (65536 - at) (length bytes)) bytes
+    → IfSome first (λ image. IsSomeAnd last (StaysOutside at (length front) image))
+    → IfSome first (λ image. IsSomeAnd last (StaysButForPiece at (length bytes) image))
+front_fails None last at bytes front f h = tt
+front_fails (Some image) last at bytes front f h =
+    let n : length front ≡ min (65536 - at) (length bytes) = ap length f ∙ length-take-le (min (65536 - at) (length bytes)) bytes (omega arith) in
+    front_left image last at (length bytes) (length front) (omega arith) (omega arith) h
 
--- nor does a write without bytes change what went out
-pub told_skipped : (first mid : Option (List ℕ)) (k : ℕ) (ws : List HeldWrite) (w : HeldWrite)
-    → w ≡ get_or ws k w → k < length ws → length w.bytes ≡ 0
-    → mid ≡ option_map (λ image. with_place_of image (overlaid (cache_of (take k ws)) 0 image)) first
-    → mid ≡ option_map (λ image. with_place_of image (overlaid (cache_of (take (k + 1) ws)) 0 image)) first
-told_skipped first mid k ws w is h none m =
-    m ∙ ap (λ c. option_map (λ image. with_place_of image (overlaid c 0 image)) first) (sym (next_map ws k w is h ∙ with_none (cache_of (take k ws)) w.at w.bytes none))
+rest_left : (image mid : List ℕ) (last : Option (List ℕ)) (at n b h spot : ℕ) → b ≤ n → b ≤ 65536 - at → h ≡ min (69632 - at) n → spot ≡ at + h → StaysOutside at b image mid
+    → IsSomeAnd last (StaysOutside spot (n - h) mid) → IsSomeAnd last (StaysButForPiece at n image)
+rest_left image mid None at n b h spot few low is s a left = left
+rest_left image mid (Some end) at n b h spot few low is s a left = record {
+  outside = outside_then at n image mid end (outside_wider at n at b image mid (omega arith) (omega arith) a) (outside_wider at n spot (n - h) mid end (omega arith) (omega arith) left);
+  place = λ i from to. left.others i (elim (cases_lt i spot) [ inl l ↦ inl l | inr g ↦ inr (omega arith) ])
+      ∙ a.others i (elim (cases_lt i at) [ inl l ↦ inl l | inr g ↦ inr (omega arith) ]);
+}
 
--- no write is out yet
-pub told_start : (first : Option (List ℕ)) (len : ℕ) (ws : List HeldWrite) → IfSome first (λ image. length image ≡ len) → 69632 ≤ len
-    → first ≡ option_map (λ image. with_place_of image (overlaid (cache_of (take 0 ws)) 0 image)) first
-told_start None len ws size long = refl
-told_start (Some image) len ws size long =
-    ap Some (sym (ap (λ c. with_place_of image (overlaid c 0 image)) cache_of-none
-    ∙ ap (with_place_of image) (overlaid-empty 0 image)
-    ∙ place_same image image refl (omega arith) (λ i l h. refl)))
+pub rest_fails : (first mid last : Option (List ℕ)) (len at : ℕ) (bytes front rest : List ℕ) (spot : ℕ) → IfSome first (λ image. length image ≡ len) → at + length bytes ≤ len
+    → front ≡ take (min (65536 - at) (length bytes)) bytes → rest ≡ drop (min (69632 - at) (length bytes)) bytes → spot ≡ at + min (69632 - at) (length bytes)
+    → mid ≡ option_map (λ image. written image at front) first
+    → IfSome mid (λ image. IsSomeAnd last (StaysOutside spot (length rest) image))
+    → IfSome first (λ image. IsSomeAnd last (StaysButForPiece at (length bytes) image))
+rest_fails None mid last len at bytes front rest spot size fits f r s m h = tt
+rest_fails (Some image) mid last len at bytes front rest spot size fits f r s m h =
+    let n : length front ≡ min (65536 - at) (length bytes) = ap length f ∙ length-take-le (min (65536 - at) (length bytes)) bytes (omega arith) in
+    let k : length rest ≡ length bytes - min (69632 - at) (length bytes) = ap length r ∙ length-drop (min (69632 - at) (length bytes)) bytes in
+    let here : IsSomeAnd last (StaysOutside spot (length rest) (written image at front)) = subst (λ o. IfSome o (λ i. IsSomeAnd last (StaysOutside spot (length rest) i))) m h in
+    rest_left image (written image at front) last at (length bytes) (length front) (min (69632 - at) (length bytes)) spot (omega arith) (omega arith) refl s
+    (written_outside image at front (omega arith))
+    (subst (λ j. IsSomeAnd last (StaysOutside spot j (written image at front))) k here)
 
--- all writes are out
-pub told_all : (first last : Option (List ℕ)) (k : ℕ) (ws : List HeldWrite) → length ws ≤ k
-    → last ≡ option_map (λ image. with_place_of image (overlaid (cache_of (take k ws)) 0 image)) first
-    → last ≡ option_map (λ image. with_place_of image (overlaid (cache_of ws) 0 image)) first
-told_all first last k ws h l = l ∙ ap (λ v. option_map (λ image. with_place_of image (overlaid (cache_of v) 0 image)) first) (take_all k ws h)
+-- How far the pieces of a map have gone out: those that are left lie apart and are of the map, they bring the disk's
+-- bytes to the whole, and so far a part of the map went out.
+pub record IsSending (m : FinMap nat_cmp ℕ) (first now : Option (List ℕ)) (left : List Piece) : Type 0 where
+  pub apart : AreApart 0 left
+  pub of_map : (i : ℕ) → get m i ≡ None → get (map_of left) i ≡ None
+  pub whole : option_map (sent_all left) now ≡ option_map (λ image. with_place_of image (overlaid m 0 image)) first
+  pub part : IfSome first (λ image. IsSomeAnd now (IsPartlySent m image))
 
--- a write of a list lies where the map that the list makes does
-pub next_inside : (end : ℕ) (ws : List HeldWrite) (k : ℕ) (w : HeldWrite) → w ≡ get_or ws k w → k < length ws → IsBelow end (cache_of ws) → 0 < length w.bytes → w.at + length w.bytes ≤ end
-next_inside end ws k w is h below some =
-    let last : w.at + (length w.bytes - 1) < end = below (w.at + (length w.bytes - 1)) (next-covers ws k w (w.at + (length w.bytes - 1)) is h (omega arith) (omega arith)) in
-    omega arith
+apart_from : (low from : ℕ) (pieces : List Piece) → low ≤ from → AreApart from pieces → AreApart low pieces
+apart_from low from [] h apart = tt
+apart_from low from (p ∷ ps) h apart = let a : from ≤ p.at = apart.0 in (omega arith, apart.1, apart.2)
 
--- what goes out where nothing meets the superblock place is all
-pub told_settled : (first last : Option (List ℕ)) (len : ℕ) (m n : FinMap nat_cmp ℕ) → IfSome first (λ image. length image ≡ len) → 69632 ≤ len → n ≡ m
+some_or_none : (o : Option ℕ) → (IsSome o) ⊎ (o ≡ None)
+some_or_none None = inr refl
+some_or_none (Some x) = inl refl
+
+not_none : (o : Option ℕ) → IsSome o → o ≡ None → ⊥
+not_none None h e = cc
+not_none (Some x) h e = cc
+
+-- what is left lies below the end of the disk as the map does
+pub left_below : (end : ℕ) (m : FinMap nat_cmp ℕ) (left : List Piece) → ((i : ℕ) → get m i ≡ None → get (map_of left) i ≡ None) → IsBelow end m → IsBelow end (map_of left)
+left_below end m left of_map below i some = elim (some_or_none (get m i)) [
+  | inl here ↦ below i here
+  | inr none ↦ absurd (not_none (get (map_of left) i) some (of_map i none))
+]
+
+nothing_sent : (m : FinMap nat_cmp ℕ) (image : List ℕ) → IsPartlySent m image image
+nothing_sent m image = record { same_length = refl; place = λ i l h. refl; others = λ i n. refl }
+
+pub begin_sending : (m : FinMap nat_cmp ℕ) (first : Option (List ℕ)) (len : ℕ) (pieces : List Piece) → IfSome first (λ image. length image ≡ len) → 69632 ≤ len → IsBelow len m
+    → AreApart 0 pieces → map_of pieces ≡ m → IsSending m first first pieces
+begin_sending m None len pieces size long below apart whole = record { apart = apart; of_map = λ i h. ap (λ k. get k i) whole ∙ h; whole = refl; part = tt }
+begin_sending m (Some image) len pieces size long below apart whole = record {
+  apart = apart;
+  of_map = λ i h. ap (λ k. get k i) whole ∙ h;
+  whole = ap Some (all_sent 0 pieces image apart (subst (λ k. IsBelow k (map_of pieces)) (sym size) (subst (IsBelow len) (sym whole) below)) (omega arith)
+      ∙ ap (λ k. with_place_of image (overlaid k 0 image)) whole);
+  part = nothing_sent m image;
+}
+
+-- the next piece lies on the disk
+pub piece_inside : (m : FinMap nat_cmp ℕ) (first now : Option (List ℕ)) (len : ℕ) (p : Piece) (left : List Piece) → IsBelow len m → IsSending m first now (p ∷ left) → p.at + length p.bytes ≤ len
+piece_inside m first now len p left below so = first_inside len 0 p left so.apart (left_below len m (p ∷ left) so.of_map below)
+
+of_rest : (m : FinMap nat_cmp ℕ) (p : Piece) (left : List Piece) → ((i : ℕ) → get m i ≡ None → get (map_of (p ∷ left)) i ≡ None) → (i : ℕ) → get m i ≡ None
+    → ((i < p.at) ⊎ (p.at + length p.bytes ≤ i)) × (get (map_of left) i ≡ None)
+of_rest m p left of_map i none = elim (ranged p.at (length p.bytes) i) [
+  | in_range low high ↦ absurd (not_none (get (map_of (p ∷ left)) i) (some_is (get (map_of (p ∷ left)) i) _ (get-map_of_first p left i low high)) (of_map i none))
+  | out_of_range out ↦ (out, sym (get-map_of_rest p left i out) ∙ of_map i none)
+]
+
+part_more : (m : FinMap nat_cmp ℕ) (p : Piece) (left : List Piece) (image now last : List ℕ) → ((i : ℕ) → get m i ≡ None → get (map_of (p ∷ left)) i ≡ None)
+    → IsPartlySent m image now → StaysButForPiece p.at (length p.bytes) now last → IsPartlySent m image last
+part_more m p left image now last of_map part stays = record {
+  same_length = stays.outside.same_length ∙ part.same_length;
+  place = λ i low high. stays.place i low high ∙ part.place i low high;
+  others = λ i none. stays.outside.others i (of_rest m p left of_map i none).0 ∙ part.others i none;
+}
+
+piece_stays : (image : List ℕ) (at : ℕ) (bytes : List ℕ) → at + length bytes ≤ length image → StaysButForPiece at (length bytes) image (sent_piece image at bytes)
+piece_stays image at bytes fits = record {
+  outside = record { same_length = length-sent_piece image at bytes fits; others = λ i out. sent_piece-out image at bytes i fits out };
+  place = λ i low high. sent_piece-place image at bytes i fits low high;
+}
+
+sent_one : (p : Piece) (left : List Piece) (now last : Option (List ℕ)) → last ≡ option_map (λ image. sent_piece image p.at p.bytes) now
+    → option_map (sent_all left) last ≡ option_map (sent_all (p ∷ left)) now
+unfolding sent_all
+sent_one p left None last h = ap (option_map (sent_all left)) h
+sent_one p left (Some image) last h = ap (option_map (sent_all left)) h
+
+part_sent : (m : FinMap nat_cmp ℕ) (p : Piece) (left : List Piece) (image : List ℕ) (now last : Option (List ℕ)) → ((i : ℕ) → get m i ≡ None → get (map_of (p ∷ left)) i ≡ None)
+    → p.at + length p.bytes ≤ length image → IsSomeAnd now (IsPartlySent m image) → last ≡ option_map (λ i. sent_piece i p.at p.bytes) now → IsSomeAnd last (IsPartlySent m image)
+part_sent m p left image None last of_map fits part h = absurd part
+part_sent m p left image (Some now) last of_map fits part h =
+    let n : length now ≡ length image = part.same_length in
+    subst (λ o. IsSomeAnd o (IsPartlySent m image)) (sym h)
+    (part_more m p left image now (sent_piece now p.at p.bytes) of_map part (piece_stays now p.at p.bytes (omega arith)))
+
+-- one more piece is out
+pub more_sent : (m : FinMap nat_cmp ℕ) (first now last : Option (List ℕ)) (len : ℕ) (p : Piece) (left : List Piece) → IfSome first (λ image. length image ≡ len) → IsBelow len m
+    → IsSending m first now (p ∷ left) → last ≡ option_map (λ image. sent_piece image p.at p.bytes) now → IsSending m first last left
+more_sent m first now last len p left size below so h =
+    let fits : p.at + length p.bytes ≤ len = piece_inside m first now len p left below so in
+    record {
+      apart = apart_from 0 (p.at + length p.bytes + 1) left (omega arith) so.apart.2;
+      of_map = λ i none. (of_rest m p left so.of_map i none).1;
+      whole = sent_one p left now last h ∙ so.whole;
+      part = elim first as (λ o. IfSome o (λ image. length image ≡ len) → IfSome o (λ image. IsSomeAnd now (IsPartlySent m image)) → IfSome o (λ image. IsSomeAnd last (IsPartlySent m image))) [
+        | None ↦ λ a b. tt
+        | Some image ↦ λ a b. part_sent m p left image now last so.of_map (omega arith) b h
+      ] size so.part;
+    }
+
+-- no piece is left
+pub sent_whole : (m : FinMap nat_cmp ℕ) (first now : Option (List ℕ)) (left : List Piece) → left ≡ [] → IsSending m first now left
+    → now ≡ option_map (λ image. with_place_of image (overlaid m 0 image)) first
+unfolding sent_all
+sent_whole m first None left none so = ap (λ l. option_map (sent_all l) None) none ∙ so.whole
+sent_whole m first (Some image) left none so = ap (λ l. option_map (sent_all l) (Some image)) (sym none) ∙ so.whole
+
+part_left : (m : FinMap nat_cmp ℕ) (p : Piece) (left : List Piece) (image : List ℕ) (now last : Option (List ℕ)) → ((i : ℕ) → get m i ≡ None → get (map_of (p ∷ left)) i ≡ None)
+    → IsSomeAnd now (IsPartlySent m image) → IfSome now (λ i. IsSomeAnd last (StaysButForPiece p.at (length p.bytes) i)) → IsSomeAnd last (IsPartlySent m image)
+part_left m p left image None last of_map part h = absurd part
+part_left m p left image (Some now) None of_map part h = h
+part_left m p left image (Some now) (Some last) of_map part h = part_more m p left image now last of_map part h
+
+-- a call of a piece failed
+pub piece_fails : (m : FinMap nat_cmp ℕ) (first now last : Option (List ℕ)) (p : Piece) (left : List Piece) → IsSending m first now (p ∷ left)
+    → IfSome now (λ image. IsSomeAnd last (StaysButForPiece p.at (length p.bytes) image)) → IfSome first (λ image. IsSomeAnd last (IsPartlySent m image))
+piece_fails m first now last p left so h =
+    elim first as (λ o. IfSome o (λ image. IsSomeAnd now (IsPartlySent m image)) → IfSome o (λ image. IsSomeAnd last (IsPartlySent m image))) [
+      | None ↦ λ a. tt
+      | Some image ↦ λ a. part_left m p left image now last so.of_map a h
+    ] so.part
+
+-- where nothing meets the superblock place, what went out is all
+pub told_settled : (first last : Option (List ℕ)) (len : ℕ) (m : FinMap nat_cmp ℕ) → IfSome first (λ image. length image ≡ len) → 69632 ≤ len
     → ((i : ℕ) → 65536 ≤ i → i < 69632 → get m i ≡ None)
-    → last ≡ option_map (λ image. with_place_of image (overlaid n 0 image)) first
+    → last ≡ option_map (λ image. with_place_of image (overlaid m 0 image)) first
     → last ≡ option_map (λ image. overlaid m 0 image) first
-told_settled None last len m n size long same apart l = l
-told_settled (Some image) last len m n size long same apart l =
-    l ∙ ap (λ c. Some (with_place_of image (overlaid c 0 image))) same
-    ∙ ap Some (place_same image (overlaid m 0 image) (length-overlaid m 0 image) (omega arith) (λ i low high.
+told_settled None last len m size long apart l = l
+told_settled (Some image) last len m size long apart l =
+    l ∙ ap Some (place_same image (overlaid m 0 image) (length-overlaid m 0 image) (omega arith) (λ i low high.
     get-overlaid m 0 image i (omega arith) ∙ ap (λ o. unwrap_or o (get_or image i 0)) (ap (get m) (omega arith) ∙ apart i low high)))
 
 -- and with the whole place behind it, all of a commit
-pub told_commit : (first begun mid last : Option (List ℕ)) (len : ℕ) (m n : FinMap nat_cmp ℕ) (place read : List ℕ) → IfSome first (λ image. length image ≡ len) → 69632 ≤ len → n ≡ m
-    → IfSome first (λ image. read ≡ range 65536 4096 image) → place ≡ overlaid m 65536 read → begun ≡ first
-    → mid ≡ option_map (λ image. with_place_of image (overlaid n 0 image)) begun
+pub told_commit : (first mid last : Option (List ℕ)) (len : ℕ) (m : FinMap nat_cmp ℕ) (place read : List ℕ) → IfSome first (λ image. length image ≡ len) → 69632 ≤ len
+    → IfSome first (λ image. read ≡ range 65536 4096 image) → place ≡ overlaid m 65536 read
+    → mid ≡ option_map (λ image. with_place_of image (overlaid m 0 image)) first
     → last ≡ option_map (λ image. written image 65536 place) mid
     → last ≡ option_map (λ image. overlaid m 0 image) first
-told_commit None begun mid last len m n place read size long same r p b e l =
-    l ∙ ap (option_map (λ image. written image 65536 place)) (e ∙ ap (option_map (λ image. with_place_of image (overlaid n 0 image))) b)
-told_commit (Some image) begun mid last len m n place read size long same r p b e l =
+told_commit None mid last len m place read size long r p e l = l ∙ ap (option_map (λ image. written image 65536 place)) e
+told_commit (Some image) mid last len m place read size long r p e l =
     let over : List ℕ = overlaid m 0 image in
     let q : place ≡ range 65536 4096 over = p ∙ ap (overlaid m 65536) r ∙ sym (range-overlaid_image m image 65536 4096) in
-    l ∙ ap (option_map (λ i. written i 65536 place)) (e ∙ ap (option_map (λ i. with_place_of i (overlaid n 0 i))) b)
-    ∙ ap (λ c. Some (written (with_place_of image (overlaid c 0 image)) 65536 place)) same
+    l ∙ ap (option_map (λ i. written i 65536 place)) e
     ∙ ap (λ x. Some (written (with_place_of image over) 65536 x)) q
     ∙ ap Some (place_last image over (length-overlaid m 0 image) (omega arith))
 
--- what the test for no bytes says
-pub is_some_length : (xs ys : List ℕ) → xs ≡ ys → (length xs == 0) ≡ false → 0 < length ys
-is_some_length xs ys e t = let n : length xs ≡ length ys = ap length e in grind arith
+-- what was sent to a disk that was read before
+pub read_first : (first begun last : Option (List ℕ)) (m : FinMap nat_cmp ℕ) → begun ≡ first → last ≡ option_map (λ image. with_place_of image (overlaid m 0 image)) begun
+    → last ≡ option_map (λ image. with_place_of image (overlaid m 0 image)) first
+read_first first begun last m same l = l ∙ ap (option_map (λ image. with_place_of image (overlaid m 0 image))) same
 
-pub is_no_length : (xs ys : List ℕ) → xs ≡ ys → (length xs == 0) ≡ true → length ys ≡ 0
-is_no_length xs ys e t = let n : length xs ≡ length ys = ap length e in grind arith
+-- where no byte waits, a laid-over image has its own
+over_none : (m : FinMap nat_cmp ℕ) (image : List ℕ) (i : ℕ) → get m i ≡ None → get_or (overlaid m 0 image) i 0 ≡ get_or image i 0
+over_none m image i none =
+    let n : length (overlaid m 0 image) ≡ length image = length-overlaid m 0 image in
+    elim (cases_lt i (length image)) [
+      | inl inside ↦ get-overlaid m 0 image i inside ∙ ap (λ o. unwrap_or o (get_or image i 0)) (ap (get m) (omega arith) ∙ none)
+      | inr past ↦ get_or_past (overlaid m 0 image) i 0 (omega arith) ∙ sym (get_or_past image i 0 past)
+    ]
+
+but_place : (m : FinMap nat_cmp ℕ) (image : List ℕ) → 69632 ≤ length image → IsPartlySent m image (with_place_of image (overlaid m 0 image))
+but_place m image long =
+    let n : length (overlaid m 0 image) ≡ length image = length-overlaid m 0 image in
+    let k : length (with_place_of image (overlaid m 0 image)) ≡ length (overlaid m 0 image) = length-with_place_of image (overlaid m 0 image) (sym n) (omega arith) in
+    record {
+      same_length = k ∙ n;
+      place = λ i low high. get-with_place_of_in image (overlaid m 0 image) i (sym n) (omega arith) low high;
+      others = λ i none. elim (where_is i) [
+        | inside_place low high ↦ get-with_place_of_in image (overlaid m 0 image) i (sym n) (omega arith) low high
+        | outside_place w ↦ get-with_place_of_out image (overlaid m 0 image) i (sym n) (omega arith) w ∙ over_none m image i none
+      ];
+    }
+
+-- what is left where all but the place went out, or all
+pub left_but_place : (first mid last : Option (List ℕ)) (len : ℕ) (m : FinMap nat_cmp ℕ) → IfSome first (λ image. length image ≡ len) → 69632 ≤ len
+    → mid ≡ option_map (λ image. with_place_of image (overlaid m 0 image)) first → last ≡ mid → IfSome first (λ image. IsSomeAnd last (IsAllOrPart m image))
+left_but_place None mid last len m size long e h = tt
+left_but_place (Some image) mid last len m size long e h = subst (λ o. IsSomeAnd o (IsAllOrPart m image)) (sym (h ∙ e)) (inr (but_place m image (omega arith)))
+
+pub left_all : (first mid last : Option (List ℕ)) (m : FinMap nat_cmp ℕ) → mid ≡ option_map (λ image. overlaid m 0 image) first → last ≡ mid → IfSome first (λ image. IsSomeAnd last (IsAllOrPart m image))
+left_all None mid last m e h = tt
+left_all (Some image) mid last m e h = subst (λ o. IsSomeAnd o (IsAllOrPart m image)) (sym (h ∙ e)) (inl refl)
+
+-- the write of the place failed: it wrote the whole place or nothing
+place_left : (m : FinMap nat_cmp ℕ) (image mid place : List ℕ) (last : Option (List ℕ)) → length place ≡ 4096 → IsPartlySent m image mid → written mid 65536 place ≡ overlaid m 0 image
+    → MayBeWritten (Some mid) 65536 place last → IsSomeAnd last (IsAllOrPart m image)
+place_left m image mid place last size part all may =
+    subst (λ o. IsSomeAnd o (IsAllOrPart m image)) (sym may.1) (elim (may.2.whole refl size) [
+      | inl same ↦ inr (subst (IsPartlySent m image) (sym same) part)
+      | inr whole ↦ inl (whole ∙ all)
+    ])
+
+some_one : (a b : List ℕ) → Some a ≡ Some b → a ≡ b
+some_one a b h = cc
+
+pub place_fails : (first mid last : Option (List ℕ)) (len : ℕ) (m : FinMap nat_cmp ℕ) (place read : List ℕ) → IfSome first (λ image. length image ≡ len) → 69632 ≤ len
+    → IfSome first (λ image. read ≡ range 65536 4096 image) → place ≡ overlaid m 65536 read → length place ≡ 4096
+    → mid ≡ option_map (λ image. with_place_of image (overlaid m 0 image)) first
+    → MayBeWritten mid 65536 place last
+    → IfSome first (λ image. IsSomeAnd last (IsAllOrPart m image))
+place_fails None mid last len m place read size long r p n e may = tt
+place_fails (Some image) mid last len m place read size long r p n e may =
+    let but : List ℕ = with_place_of image (overlaid m 0 image) in
+    place_left m image but place last n (but_place m image (omega arith))
+    (some_one _ _ (told_commit (Some image) (Some but) (Some (written but 65536 place)) len m place read size long r p refl refl))
+    (subst (λ o. MayBeWritten o 65536 place last) e may)
 
 none_or_some : (o : Option ℕ) → (IsSome o → o ≡ None) → o ≡ None
 none_or_some None f = refl

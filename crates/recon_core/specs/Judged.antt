@@ -1,28 +1,36 @@
--- What a judged event leaves, by the cache of what waits.
-use Rattle.std.specs.Prelude.{ℕ, ◌≡◌, List, Option, Some}
+-- These words serve private functions alone: what a judged event leaves, by the map of what waits.
+use Rattle.std.specs.Prelude.{ℕ, ◌≡◌, Bool, List, Option, Some, Result, OnErr, IfOk, IfSome}
+use Rattle.std.specs.Option.{IsSomeAnd}
 use Rattle.std.specs.Ordering.{nat_cmp}
 use Rattle.std.specs.FinMap.{FinMap}
-use Rattle.verdict.specs.declared.finding.Finding.{Finding}
 use Rattle.verdict.specs.declared.machine.Answer.{Answer}
-use Rattle.write_cache.specs.Cache.{overlaid}
-use Rattle.plain_check.specs.FullCheck.{full_check}
-use Rattle.plain_check.specs.declared.image.Verdict.TheVariants.{Found}
-use Rattle.plain_check.specs.declared.image.Fault.{Fault}
-use Rattle.plain_check.specs.declared.image.Fault.TheVariants.{Disk, NoMemory}
 use Rattle.verdict.specs.declared.machine.Stop.{Stop}
 use Rattle.verdict.specs.declared.machine.Stop.TheVariants.{DiskFault, NoMemory as want}
+use Rattle.recon_disk.specs.declared.disk.Disk.{Ghosts}
+use Rattle.recon_disk.specs.Keeping.{IsCounted}
+use Rattle.write_cache.specs.Cache.{overlaid}
+use Rattle.records.specs.FullCheck.{full_check}
+use Rattle.plain_check.specs.declared.halt.Fault.{Fault}
+use Rattle.plain_check.specs.declared.halt.Fault.TheVariants.{Disk, NoMemory}
 use Rattle.recon_core.specs.Machine.{answer_to, image_by}
+use Rattle.recon_core.specs.Stops.{IsLeftBy}
 
 -- the answer is that of the full check, and the disk holds the judged image where it accepts
 abbrev pub IsSettled : FinMap nat_cmp ℕ → Answer → Option (List ℕ) → List ℕ → Type 0
-IsSettled cache answer bytes image =
-    (answer ≡ answer_to (full_check (overlaid cache 0 image)))
-    × (bytes ≡ Some (image_by (full_check (overlaid cache 0 image)) (overlaid cache 0 image) image))
+IsSettled waiting answer bytes image =
+    (answer ≡ answer_to (full_check (overlaid waiting 0 image)))
+    × (bytes ≡ Some (image_by (full_check (overlaid waiting 0 image)) (overlaid waiting 0 image) image))
 
--- the disk's bytes stay where the judged image has a finding
-abbrev pub StaysWhereFound : FinMap nat_cmp ℕ → Option (List ℕ) → List ℕ → Type 0
-StaysWhereFound cache bytes image =
-    (finding : Finding) → full_check (overlaid cache 0 image) ≡ Found finding → bytes ≡ Some image
+-- what is left of an image where a call failed
+abbrev pub IsLeftOf : FinMap nat_cmp ℕ → List ℕ → List ℕ → Type 0
+IsLeftOf waiting image left = IsLeftBy (full_check (overlaid waiting 0 image)) waiting (overlaid waiting 0 image) image left
+
+-- What the judging of all that waits gives of a disk; the flag says whether the answer names a fault of it.
+pub record Judges {D E : Type 0} (disk : Ghosts D) (old new : D) (waiting : FinMap nat_cmp ℕ) (result : Result Answer E) (failed : Bool) : Type 0 where
+  pub settled : IfOk result (λ answer. IfSome (disk.bytes old) (IsSettled waiting answer (disk.bytes new)))
+  pub left : OnErr result (IfSome (disk.bytes old) (λ image. IsSomeAnd (disk.bytes new) (IsLeftOf waiting image)))
+  pub len : disk.len new ≡ disk.len old
+  pub faults : IsCounted failed (disk.faults old) (disk.faults new)
 
 -- the stop that a fault of the judge makes
 abbrev pub stop_for : Fault → Stop

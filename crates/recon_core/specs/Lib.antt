@@ -1,4 +1,5 @@
 pub mod Machine
 pub mod Standing
-pub mod Sending
+pub mod Stops
+pub mod Sent
 pub mod Judged

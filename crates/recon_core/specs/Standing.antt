@@ -1,30 +1,38 @@
--- When a checker stands for a state of the machine.
-use Rattle.std.specs.Prelude.{ℕ, ◌≡◌, ◌≤◌, Bool, true, false, nat_lt, List, [], length, Option, Some, None, Result, Err, if◌then◌else◌}
+-- When a checker stands for a state of the machine, and what its events keep.
+use Rattle.std.specs.Prelude.{ℕ, ◌≡◌, ◌<◌, Bool, true, false, nat_lt, not, List, [], ◌∷◌, length, Option, Some, None, IsSome, Result, Err, if◌then◌else◌}
 use Rattle.std.specs.Bool.{MatchBool}
-use Rattle.std.specs.FinMap.{empty}
-use Rattle.recon_disk.specs.Outside.{counted}
+use Rattle.std.specs.Ordering.{nat_cmp}
+use Rattle.std.specs.FinMap.{FinMap, empty, get}
+use Rattle.verdict.specs.Events.{end_of, begin_of, length_of, meets_superblock}
+use Rattle.verdict.specs.declared.machine.HeldWrite.{HeldWrite}
 use Rattle.verdict.specs.declared.machine.Event.{Event}
 use Rattle.verdict.specs.declared.machine.Event.TheVariants.{Write, Settle, Fetch}
 use Rattle.verdict.specs.declared.machine.Answer.{Answer}
-use Rattle.verdict.specs.declared.machine.Answer.TheVariants.{Passed}
 use Rattle.verdict.specs.declared.machine.Stop.{Stop}
 use Rattle.verdict.specs.declared.machine.Stop.TheVariants.{PastEnd, DiskFault, Closed}
 use Rattle.write_cache.specs.Cache.{cache_of, AllInside}
-use Rattle.plain_check.specs.FullCheck.{full_check}
-use Rattle.plain_check.specs.declared.image.Verdict.TheVariants.{Accept, Found}
+use Rattle.records.specs.FullCheck.{full_check}
+use Rattle.verdict.specs.declared.finding.Verdict.TheVariants.{Accept, Found}
 use Rattle.recon_core.specs.declared.checker.Checker.{Checker}
 use Rattle.recon_core.specs.declared.checker.Started.{Started}
 use Rattle.recon_core.specs.declared.checker.Started.TheVariants.{Ready, Refused}
-use Rattle.recon_core.specs.Machine.{MachineState, Step, end_of, begin_of, length_of, meets_superblock}
+use Rattle.recon_core.specs.Machine.{MachineState, Step}
 
 -- the full check accepts the image
 abbrev pub IsAccepted : List ℕ → Type 0
 IsAccepted image = (generation : ℕ) × (full_check image ≡ Accept generation)
 
--- a state that the machine may be in: its image is accepted, and the writes that wait lie inside it
+-- none of these writes touches the superblock place
+abbrev pub AllMissPlace : List HeldWrite → Type 0
+AllMissPlace [] = Unit {0}
+AllMissPlace (w ∷ ws) = (meets_superblock w.at (length w.bytes) ≡ false) × AllMissPlace ws
+
+-- a state that the machine may be in: its image is accepted, and the writes that wait lie inside it and touch no byte
+-- of the superblock place
 pub record IsMachineState (state : MachineState) : Type 0 where
   pub accepted : IsAccepted state.image
   pub inside : AllInside (length state.image) state.pending
+  pub apart : AllMissPlace state.pending
 
 -- The checker stands for the state: its cache has exactly the offsets that the waiting writes touch,
 -- each with the newest byte, and its flag and its length are those of the state.
@@ -33,6 +41,10 @@ pub record StandsFor (checker : Checker) (state : MachineState) : Type 0 where
   pub cache : checker.cache ≡ cache_of state.pending
   pub closed : checker.closed ≡ state.closed
   pub size : checker.length ≡ length state.image
+
+-- each offset of a cache lies below this one
+abbrev pub IsBelow : ℕ → FinMap nat_cmp ℕ → Type 0
+IsBelow end cache = (i : ℕ) → IsSome (get cache i) → i < end
 
 -- the state of the machine over an image, before the first event
 abbrev pub first_state : List ℕ → MachineState
@@ -62,31 +74,25 @@ IsNoRefusal (Err Closed) = ⊥
 IsNoRefusal (Err (PastEnd at len end)) = ⊥
 IsNoRefusal _ = Unit {0}
 
--- A fault of the disk comes only where the disk's count of faults rose or stands at its greatest value.
--- With every other answer the count stays.
-abbrev pub HasStopCause : {T : Type 0} → ℕ → ℕ → Result T Stop → Type 0
-HasStopCause before now (Err DiskFault) = (before ≤ now) × (counted before ≤ now)
-HasStopCause before now _ = now ≡ before
+-- whether an answer names a fault of the disk
+abbrev pub is_disk_fault : {T : Type 0} → Result T Stop → Bool
+is_disk_fault (Err DiskFault) = true
+is_disk_fault _ = false
 
--- whether an event is a write that waits, is judged, or is a fetch
-abbrev pub waits : Event → Bool
-waits (Write submitter at bytes) = if meets_superblock at (length bytes) then false else true
-waits Settle = false
-waits (Fetch at len) = false
-
+-- whether an event is judged, and whether it is a write that waits
 abbrev pub is_judged : Event → Bool
 is_judged (Write submitter at bytes) = meets_superblock at (length bytes)
 is_judged Settle = true
 is_judged (Fetch at len) = false
 
+abbrev pub waits : Event → Bool
+waits (Write submitter at bytes) = not (meets_superblock at (length bytes))
+waits Settle = false
+waits (Fetch at len) = false
+
 -- What want of memory leaves of the checker: all stays, and after a judged event it is closed.
 abbrev pub IsAfterWant : Event → Checker → Checker → Type 0
 IsAfterWant event old new = MatchBool (is_judged event) (new.closed ≡ true) (new ≡ old)
-
--- an answer that lets nothing through
-abbrev pub LetsNothingThrough : Answer → Type 0
-LetsNothingThrough (Passed generation blocks hot) = ⊥
-LetsNothingThrough _ = Unit {0}
 
 -- what was answered, the checker and the disk's bytes are those of a step of the machine
 pub record Takes (step : Step) (said : Answer) (checker : Checker) (bytes : Option (List ℕ)) : Type 0 where

@@ -3,12 +3,12 @@
 ghost use Rattle.std.specs.Prelude.{◌≡◌};
 ghost use Rattle.recon_core.specs.Judged.{stop_for};
 
-use crate::judged::{fetch, judge_waiting};
-use crate::range::{meets_superblock, range_of};
+use crate::fetching::fetch;
+use crate::judging::judge_waiting;
 use plain_check::{Fault, Verdict, judge};
 use recon_disk::{Disk, Steps};
 use std::alloc::Global;
-use verdict::{Answer, Event, Finding, HeldWrite, Stop};
+use verdict::{Answer, Event, Finding, HeldWrite, Stop, meets_superblock};
 use write_cache::WriteCache;
 
 /// A checker over a disk: what waits, whether it is closed, and the disk's length in bytes. A closed
@@ -33,14 +33,16 @@ pub enum Started {
 }
 
 impl Checker {
-    ghost use Rattle.std.specs.Prelude.{◌≡◌, ◌≢◌, ◌+◌, ◌^◌, ◌<◌, ◌≤◌, length, true, Some, None, Ok, Err, IfOk, IfErr, IfSome, IfNone, OnOk, OnErr, IsTrue, IsErrOf};
+    ghost use Rattle.std.specs.Prelude.{◌≡◌, ◌≢◌, ◌+◌, ◌^◌, ◌<◌, ◌≤◌, length, true, Some, None, Ok, Err, IfOk, IfErr, IfSome, OnOk, OnErr, IsSomeAnd, IsTrue, IsErrOf};
     ghost use Rattle.std.specs.FinMap as map;
+    ghost use Rattle.verdict.specs.Events.{IsSized};
     ghost use Rattle.verdict.specs.Image.{range};
+    ghost use Rattle.recon_disk.specs.Keeping.{IsCounted, Kept};
     ghost use Rattle.write_cache.specs.Cache.{overlaid, with_bytes};
-    ghost use Rattle.recon_core.specs.Judged.{IsSettled, StaysWhereFound};
-    ghost use Rattle.recon_core.specs.Machine.{MachineState, IsSized, machine_step};
-    ghost use Rattle.recon_core.specs.Sending.{IsBelow};
-    ghost use Rattle.recon_core.specs.Standing.{BeginsAt, BeginsOver, HasStopCause, IsAfterWant, IsNoRefusal, LetsNothingThrough, StandsFor, Takes, refusal_of, waits};
+    ghost use Rattle.recon_core.specs.Machine.{MachineState, machine_step};
+    ghost use Rattle.recon_core.specs.Standing.{BeginsAt, BeginsOver, IsAfterWant, IsBelow, IsNoRefusal, StandsFor, Takes, is_disk_fault, refusal_of, waits};
+    ghost use Rattle.recon_core.specs.Stops.{IsStopImage};
+    ghost use Rattle.recon_core.specs.Judged.{Judges};
 
     /// A checker over the disk, where the full check accepts its image. The disk's bytes stay. Its
     /// stops are `DiskFault` and `NoMemory`.
@@ -49,12 +51,11 @@ impl Checker {
         disk: &mut D,
         _steps: &mut Steps<L>,
     ) -> Result<Started, Stop>
-        ensures told { IfOk result (λ started. IfSome (D.bytes disk.old) (λ image. BeginsOver image started)) }
+        ensures told { IfOk result (λ started.
+            IfSome (D.bytes disk.old) (λ image. BeginsOver image started)) }
         ensures ready { IfOk result (BeginsAt (D.len disk.old)) }
         ensures stops { IsNoRefusal result }
-        ensures bytes { D.bytes disk.new ≡ D.bytes disk.old }
-        ensures len { D.len disk.new ≡ D.len disk.old }
-        ensures cause { HasStopCause (D.faults disk.old) (D.faults disk.new) result }
+        ensures kept { Kept D.Disk disk.old disk.new (is_disk_fault result) }
     {
         let cache = WriteCache::new(alloc);
         match judge(alloc, disk, &cache) {
@@ -77,8 +78,9 @@ impl Checker {
     /// The refusals, in this order: `Closed` exactly where the checker is closed; `PastEnd` exactly
     /// where the event's range passes the end of the disk; `NoMemory`, after which all stays, but a
     /// judged event closes the checker; `DiskFault` only where a call of the disk failed, never at a
-    /// write that waits, and it closes the checker. The disk's bytes change only where the full check
-    /// accepts the judged image.
+    /// write that waits, and it closes the checker. After it the disk holds a stop image of the event: the
+    /// old image, and where the full check accepts the judged image, that one, or the old one to which the
+    /// waiting writes went out in part outside the superblock place.
     pub fn event<D: Disk, L>(
         &mut self,
         alloc: Global,
@@ -91,21 +93,25 @@ impl Checker {
         requires sized { IsSized ev }
 
         // The refusals before anything is done, after which all stays.
-        ensures refused { IfSome (refusal_of self.old ev) (λ stop. (result ≡ Err stop) × (self.new ≡ self.old) × (disk.new ≡ disk.old)) }
+        ensures refused { IfSome (refusal_of self.old ev)
+            (λ stop. (result ≡ Err stop) × (self.new ≡ self.old) × (disk.new ≡ disk.old)) }
         ensures only { refusal_of self.old ev ≡ None → IsNoRefusal result }
 
-        // The machine's step.
-        ensures step { (state : MachineState) → StandsFor self.old state → D.bytes disk.old ≡ Some state.image → refusal_of self.old ev ≡ None →
-            IfOk result (λ answer. Takes (machine_step state ev) answer self.new (D.bytes disk.new)) }
-        ensures kept { (state : MachineState) → StandsFor self.old state → D.bytes disk.old ≡ Some state.image →
-            LetsNothingThrough (machine_step state ev).answer → D.bytes disk.new ≡ D.bytes disk.old }
+        // The machine's step, and what a failed call of the disk leaves of it.
+        ensures step { (state : MachineState) → StandsFor self.old state →
+            D.bytes disk.old ≡ Some state.image → refusal_of self.old ev ≡ None → IfOk result
+            (λ answer. Takes (machine_step state ev) answer self.new (D.bytes disk.new)) }
+        ensures stop { (state : MachineState) → StandsFor self.old state →
+            D.bytes disk.old ≡ Some state.image → IsErrOf result Stop.DiskFault →
+            IsSomeAnd (D.bytes disk.new) (IsStopImage state ev) }
 
         // What the other refusals leave.
-        ensures memory { IsErrOf result Stop.NoMemory → (D.bytes disk.new ≡ D.bytes disk.old) × IsAfterWant ev self.old self.new }
+        ensures memory { IsErrOf result Stop.NoMemory →
+            (D.bytes disk.new ≡ D.bytes disk.old) × IsAfterWant ev self.old self.new }
         ensures fault { IsErrOf result Stop.DiskFault → self.new.closed ≡ true }
         ensures answered { OnOk result (self.new.closed ≡ self.old.closed) }
         ensures held { IsTrue (waits ev) → (disk.new ≡ disk.old) × (result ≢ Err Stop.DiskFault) }
-        ensures cause { HasStopCause (D.faults disk.old) (D.faults disk.new) result }
+        ensures cause { IsCounted (is_disk_fault result) (D.faults disk.old) (D.faults disk.new) }
 
         // What each answer keeps.
         ensures size { self.new.length ≡ self.old.length }
@@ -115,7 +121,7 @@ impl Checker {
         if self.closed {
             return Err(Stop::Closed);
         }
-        let (at, len) = range_of(&ev);
+        let (at, len) = ev.range();
         if len > self.length || at > self.length - len {
             return Err(Stop::PastEnd {
                 at,
@@ -141,7 +147,8 @@ impl Checker {
     fn hold(&mut self, write: HeldWrite) -> Result<Answer, Stop>
         requires fits { write.at + length write.bytes < 2 ^ 64 }
         ensures answer { IfOk result (λ answer. answer ≡ Answer.Held) }
-        ensures ok { OnOk result (self.new ≡ record self.old { cache = with_bytes self.old.cache write.at write.bytes }) }
+        ensures ok { OnOk result
+            (self.new ≡ record self.old { cache = with_bytes self.old.cache write.at write.bytes }) }
         ensures err { IfErr result (λ stop. (stop ≡ Stop.NoMemory) × (self.new ≡ self.old)) }
     {
         match self.cache.hold(write) {
@@ -152,15 +159,14 @@ impl Checker {
 
     // All that waits is judged.
     fn settle<D: Disk>(&mut self, alloc: Global, disk: &mut D) -> Result<Answer, Stop>
-        requires { IsBelow (D.len disk.old) self.old.cache }
-        ensures settled { IfOk result (λ answer. IfSome (D.bytes disk.old) (IsSettled self.old.cache answer (D.bytes disk.new))) }
-        ensures found { IfSome (D.bytes disk.old) (StaysWhereFound self.old.cache (D.bytes disk.new)) }
+        requires small { D.len disk.old < 2 ^ 64 }
+        requires below { IsBelow (D.len disk.old) self.old.cache }
+        ensures judged { Judges D.Disk disk.old disk.new
+            self.old.cache result (is_disk_fault result) }
+        ensures memory { IsErrOf result Stop.NoMemory → D.bytes disk.new ≡ D.bytes disk.old }
         ensures ok { OnOk result (self.new ≡ record self.old { cache = map.empty }) }
         ensures err { OnErr result (self.new ≡ record self.old { closed = true }) }
         ensures stops { IsNoRefusal result }
-        ensures memory { IsErrOf result Stop.NoMemory → D.bytes disk.new ≡ D.bytes disk.old }
-        ensures len { D.len disk.new ≡ D.len disk.old }
-        ensures cause { HasStopCause (D.faults disk.old) (D.faults disk.new) result }
     {
         match judge_waiting(alloc, disk, &mut self.cache) {
             Ok(answer) => Ok(answer),
@@ -178,18 +184,17 @@ impl Checker {
         disk: &mut D,
         write: HeldWrite,
     ) -> Result<Answer, Stop>
-        requires fits { write.at + length write.bytes < 2 ^ 64 }
+        requires small { D.len disk.old < 2 ^ 64 }
         requires below { IsBelow (D.len disk.old) self.old.cache }
         requires inside { write.at + length write.bytes ≤ D.len disk.old }
-        ensures settled { IfOk result (λ answer. IfSome (D.bytes disk.old) (IsSettled (with_bytes self.old.cache write.at write.bytes) answer (D.bytes disk.new))) }
-        ensures found { IfSome (D.bytes disk.old) (StaysWhereFound (with_bytes self.old.cache write.at write.bytes) (D.bytes disk.new)) }
+        ensures judged { Judges D.Disk disk.old disk.new
+            (with_bytes self.old.cache write.at write.bytes) result (is_disk_fault result) }
+        ensures memory { IsErrOf result Stop.NoMemory → D.bytes disk.new ≡ D.bytes disk.old }
         ensures ok { OnOk result (self.new ≡ record self.old { cache = map.empty }) }
-        ensures err { OnErr result ((self.new.closed ≡ true) × (self.new.length ≡ self.old.length)) }
+        ensures err { OnErr result
+            ((self.new.closed ≡ true) × (self.new.length ≡ self.old.length)) }
         ensures inside { IsBelow (D.len disk.old) self.new.cache }
         ensures stops { IsNoRefusal result }
-        ensures memory { IsErrOf result Stop.NoMemory → D.bytes disk.new ≡ D.bytes disk.old }
-        ensures len { D.len disk.new ≡ D.len disk.old }
-        ensures cause { HasStopCause (D.faults disk.old) (D.faults disk.new) result }
     {
         let Ok(()) = self.cache.hold(write) else {
             self.closed = true;
@@ -210,14 +215,14 @@ impl Checker {
         requires few { len ≤ 65536 }
         requires inside { at + len ≤ D.len disk.old }
         requires fits { at + len < 2 ^ 64 }
-        ensures bytes { IfOk result (λ answer. IfSome (D.bytes disk.old) (λ image. answer ≡ Answer.Fetched (range at len (overlaid self.old.cache 0 image)))) }
+        ensures bytes { IfOk result (λ answer. IfSome (D.bytes disk.old)
+            (λ image. answer ≡ Answer.Fetched (range at len (overlaid self.old.cache 0 image)))) }
         ensures ok { OnOk result (self.new ≡ self.old) }
         ensures memory { IsErrOf result Stop.NoMemory → self.new ≡ self.old }
-        ensures fault { IsErrOf result Stop.DiskFault → self.new ≡ record self.old { closed = true } }
+        ensures fault { IsErrOf result Stop.DiskFault →
+            self.new ≡ record self.old { closed = true } }
         ensures stops { IsNoRefusal result }
-        ensures stays { D.bytes disk.new ≡ D.bytes disk.old }
-        ensures len { D.len disk.new ≡ D.len disk.old }
-        ensures cause { HasStopCause (D.faults disk.old) (D.faults disk.new) result }
+        ensures kept { Kept D.Disk disk.old disk.new (is_disk_fault result) }
     {
         match fetch(alloc, disk, &self.cache, at, len) {
             Ok(bytes) => Ok(Answer::Fetched(bytes)),

@@ -3,10 +3,8 @@
 #![tactic(auto)]
 
 mod checker;
-mod judged;
-mod range;
+mod fetching;
+mod judging;
 mod send;
-#[cfg(test)]
-mod tests;
 
 pub use checker::{Checker, Started};

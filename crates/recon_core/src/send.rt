@@ -1,26 +1,26 @@
 //! How what waits goes out to the disk once it is let through.
 
-ghost use Rattle.std.specs.Prelude.{ℕ, ◌≡◌, ◌+◌, ◌^◌, ◌<◌, ◌≤◌, List, length, OnOk, option_map};
-ghost use Rattle.recon_disk.specs.Outside.{HasCause};
+ghost use Rattle.std.specs.Prelude.{ℕ, ◌≡◌, ◌+◌, ◌^◌, ◌<◌, ◌≤◌, List, length};
 ghost use Rattle.verdict.specs.Image.{written};
-ghost use Rattle.write_cache.specs.Cache.{AllInside, cache_of, overlaid};
-ghost use Rattle.recon_core.specs.Sending.{IsBelow, with_place_of};
+ghost use Rattle.write_cache.specs.Cache.{overlaid};
+ghost use Rattle.recon_core.specs.Standing.{IsBelow};
+ghost use Rattle.recon_core.specs.Stops.{IsPartlySent};
+ghost use Rattle.recon_core.specs.Sent.{IsAllOrPart, Sends, StaysButForPiece, StaysOutside, sent_piece, with_place_of};
 
-use crate::range::{SUPERBLOCK_AT, SUPERBLOCK_END};
 use recon_disk::{Disk, Failed};
-use verdict::HeldWrite;
+use verdict::{SUPERBLOCK_AT, SUPERBLOCK_SIZE};
 use write_cache::WriteCache;
 
 // The most bytes that one write to a disk has.
 const WRITE_MAX: usize = 1_048_576;
 
-// Writes bytes at a place of the disk, in as many calls as it takes.
+// Writes bytes at a place of the disk, in calls of the most bytes from the front and a shorter last one.
 fn write_run<D: Disk>(disk: &mut D, at: u64, bytes: &[u8]) -> Result<(), Failed>
     requires inside { at + length bytes.now ≤ D.len disk.old }
     requires fits { at + length bytes.now < 2 ^ 64 }
-    ensures written { OnOk result (D.bytes disk.new ≡ option_map (λ image. written image at bytes.now) (D.bytes disk.old)) }
-    ensures len { D.len disk.new ≡ D.len disk.old }
-    ensures cause { HasCause (D.faults disk.old) (D.faults disk.new) result }
+    ensures { Sends D.Disk disk.old disk.new result
+        (λ image. written image at bytes.now)
+        (StaysOutside at (length bytes.now)) }
 {
     let mut done = 0;
     while done < bytes.len() {
@@ -31,67 +31,58 @@ fn write_run<D: Disk>(disk: &mut D, at: u64, bytes: &[u8]) -> Result<(), Failed>
     Ok(())
 }
 
-// Writes a write's bytes outside the superblock place.
-fn send_one<D: Disk>(disk: &mut D, write: &HeldWrite) -> Result<(), Failed>
-    requires place { 69632 ≤ D.len disk.old }
-    requires inside { write.now.at + length write.now.bytes ≤ D.len disk.old }
-    requires fits { write.now.at + length write.now.bytes < 2 ^ 64 }
-    ensures sent { OnOk result (D.bytes disk.new ≡ option_map (λ image. with_place_of image (written image write.now.at write.now.bytes)) (D.bytes disk.old)) }
-    ensures len { D.len disk.new ≡ D.len disk.old }
-    ensures cause { HasCause (D.faults disk.old) (D.faults disk.new) result }
+// Writes the bytes of a piece before the superblock place, and then those behind it.
+fn send_piece<D: Disk>(disk: &mut D, at: u64, bytes: &[u8]) -> Result<(), Failed>
+    requires inside { at + length bytes.now ≤ D.len disk.old }
+    requires fits { at + length bytes.now < 2 ^ 64 }
+    ensures { Sends D.Disk disk.old disk.new result
+        (λ image. sent_piece image at bytes.now)
+        (StaysButForPiece at (length bytes.now)) }
 {
-    let bytes = write.bytes.as_slice();
-    let before = SUPERBLOCK_AT.saturating_sub(write.at);
-    if before >= bytes.len() as u64 {
-        write_run(disk, write.at, bytes)?;
-        return Ok(());
-    }
-    write_run(disk, write.at, &bytes[..before as usize])?;
-    let skipped = SUPERBLOCK_END.saturating_sub(write.at);
-    if skipped >= bytes.len() as u64 {
-        return Ok(());
-    }
-    write_run(disk, write.at + skipped, &bytes[skipped as usize..])?;
-    Ok(())
+    let len = bytes.len() as u64;
+    let before = SUPERBLOCK_AT.saturating_sub(at).min(len);
+    let behind = (SUPERBLOCK_AT + SUPERBLOCK_SIZE)
+        .saturating_sub(at)
+        .min(len);
+    write_run(disk, at, &bytes[..before as usize])?;
+    write_run(disk, at + behind, &bytes[behind as usize..])
 }
 
-// Writes the bytes of all that waits outside the superblock place.
-fn send_writes<D: Disk>(disk: &mut D, writes: &[HeldWrite]) -> Result<(), Failed>
+// Writes the bytes of all that waits outside the superblock place, in rising order.
+fn send_pieces<D: Disk>(disk: &mut D, cache: &WriteCache) -> Result<(), Failed>
     requires place { 69632 ≤ D.len disk.old }
-    requires inside { IsBelow (D.len disk.old) (cache_of writes.now) }
-    requires fit { AllInside 18446744073709551615 writes.now }
-    ensures sent { OnOk result (D.bytes disk.new ≡ option_map (λ image. with_place_of image (overlaid (cache_of writes.now) 0 image)) (D.bytes disk.old)) }
-    ensures len { D.len disk.new ≡ D.len disk.old }
-    ensures cause { HasCause (D.faults disk.old) (D.faults disk.new) result }
+    requires small { D.len disk.old < 2 ^ 64 }
+    requires inside { IsBelow (D.len disk.old) cache.now }
+    ensures { Sends D.Disk disk.old disk.new result
+        (λ image. with_place_of image (overlaid cache.now 0 image))
+        (IsPartlySent cache.now) }
 {
-    for write in writes {
-        if !write.bytes.as_slice().is_empty() {
-            send_one(disk, write)?;
-        }
+    for (at, bytes) in cache.pieces() {
+        send_piece(disk, at, bytes)?;
     }
     Ok(())
 }
 
-/// Sends out what waits: first all bytes outside the superblock place, which are then flushed, and
-/// where what waits meets the superblock place, then the whole place in one call, flushed too.
+/// Sends out what waits: first all bytes outside the superblock place in rising order, which are then
+/// flushed, and where what waits meets the superblock place, then the whole place in one call, flushed too.
+/// It takes no memory. Where a call fails, what waits is on the disk whole, or in part outside the place.
 pub fn let_through<D: Disk>(disk: &mut D, cache: &WriteCache) -> Result<(), Failed>
     requires place { 69632 ≤ D.len disk.old }
+    requires small { D.len disk.old < 2 ^ 64 }
     requires inside { IsBelow (D.len disk.old) cache.now }
-    ensures written { OnOk result (D.bytes disk.new ≡ option_map (λ image. overlaid cache.now 0 image) (D.bytes disk.old)) }
-    ensures len { D.len disk.new ≡ D.len disk.old }
-    ensures cause { HasCause (D.faults disk.old) (D.faults disk.new) result }
+    ensures { Sends D.Disk disk.old disk.new result
+        (λ image. overlaid cache.now 0 image)
+        (IsAllOrPart cache.now) }
 {
-    if !cache.touches(SUPERBLOCK_AT, 4096) {
-        send_writes(disk, cache.writes())?;
-        disk.flush()?;
-        return Ok(());
+    if !cache.touches(SUPERBLOCK_AT, SUPERBLOCK_SIZE) {
+        send_pieces(disk, cache)?;
+        return disk.flush();
     }
-    let mut place = [0u8; 4096];
+    let mut place = [0u8; SUPERBLOCK_SIZE as usize];
     disk.read(SUPERBLOCK_AT, &mut place)?;
     cache.overlay(SUPERBLOCK_AT, &mut place);
-    send_writes(disk, cache.writes())?;
+    send_pieces(disk, cache)?;
     disk.flush()?;
     disk.write(SUPERBLOCK_AT, &place)?;
-    disk.flush()?;
-    Ok(())
+    disk.flush()
 }

@@ -1,8 +1,7 @@
 use Rattle.std.proofs.Common.{◌++◌, sym, ◌∙◌, subst}
 use Rattle.report.specs.Lines.{text_line}
 use Rattle.report.specs.declared.line.Line.TheVariants.{Image}
-use Rattle.recon_core.specs.Sending.{IsBelow}
-use Rattle.recon_core.specs.Standing.{first_state}
+use Rattle.recon_core.specs.Standing.{IsBelow, first_state}
 use Rattle.recon_core.proofs.Steps.{below_none}
 use Rattle.recon_cli.proofs.Going.{each_ok}
 use Rattle.recon_cli.proofs.Start.{accepted_is, not_found, replays_accepted, printed_at}

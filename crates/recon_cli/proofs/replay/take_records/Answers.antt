@@ -1,5 +1,5 @@
 use Rattle.std.proofs.Common.{◌≡◌, ◌+◌, ◌++◌, IfSome, refl, sym, arith, ap, ◌∙◌, subst}
-use Rattle.recon_core.specs.Sending.{IsBelow}
+use Rattle.recon_core.specs.Standing.{IsBelow}
 use Rattle.recon_cli.specs.Run.{Turns, record_limit}
 use Rattle.recon_cli.specs.Outcome.{no_tally}
 use Rattle.recon_cli.proofs.Going.{Going, going_start, going_event, going_end, going_fault, going_past, place_is, place_fits, at_event, at_end, after_is, limit_over, both_ok, each_ok, fault_cause, three_is, event_reads}

@@ -1,7 +1,6 @@
 use Rattle.std.proofs.Common.{◌≡◌, ◌+◌, ◌-◌, ◌≤◌, false, true, List, ℕ, Some}
 use Rattle.recon_core.specs.Machine.{MachineState}
-use Rattle.recon_core.specs.Sending.{IsBelow}
-use Rattle.recon_core.specs.Standing.{StandsFor}
+use Rattle.recon_core.specs.Standing.{IsBelow, StandsFor}
 use Rattle.trace_reader.specs.Trace.{IsBytes}
 use Rattle.recon_cli.specs.Run.{record_limit}
 use Rattle.recon_cli.proofs.Going.{Going}

@@ -1,17 +1,58 @@
-use Rattle.std.proofs.Common.{◌∙◌}
-use Rattle.recon_core.proofs.Told.{told_settled, told_commit, none_at}
+use Rattle.std.proofs.Common.{◌≡◌, ◌≤◌, length, ◌∙◌, arith, subst}
+use Rattle.recon_disk.specs.Outside.{HasCause, counted}
+use Rattle.write_cache.specs.Cache.{overlaid}
+use Rattle.recon_core.specs.Sent.{IsAllOrPart}
+use Rattle.recon_core.proofs.Told.{if_err, if_ok, left_all, left_but_place, none_at, place_fails, read_first, sends_err, told_commit, told_settled}
 use Rattle.recon_core.proofs.send.let_through.Goals as goal
 
-pub returns-then-not-touches-clause-written : goal.returns-then-not-touches-clause-written
-returns-then-not-touches-clause-written g c =
-    c.in_ok-flush.ensures.bytes ∙ told_settled (g.D.Disk.bytes c.args.disk.now) _ (g.D.Disk.len c.args.disk.now) c.args.cache.now _ (g.met.D.Disk.told_length c.args.disk.now) c.requires.place c.writes.ensures.make
-    (none_at c.args.cache.now 65536 4096 c.touches.result c.touches.ensures c.if-not-touches.true)
-    c.in_ok-send_writes.ensures.sent
+pub returns-then-not-touches : goal.returns-then-not-touches
+returns-then-not-touches g c =
+    let m = c.args.cache.now in
+    let all = told_settled (g.D.Disk.bytes c.args.disk.now) (g.D.Disk.bytes c.send_pieces.new.disk) (g.D.Disk.len c.args.disk.now) m (g.met.D.Disk.told_length c.args.disk.now) c.requires.place
+    (none_at m 65536 4096 c.touches.result c.touches.ensures c.if-not-touches.true) c.in_ok-send_pieces.ensures.made in
+    record {
+      made = if_ok c.flush.result (c.flush.ensures.bytes ∙ all);
+      left = if_err c.flush.result (left_all (g.D.Disk.bytes c.args.disk.now) (g.D.Disk.bytes c.send_pieces.new.disk) (g.D.Disk.bytes c.flush.new.self) m all c.flush.ensures.bytes);
+      len = c.flush.ensures.len ∙ c.send_pieces.ensures.len;
+      cause = subst (λ k. HasCause k (g.D.Disk.faults c.flush.new.self) c.flush.result) c.in_ok-send_pieces.ensures.cause.fine c.flush.ensures.cause;
+    }
 
-pub returns-clause-written : goal.returns-clause-written
-returns-clause-written g c =
-    c.in_ok-flush-3.ensures.bytes
-    ∙ told_commit (g.D.Disk.bytes c.args.disk.now) (g.D.Disk.bytes c.read.new.self) (g.D.Disk.bytes c.flush-2.new.self) _ (g.D.Disk.len c.args.disk.now) c.args.cache.now _ c.overlay.new.into c.read.new.into
-    (g.met.D.Disk.told_length c.args.disk.now) c.requires.place c.writes-2.ensures.make c.in_ok-read.ensures.told c.overlay.ensures
-    c.in_ok-read.ensures.bytes (c.in_ok-flush-2.ensures.bytes ∙ c.in_ok-send_writes-2.ensures.sent)
-    c.in_ok-write.ensures.written
+pub returns-in_err-flush : goal.returns-in_err-flush
+returns-in_err-flush g c =
+    let m = c.args.cache.now in
+    let same = c.in_ok-send_pieces-2.ensures.cause.fine ∙ c.in_ok-read.ensures.cause.fine in
+    sends_err g.D.Disk c.args.disk.now c.flush-2.new.self c.from_residual-in_err-flush.result (λ image. overlaid m 0 image) (IsAllOrPart m) c.from_residual-in_err-flush.ensures.0
+    (left_but_place (g.D.Disk.bytes c.args.disk.now) (g.D.Disk.bytes c.send_pieces-2.new.disk) (g.D.Disk.bytes c.flush-2.new.self) (g.D.Disk.len c.args.disk.now) m (g.met.D.Disk.told_length c.args.disk.now) c.requires.place
+    (read_first (g.D.Disk.bytes c.args.disk.now) (g.D.Disk.bytes c.read.new.self) (g.D.Disk.bytes c.send_pieces-2.new.disk) m c.in_ok-read.ensures.bytes c.in_ok-send_pieces-2.ensures.made) c.in_err-flush.ensures.bytes)
+    (c.flush-2.ensures.len ∙ c.send_pieces-2.ensures.len ∙ c.read.ensures.len)
+    (subst (λ k. k ≤ g.D.Disk.faults c.flush-2.new.self) same c.in_err-flush.ensures.cause.grows)
+    (subst (λ k. counted k ≤ g.D.Disk.faults c.flush-2.new.self) same c.in_err-flush.ensures.cause.failed)
+
+pub returns-in_err-write : goal.returns-in_err-write
+returns-in_err-write g c =
+    let m = c.args.cache.now in
+    let same = c.in_ok-flush.ensures.cause.fine ∙ c.in_ok-send_pieces-2.ensures.cause.fine ∙ c.in_ok-read.ensures.cause.fine in
+    let size : length c.overlay.new.into ≡ 4096 = omega (arith, c.overlay.auto.into, c.read.auto.into) in
+    sends_err g.D.Disk c.args.disk.now c.write.new.self c.from_residual-in_err-write.result (λ image. overlaid m 0 image) (IsAllOrPart m) c.from_residual-in_err-write.ensures.0
+    (place_fails (g.D.Disk.bytes c.args.disk.now) (g.D.Disk.bytes c.flush-2.new.self) (g.D.Disk.bytes c.write.new.self) (g.D.Disk.len c.args.disk.now) m c.overlay.new.into c.read.new.into (g.met.D.Disk.told_length c.args.disk.now)
+    c.requires.place c.in_ok-read.ensures.told c.overlay.ensures size
+    (c.in_ok-flush.ensures.bytes ∙ read_first (g.D.Disk.bytes c.args.disk.now) (g.D.Disk.bytes c.read.new.self) (g.D.Disk.bytes c.send_pieces-2.new.disk) m c.in_ok-read.ensures.bytes c.in_ok-send_pieces-2.ensures.made)
+    c.in_err-write.ensures.partly)
+    (c.write.ensures.len ∙ c.flush-2.ensures.len ∙ c.send_pieces-2.ensures.len ∙ c.read.ensures.len)
+    (subst (λ k. k ≤ g.D.Disk.faults c.write.new.self) same c.in_err-write.ensures.cause.grows)
+    (subst (λ k. counted k ≤ g.D.Disk.faults c.write.new.self) same c.in_err-write.ensures.cause.failed)
+
+pub returns : goal.returns
+returns g c =
+    let m = c.args.cache.now in
+    let same = c.in_ok-write.ensures.cause.fine ∙ c.in_ok-flush.ensures.cause.fine ∙ c.in_ok-send_pieces-2.ensures.cause.fine ∙ c.in_ok-read.ensures.cause.fine in
+    let all = told_commit (g.D.Disk.bytes c.args.disk.now) (g.D.Disk.bytes c.flush-2.new.self) (g.D.Disk.bytes c.write.new.self) (g.D.Disk.len c.args.disk.now) m c.overlay.new.into c.read.new.into (g.met.D.Disk.told_length c.args.disk.now)
+    c.requires.place c.in_ok-read.ensures.told c.overlay.ensures
+    (c.in_ok-flush.ensures.bytes ∙ read_first (g.D.Disk.bytes c.args.disk.now) (g.D.Disk.bytes c.read.new.self) (g.D.Disk.bytes c.send_pieces-2.new.disk) m c.in_ok-read.ensures.bytes c.in_ok-send_pieces-2.ensures.made)
+    c.in_ok-write.ensures.written in
+    record {
+      made = if_ok c.flush-3.result (c.flush-3.ensures.bytes ∙ all);
+      left = if_err c.flush-3.result (left_all (g.D.Disk.bytes c.args.disk.now) (g.D.Disk.bytes c.write.new.self) (g.D.Disk.bytes c.flush-3.new.self) m all c.flush-3.ensures.bytes);
+      len = c.flush-3.ensures.len ∙ c.write.ensures.len ∙ c.flush-2.ensures.len ∙ c.send_pieces-2.ensures.len ∙ c.read.ensures.len;
+      cause = subst (λ k. HasCause k (g.D.Disk.faults c.flush-3.new.self) c.flush-3.result) same c.flush-3.ensures.cause;
+    }

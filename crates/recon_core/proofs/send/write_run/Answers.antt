@@ -1,5 +1,9 @@
-use Rattle.std.proofs.Common.{take, drop, refl, ◌∙◌, arith, ap}
-use Rattle.recon_core.proofs.Told.{told_none, told_more}
+use Rattle.std.proofs.Common.{◌≡◌, ◌+◌, ◌-◌, ◌≤◌, length, take, drop, refl, ◌∙◌, arith, ap, subst}
+use Rattle.std.proofs.lemmas.List.{length-take-le, length-drop}
+use Rattle.verdict.specs.Image.{written}
+use Rattle.recon_disk.specs.Outside.{counted}
+use Rattle.recon_core.specs.Sent.{StaysOutside}
+use Rattle.recon_core.proofs.Told.{told_none, told_more, run_fails, sends_err}
 use Rattle.recon_core.proofs.send.write_run.Goals as goal
 
 pub loop-done-init : goal.loop-done-init
@@ -16,3 +20,16 @@ loop-done-preserved g c =
       front = told_more (g.D.Disk.bytes c.args.disk.now) (g.D.Disk.bytes c.loop-done.disk) _ (g.D.Disk.len c.args.disk.now) c.args.at c.loop-done.done c.min-n.result c.args.bytes.now _ (g.met.D.Disk.told_length c.args.disk.now) c.requires.inside (omega arith) (ap (λ k. take k (drop c.loop-done.done c.args.bytes.now)) (omega arith)) c.loop-done.invariant.front c.in_ok-write.ensures.written;
       faults = c.in_ok-write.ensures.cause.fine ∙ c.loop-done.invariant.faults;
     }
+
+pub returns-in_err-write : goal.returns-in_err-write
+returns-in_err-write g c =
+    let n = c.min-n.result in
+    let part = take (c.loop-done.done + n - c.loop-done.done) (drop c.loop-done.done c.args.bytes.now) in
+    let left : length (drop c.loop-done.done c.args.bytes.now) ≡ length c.args.bytes.now - c.loop-done.done = length-drop c.loop-done.done c.args.bytes.now in
+    let size : length part ≡ n = length-take-le (c.loop-done.done + n - c.loop-done.done) (drop c.loop-done.done c.args.bytes.now) (omega arith) ∙ (omega arith) in
+    sends_err g.D.Disk c.args.disk.now c.write.new.self c.from_residual.result (λ image. written image c.args.at c.args.bytes.now) (StaysOutside c.args.at (length c.args.bytes.now)) c.from_residual.ensures.0
+    (run_fails (g.D.Disk.bytes c.args.disk.now) (g.D.Disk.bytes c.loop-done.disk) (g.D.Disk.bytes c.write.new.self) (g.D.Disk.len c.args.disk.now) c.args.at c.loop-done.done n c.args.bytes.now part
+    (g.met.D.Disk.told_length c.args.disk.now) c.requires.inside (omega arith) size c.loop-done.invariant.front c.in_err-write.ensures.partly)
+    (c.write.ensures.len ∙ c.loop-done.invariant.size)
+    (subst (λ k. k ≤ g.D.Disk.faults c.write.new.self) c.loop-done.invariant.faults c.in_err-write.ensures.cause.grows)
+    (subst (λ k. counted k ≤ g.D.Disk.faults c.write.new.self) c.loop-done.invariant.faults c.in_err-write.ensures.cause.failed)

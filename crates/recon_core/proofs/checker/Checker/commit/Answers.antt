@@ -1,10 +1,10 @@
 use Rattle.std.proofs.Common.{sym, subst}
-use Rattle.recon_core.specs.Sending.{IsBelow}
+use Rattle.recon_core.specs.Standing.{IsBelow}
 use Rattle.recon_core.proofs.Steps.{below_put, below_after}
 use Rattle.recon_core.proofs.checker.Checker.commit.Goals as goal
 
-pub settle-requires : goal.settle-requires
-settle-requires g c =
+pub settle-requires-clause-below : goal.settle-requires-clause-below
+settle-requires-clause-below g c =
     subst (IsBelow (g.D.Disk.len c.args.disk.now)) (sym c.in-Ok.ensures.ok)
     (below_put (g.D.Disk.len c.args.disk.now) c.args.self.now.cache c.args.write.at c.args.write.bytes c.requires.below c.requires.inside)
 

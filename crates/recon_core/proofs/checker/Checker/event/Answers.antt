@@ -1,13 +1,17 @@
 use Rattle.std.proofs.Common.{◌≡◌, true, false, length, sym, arith, ap, ◌∙◌, subst}
-use Rattle.recon_core.specs.Machine.{machine_step, begin_of, length_of, meets_superblock}
-use Rattle.recon_core.specs.Standing.{LetsNothingThrough, Takes}
-use Rattle.recon_core.proofs.Steps.{below_after, below_held, takes_commit, kept_commit, takes_settle, kept_settle, takes_held, takes_fetch, with_ok, weaker}
+use Rattle.std.proofs.Common.{IsSomeAnd}
+use Rattle.verdict.specs.Events.{begin_of, length_of, meets_superblock}
+use Rattle.verdict.specs.declared.machine.Stop.TheVariants.{DiskFault}
+use Rattle.recon_core.specs.Machine.{machine_step}
+use Rattle.recon_core.specs.Standing.{Takes}
+use Rattle.recon_core.specs.Stops.{IsStopImage}
+use Rattle.recon_core.proofs.Steps.{at_err, below_after, below_held, takes_commit, stop_commit, takes_settle, stop_settle, takes_held, takes_fetch, with_ok, weaker}
 use Rattle.recon_core.proofs.checker.Checker.event.Goals as goal
 
 pub returns-then-meets_superblock-clause-step : goal.returns-then-meets_superblock-clause-step
 returns-then-meets_superblock-clause-step g c state stands told none =
-    let a : c.range_of-at.result.0 ≡ c.in-Write.at = c.range_of-at.ensures.at ∙ ap begin_of c.in-Write.is in
-    let n : c.range_of-at.result.1 ≡ length c.in-Write.bytes = c.range_of-at.ensures.len ∙ ap length_of c.in-Write.is in
+    let a : c.range-at.result.0 ≡ c.in-Write.at = c.range-at.ensures.at ∙ ap begin_of c.in-Write.is in
+    let n : c.range-at.result.1 ≡ length c.in-Write.bytes = c.range-at.ensures.len ∙ ap length_of c.in-Write.is in
     let s : c.args.self.now.length ≡ length state.image = stands.size in
     let meets : meets_superblock c.in-Write.at (length c.in-Write.bytes) ≡ true =
     ap (meets_superblock c.in-Write.at) (sym n) ∙ sym c.meets_superblock.ensures ∙ c.if-meets_superblock.true in
@@ -15,22 +19,23 @@ returns-then-meets_superblock-clause-step g c state stands told none =
     subst (λ e. Takes (machine_step state e) answer c.commit.new.self (g.D.Disk.bytes c.commit.new.disk)) (sym c.in-Write.is)
     (takes_commit c.args.self.now c.commit.new.self state c.in-Write.submitter c.in-Write.at c.in-Write.bytes answer (g.D.Disk.bytes c.args.disk.now) (g.D.Disk.bytes c.commit.new.disk)
     stands (omega arith) meets told settled new))
-    c.commit.ensures.settled c.commit.ensures.ok
+    c.commit.ensures.judged.settled c.commit.ensures.ok
 
-pub returns-then-meets_superblock-clause-kept : goal.returns-then-meets_superblock-clause-kept
-returns-then-meets_superblock-clause-kept g c state stands told nothing =
-    let a : c.range_of-at.result.0 ≡ c.in-Write.at = c.range_of-at.ensures.at ∙ ap begin_of c.in-Write.is in
-    let n : c.range_of-at.result.1 ≡ length c.in-Write.bytes = c.range_of-at.ensures.len ∙ ap length_of c.in-Write.is in
+pub returns-then-meets_superblock-clause-stop : goal.returns-then-meets_superblock-clause-stop
+returns-then-meets_superblock-clause-stop g c state stands told fault =
+    let a : c.range-at.result.0 ≡ c.in-Write.at = c.range-at.ensures.at ∙ ap begin_of c.in-Write.is in
+    let n : c.range-at.result.1 ≡ length c.in-Write.bytes = c.range-at.ensures.len ∙ ap length_of c.in-Write.is in
     let s : c.args.self.now.length ≡ length state.image = stands.size in
     let meets : meets_superblock c.in-Write.at (length c.in-Write.bytes) ≡ true =
     ap (meets_superblock c.in-Write.at) (sym n) ∙ sym c.meets_superblock.ensures ∙ c.if-meets_superblock.true in
-    kept_commit c.args.self.now state c.in-Write.submitter c.in-Write.at c.in-Write.bytes (g.D.Disk.bytes c.args.disk.now) (g.D.Disk.bytes c.commit.new.disk)
-    stands (omega arith) meets told c.commit.ensures.found (subst (λ e. LetsNothingThrough (machine_step state e).answer) c.in-Write.is nothing)
+    subst (λ e. IsSomeAnd (g.D.Disk.bytes c.commit.new.disk) (IsStopImage state e)) (sym c.in-Write.is)
+    (stop_commit c.args.self.now state c.in-Write.submitter c.in-Write.at c.in-Write.bytes (g.D.Disk.bytes c.args.disk.now) (g.D.Disk.bytes c.commit.new.disk)
+    stands (omega arith) meets told (at_err c.commit.result DiskFault fault c.commit.ensures.judged.left))
 
 pub returns-else-meets_superblock-clause-step : goal.returns-else-meets_superblock-clause-step
 returns-else-meets_superblock-clause-step g c state stands told none =
-    let a : c.range_of-at.result.0 ≡ c.in-Write.at = c.range_of-at.ensures.at ∙ ap begin_of c.in-Write.is in
-    let n : c.range_of-at.result.1 ≡ length c.in-Write.bytes = c.range_of-at.ensures.len ∙ ap length_of c.in-Write.is in
+    let a : c.range-at.result.0 ≡ c.in-Write.at = c.range-at.ensures.at ∙ ap begin_of c.in-Write.is in
+    let n : c.range-at.result.1 ≡ length c.in-Write.bytes = c.range-at.ensures.len ∙ ap length_of c.in-Write.is in
     let s : c.args.self.now.length ≡ length state.image = stands.size in
     let misses : meets_superblock c.in-Write.at (length c.in-Write.bytes) ≡ false =
     ap (meets_superblock c.in-Write.at) (sym n) ∙ sym c.meets_superblock.ensures ∙ c.if-meets_superblock.false in
@@ -42,8 +47,8 @@ returns-else-meets_superblock-clause-step g c state stands told none =
 
 pub returns-else-meets_superblock-clause-inside : goal.returns-else-meets_superblock-clause-inside
 returns-else-meets_superblock-clause-inside g c =
-    let a : c.range_of-at.result.0 ≡ c.in-Write.at = c.range_of-at.ensures.at ∙ ap begin_of c.in-Write.is in
-    let n : c.range_of-at.result.1 ≡ length c.in-Write.bytes = c.range_of-at.ensures.len ∙ ap length_of c.in-Write.is in
+    let a : c.range-at.result.0 ≡ c.in-Write.at = c.range-at.ensures.at ∙ ap begin_of c.in-Write.is in
+    let n : c.range-at.result.1 ≡ length c.in-Write.bytes = c.range-at.ensures.len ∙ ap length_of c.in-Write.is in
     below_held c.args.self.now.length c.hold.result c.args.self.now c.hold.new.self c.in-Write.at c.in-Write.bytes c.requires.below (omega arith) c.hold.ensures.ok
     (weaker c.hold.result (λ e h. h.1) c.hold.ensures.err)
 
@@ -52,12 +57,12 @@ returns-in-Settle-clause-step g c state stands told none =
     with_ok c.settle.result (λ answer settled new.
     subst (λ e. Takes (machine_step state e) answer c.settle.new.self (g.D.Disk.bytes c.settle.new.disk)) (sym c.in-Settle.is)
     (takes_settle c.args.self.now c.settle.new.self state answer (g.D.Disk.bytes c.args.disk.now) (g.D.Disk.bytes c.settle.new.disk) stands told settled new))
-    c.settle.ensures.settled c.settle.ensures.ok
+    c.settle.ensures.judged.settled c.settle.ensures.ok
 
-pub returns-in-Settle-clause-kept : goal.returns-in-Settle-clause-kept
-returns-in-Settle-clause-kept g c state stands told nothing =
-    kept_settle c.args.self.now state (g.D.Disk.bytes c.args.disk.now) (g.D.Disk.bytes c.settle.new.disk) stands told c.settle.ensures.found
-    (subst (λ e. LetsNothingThrough (machine_step state e).answer) c.in-Settle.is nothing)
+pub returns-in-Settle-clause-stop : goal.returns-in-Settle-clause-stop
+returns-in-Settle-clause-stop g c state stands told fault =
+    subst (λ e. IsSomeAnd (g.D.Disk.bytes c.settle.new.disk) (IsStopImage state e)) (sym c.in-Settle.is)
+    (stop_settle c.args.self.now state (g.D.Disk.bytes c.args.disk.now) (g.D.Disk.bytes c.settle.new.disk) stands told (at_err c.settle.result DiskFault fault c.settle.ensures.judged.left))
 
 pub returns-in-Settle-clause-inside : goal.returns-in-Settle-clause-inside
 returns-in-Settle-clause-inside g c = below_after c.args.self.now.length c.settle.result c.args.self.now c.settle.new.self c.requires.below c.settle.ensures.ok c.settle.ensures.err
@@ -66,5 +71,5 @@ pub returns-in-Fetch-clause-step : goal.returns-in-Fetch-clause-step
 returns-in-Fetch-clause-step g c state stands told none =
     with_ok c.fetch.result (λ answer says new.
     subst (λ e. Takes (machine_step state e) answer c.fetch.new.self (g.D.Disk.bytes c.fetch.new.disk)) (sym c.in-Fetch.is)
-    (takes_fetch c.args.self.now c.fetch.new.self state c.in-Fetch.at c.in-Fetch.len answer (g.D.Disk.bytes c.args.disk.now) (g.D.Disk.bytes c.fetch.new.disk) stands told c.fetch.ensures.stays new says))
+    (takes_fetch c.args.self.now c.fetch.new.self state c.in-Fetch.at c.in-Fetch.len answer (g.D.Disk.bytes c.args.disk.now) (g.D.Disk.bytes c.fetch.new.disk) stands told c.fetch.ensures.kept.bytes new says))
     c.fetch.ensures.bytes c.fetch.ensures.ok

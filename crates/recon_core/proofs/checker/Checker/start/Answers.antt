@@ -9,4 +9,4 @@ returns-in-Ok-Found-clause-told g c =
 pub returns-in-Ok-clause-told : goal.returns-in-Ok-clause-told
 returns-in-Ok-clause-told g c =
     begins_ready (g.D.Disk.bytes c.args.disk.now) (g.D.Disk.len c.args.disk.now) c.in-Ok-Accept.field-0-0 c.new-cache.result c.in-Ok-Accept.field-0 _
-    c.new-cache.ensures c.in-Ok-Accept.field-0-is (g.met.D.Disk.told_length c.args.disk.now) c.new-cache.ensures refl (c.in-Ok.ensures.value ∙ c.in-Ok-Accept.ensures.len) c.in-Ok-Accept.ensures.verdict
+    c.new-cache.ensures c.in-Ok-Accept.field-0-is (g.met.D.Disk.told_length c.args.disk.now) c.new-cache.ensures refl (c.in-Ok.ensures.value ∙ c.in-Ok-Accept.ensures.kept.len) c.in-Ok-Accept.ensures.verdict

@@ -1,6 +1,6 @@
 use Rattle.std.proofs.Common.{length, arith}
 use Rattle.recon_core.proofs.Steps.{fetched}
-use Rattle.recon_core.proofs.judged.fetch.Goals as goal
+use Rattle.recon_core.proofs.fetching.fetch.Goals as goal
 
 pub returns-clause-bytes : goal.returns-clause-bytes
 returns-clause-bytes g c = fetched (g.D.Disk.bytes c.args.disk.now) c.args.cache.now c.args.at (length c.deref_mut.result.now) c.in-Ok.bytes.len c.args.len c.read_under.new.into c.in-Ok.bytes.items _

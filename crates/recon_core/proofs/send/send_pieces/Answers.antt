@@ -1,0 +1,55 @@
+use Rattle.std.proofs.Common.{◌+◌, ◌≤◌, length, refl, sym, ◌∙◌, arith, subst}
+use Rattle.recon_disk.specs.Outside.{counted}
+use Rattle.write_cache.specs.Cache.{overlaid}
+use Rattle.write_cache.specs.Lent.{piece_lent, pieces_left}
+use Rattle.recon_core.specs.Stops.{IsPartlySent}
+use Rattle.recon_core.specs.Sent.{with_place_of}
+use Rattle.recon_core.proofs.Told.{IsSending, begin_sending, more_sent, piece_fails, piece_inside, sends_err, sent_whole}
+use Rattle.recon_core.proofs.send.send_pieces.Goals as goal
+
+pub loop-at-init : goal.loop-at-init
+loop-at-init g c = record {
+  size = refl;
+  so = subst (λ p. IsSending c.args.cache.now (g.D.Disk.bytes c.args.disk.now) (g.D.Disk.bytes c.args.disk.now) (pieces_left p)) (sym c.into_iter-at-iterator.ensures.into_iter_gives)
+      (begin_sending c.args.cache.now (g.D.Disk.bytes c.args.disk.now) (g.D.Disk.len c.args.disk.now) (pieces_left c.pieces-at-items.result) (g.met.D.Disk.told_length c.args.disk.now)
+      c.requires.place c.requires.inside c.pieces-at-items.ensures.apart c.pieces-at-items.ensures.whole);
+  faults = refl;
+}
+
+pub send_piece-requires-clause-inside : goal.send_piece-requires-clause-inside
+send_piece-requires-clause-inside g c =
+    subst (λ n. c.in-Some.at + length c.in-Some.bytes.now ≤ n) (sym c.loop-at.invariant.size)
+    (piece_inside c.args.cache.now (g.D.Disk.bytes c.args.disk.now) (g.D.Disk.bytes c.loop-at.disk) (g.D.Disk.len c.args.disk.now) (piece_lent (c.in-Some.at, c.in-Some.bytes)) (pieces_left c.next.new.self) c.requires.inside
+    (subst (IsSending c.args.cache.now (g.D.Disk.bytes c.args.disk.now) (g.D.Disk.bytes c.loop-at.disk)) c.in-Some.ensures.steps c.loop-at.invariant.so))
+
+pub send_piece-requires-clause-fits : goal.send_piece-requires-clause-fits
+send_piece-requires-clause-fits g c =
+    let inside = piece_inside c.args.cache.now (g.D.Disk.bytes c.args.disk.now) (g.D.Disk.bytes c.loop-at.disk) (g.D.Disk.len c.args.disk.now) (piece_lent (c.in-Some.at, c.in-Some.bytes)) (pieces_left c.next.new.self) c.requires.inside
+    (subst (IsSending c.args.cache.now (g.D.Disk.bytes c.args.disk.now) (g.D.Disk.bytes c.loop-at.disk)) c.in-Some.ensures.steps c.loop-at.invariant.so) in
+    omega (arith, inside, c.requires.small)
+
+pub loop-at-preserved : goal.loop-at-preserved
+loop-at-preserved g c = record {
+  size = c.send_piece.ensures.len ∙ c.loop-at.invariant.size;
+  so = more_sent c.args.cache.now (g.D.Disk.bytes c.args.disk.now) (g.D.Disk.bytes c.loop-at.disk) (g.D.Disk.bytes c.send_piece.new.disk) (g.D.Disk.len c.args.disk.now) (piece_lent (c.in-Some.at, c.in-Some.bytes)) (pieces_left c.next.new.self)
+      (g.met.D.Disk.told_length c.args.disk.now) c.requires.inside
+      (subst (IsSending c.args.cache.now (g.D.Disk.bytes c.args.disk.now) (g.D.Disk.bytes c.loop-at.disk)) c.in-Some.ensures.steps c.loop-at.invariant.so) c.in_ok-send_piece.ensures.made;
+  faults = c.in_ok-send_piece.ensures.cause.fine ∙ c.loop-at.invariant.faults;
+}
+
+pub returns-in_err-send_piece : goal.returns-in_err-send_piece
+returns-in_err-send_piece g c =
+    sends_err g.D.Disk c.args.disk.now c.send_piece.new.disk c.from_residual.result (λ image. with_place_of image (overlaid c.args.cache.now 0 image)) (IsPartlySent c.args.cache.now) c.from_residual.ensures.0
+    (piece_fails c.args.cache.now (g.D.Disk.bytes c.args.disk.now) (g.D.Disk.bytes c.loop-at.disk) (g.D.Disk.bytes c.send_piece.new.disk) (piece_lent (c.in-Some.at, c.in-Some.bytes)) (pieces_left c.next.new.self)
+    (subst (IsSending c.args.cache.now (g.D.Disk.bytes c.args.disk.now) (g.D.Disk.bytes c.loop-at.disk)) c.in-Some.ensures.steps c.loop-at.invariant.so) c.in_err-send_piece.ensures.left)
+    (c.send_piece.ensures.len ∙ c.loop-at.invariant.size)
+    (subst (λ k. k ≤ g.D.Disk.faults c.send_piece.new.disk) c.loop-at.invariant.faults c.in_err-send_piece.ensures.cause.grows)
+    (subst (λ k. counted k ≤ g.D.Disk.faults c.send_piece.new.disk) c.loop-at.invariant.faults c.in_err-send_piece.ensures.cause.failed)
+
+pub returns : goal.returns
+returns g c = record {
+  made = sent_whole c.args.cache.now (g.D.Disk.bytes c.args.disk.now) (g.D.Disk.bytes c.loop-at.disk) (pieces_left c.loop-at.at-iterator) c.in-None.ensures.steps.0 c.loop-at.invariant.so;
+  left = tt;
+  len = c.loop-at.invariant.size;
+  cause = record { grows = omega arith; failed = tt; fine = c.loop-at.invariant.faults };
+}

@@ -1,0 +1,14 @@
+use Rattle.std.proofs.Common.{◌≡◌}
+use Rattle.write_cache.specs.Lent.{pieces_left}
+use Rattle.recon_core.proofs.Told.{IsSending}
+use Rattle.recon_core.proofs.send.send_pieces.Given as goal
+
+-- the pieces that the iterator has left are still to go out
+abbrev pub invariant-loop-at : goal.invariant-loop-at
+invariant-loop-at g l =
+    let disk = g.D.Disk in
+    record {
+      size : disk.len l.disk ≡ disk.len l.fn.disk;
+      so : IsSending l.cache (disk.bytes l.fn.disk) (disk.bytes l.disk) (pieces_left l.at-iterator);
+      faults : disk.faults l.disk ≡ disk.faults l.fn.disk;
+    }

@@ -1,0 +1,42 @@
+-- These words serve private functions alone: what goes out to a disk step by step.
+use Rattle.std.specs.Prelude.{ℕ, ◌≡◌, ◌+◌, ◌-◌, ◌<◌, ◌≤◌, ◌⊎◌, List, length, take, drop, min, Result, OnOk, OnErr, IfSome, option_map, slice_index}
+use Rattle.std.specs.Option.{IsSomeAnd}
+use Rattle.std.specs.Ordering.{nat_cmp}
+use Rattle.std.specs.FinMap.{FinMap}
+use Rattle.verdict.specs.Image.{range, written}
+use Rattle.recon_disk.specs.declared.disk.Disk.{Ghosts}
+use Rattle.recon_disk.specs.Outside.{HasCause}
+use Rattle.write_cache.specs.Cache.{overlaid}
+use Rattle.recon_core.specs.Stops.{IsPartlySent}
+
+-- What a step that writes to a disk gives. Where it answers, the disk's bytes are what this makes of the old ones;
+-- where a call failed, this holds of the old bytes and those that are left. The length stays, and faults have their
+-- cause.
+pub record Sends {D T E : Type 0} (disk : Ghosts D) (old new : D) (result : Result T E) (makes : List ℕ → List ℕ) (leaves : List ℕ → List ℕ → Type 0) : Type 0 where
+  pub made : OnOk result (disk.bytes new ≡ option_map makes (disk.bytes old))
+  pub left : OnErr result (IfSome (disk.bytes old) (λ image. IsSomeAnd (disk.bytes new) (leaves image)))
+  pub len : disk.len new ≡ disk.len old
+  pub cause : HasCause (disk.faults old) (disk.faults new) result
+
+-- the bytes outside a range stay
+pub record StaysOutside (at n : ℕ) (old left : List ℕ) : Type 0 where
+  pub same_length : length left ≡ length old
+  pub others : (i : ℕ) → (i < at) ⊎ (at + n ≤ i) → slice_index left i ≡ slice_index old i
+
+-- the bytes outside a range stay, and those in the superblock place
+pub record StaysButForPiece (at n : ℕ) (old left : List ℕ) : Type 0 where
+  pub outside : StaysOutside at n old left
+  pub place : (i : ℕ) → 65536 ≤ i → i < 69632 → slice_index left i ≡ slice_index old i
+
+-- an image with the superblock place of another
+unfoldable pub with_place_of : List ℕ → List ℕ → List ℕ
+with_place_of other image = written image 65536 (range 65536 4096 other)
+
+-- an image with a piece's bytes before the superblock place over it, and those behind it
+unfoldable pub sent_piece : List ℕ → ℕ → List ℕ → List ℕ
+sent_piece image at bytes =
+    written (written image at (take (min (65536 - at) (length bytes)) bytes)) (at + min (69632 - at) (length bytes)) (drop (min (69632 - at) (length bytes)) bytes)
+
+-- all that waits went out, or a part of it outside the superblock place
+abbrev pub IsAllOrPart : FinMap nat_cmp ℕ → List ℕ → List ℕ → Type 0
+IsAllOrPart waiting old left = (left ≡ overlaid waiting 0 old) ⊎ IsPartlySent waiting old left

@@ -1,0 +1,36 @@
+//! What reads through what waits.
+
+ghost use Rattle.std.specs.Prelude.{◌≡◌, ◌+◌, ◌^◌, ◌<◌, ◌≤◌, IfOk, IfSome};
+ghost use Rattle.verdict.specs.Image.{range};
+ghost use Rattle.recon_disk.specs.Keeping.{Kept};
+ghost use Rattle.write_cache.specs.Cache.{overlaid};
+ghost use Rattle.plain_check.specs.Gives.{is_disk_fault};
+
+use plain_check::{Fault, read_under};
+use recon_disk::Disk;
+use std::alloc::Global;
+use verdict::Bytes;
+use write_cache::WriteCache;
+
+/// The bytes of a range of the disk, with what waits over them. Its memory is taken before the disk is read.
+pub fn fetch<D: Disk>(
+    alloc: Global,
+    disk: &mut D,
+    cache: &WriteCache,
+    at: u64,
+    len: u32,
+) -> Result<Bytes, Fault>
+    requires some { 1 ≤ len }
+    requires few { len ≤ 65536 }
+    requires inside { at + len ≤ D.len disk.old }
+    requires fits { at + len < 2 ^ 64 }
+    ensures bytes { IfOk result (λ bytes. IfSome (D.bytes disk.old)
+        (λ image. bytes ≡ range at len (overlaid cache.now 0 image))) }
+    ensures kept { Kept D.Disk disk.old disk.new (is_disk_fault result) }
+{
+    let Ok(mut bytes) = vec![in alloc; 0u8; len as usize] else {
+        return Err(Fault::NoMemory);
+    };
+    read_under(disk, cache, at, &mut bytes)?;
+    Ok(Bytes::from(bytes))
+}
