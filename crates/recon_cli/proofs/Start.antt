@@ -7,9 +7,9 @@ use Rattle.super_reader.specs.declared.Super.{Super}
 use Rattle.write_cache.specs.Cache.{overlaid}
 use Rattle.write_cache.proofs.CacheLaws.{overlaid-empty}
 use Rattle.records.specs.FullCheck.{full_check}
-use Rattle.plain_check.specs.Superblock.{superblock_in}
+use Rattle.records.specs.Contents.{superblock_in}
 use Rattle.verdict.specs.declared.finding.Verdict.TheVariants.{Accept, Found}
-use Rattle.plain_check.proofs.Told.{accepted_superblock}
+use Rattle.records.proofs.Accepted.{accepted_superblock}
 use Rattle.recon_core.specs.Standing.{IsAccepted, first_state}
 use Rattle.trace_reader.specs.Trace.{IsBytes}
 use Rattle.trace_reader.proofs.Records.{one}

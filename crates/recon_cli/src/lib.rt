@@ -3,17 +3,11 @@
 #![tactic(auto)]
 
 mod check;
-#[cfg(test)]
-mod check_tests;
 mod halt;
 mod lines;
-#[cfg(test)]
-mod machine_tests;
 mod replay;
 mod run;
 mod tally;
-#[cfg(test)]
-mod tests;
 mod turn;
 mod words;
 
