@@ -7,3 +7,4 @@ pub mod Contents
 pub mod FullCheck
 pub mod WalkLaw
 pub mod Owned
+pub mod Context

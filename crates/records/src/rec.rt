@@ -1,5 +1,9 @@
 //! Records.
 
+ghost use Rattle.std.specs.Prelude.{◌≡◌};
+ghost use Rattle.records.specs.Part.{located};
+ghost use Rattle.records.specs.Context.{sum_free_inode};
+
 use extent_items::{ExtentItem, GroupItem, KeyedRef};
 use fs_items::{DirItem, FileExtent, InodeItem, InodeRef, Orphan, SumRun, Xattr};
 use verdict::Key;
@@ -65,4 +69,22 @@ pub struct RecAt<'a> {
     pub key: Key,
     /// What it says.
     pub part: Rec<'a>,
+}
+
+/// The flag of an inode whose data has no checksums.
+const NODATASUM: u64 = 1;
+
+impl<'a> RecAt<'a> {
+    /// The tree and the number of the inode, where this is an inode item with the flag NODATASUM: the inode's
+    /// data has no checksums.
+    pub fn sum_free(&self) -> Option<(u64, u64)>
+        ensures { result ≡ sum_free_inode (located self.now) }
+    {
+        match self.part {
+            Rec::InodeItem(item) if item.flags & NODATASUM == NODATASUM => {
+                Some((self.tree, item.key.objectid))
+            }
+            _ => None,
+        }
+    }
 }

@@ -1,0 +1,29 @@
+-- The context of an image: what the records of one item are read by beside the item itself.
+use Rattle.std.specs.Prelude.{ℕ, ◌==◌, bit_and, List, Option, Some, None, if◌then◌else◌}
+use Rattle.std.specs.List.{filter_map}
+use Rattle.verdict.specs.declared.place.Chunk.{Chunk}
+use Rattle.records.specs.Part.{Located, Part}
+use Rattle.records.specs.Part.Part.{InodePart}
+use Rattle.records.specs.Contents.{Contents}
+
+-- the flag NODATASUM of an inode, bit 0: its data has no checksums
+abbrev pub nodatasum : ℕ
+nodatasum = 1
+
+-- the tree and the number of the inode where an inode item has NODATASUM
+abbrev pub sum_free_part : ℕ → Part → Option (ℕ × ℕ)
+sum_free_part tree (InodePart item) = if bit_and item.flags nodatasum == nodatasum then Some (tree, item.key.objectid) else None
+sum_free_part tree other = None
+
+abbrev pub sum_free_inode : Located → Option (ℕ × ℕ)
+sum_free_inode one = sum_free_part one.tree one.part
+
+-- the chunks of the chunk tree, the size of a tree block, and the inodes, each with its tree, whose data has no checksums
+pub record Context : Type 0 where
+  pub chunks : List Chunk
+  pub nodesize : ℕ
+  pub sum_free : List (ℕ × ℕ)
+
+-- the context of an image that holds this
+abbrev pub context_of : Contents → Context
+context_of held = record { chunks = held.chunks; nodesize = held.sup.nodesize; sum_free = filter_map sum_free_inode held.records }
