@@ -1,7 +1,9 @@
 -- What a step of the check gives to one that takes records.
-use Rattle.std.specs.Prelude.{ℕ, List, Result, Ok, Err}
+use Rattle.std.specs.Prelude.{ℕ, ◌≡◌, List, IfSome, Result, Ok, Err}
 use Rattle.std.specs.Ordering.{nat_cmp}
 use Rattle.std.specs.FinMap.{FinMap}
+use Rattle.verdict.specs.declared.finding.Finding.{Finding}
+use Rattle.write_cache.specs.Cache.{overlaid}
 use Rattle.recon_disk.specs.declared.disk.Disk.{Ghosts as DiskGhosts}
 use Rattle.records.specs.declared.take.Taker.{Ghosts as TakerGhosts}
 use Rattle.records.specs.Walk.{Records}
@@ -28,3 +30,13 @@ PutsInto taker old new result records =
 abbrev pub ReadsInto : {D T A : Type 0} → (disk : DiskGhosts D) (taker : TakerGhosts T) → D → FinMap nat_cmp ℕ → T → T → Result A Halt → (List ℕ → Records) → Type 0
 ReadsInto disk taker before waiting old new result records =
     Gives disk before waiting (leaving result (taker.held new)) (λ image. held_after taker.with (taker.held old) (records image))
+
+-- what is held where no finding stopped the step
+abbrev pub unless_found : {A H : Type 0} → Result A Finding → H → Result H Finding
+unless_found (Err finding) held = Err finding
+unless_found (Ok done) held = Ok held
+
+-- a step read these records of an image into a taker, or has their finding, where the disk tells its bytes
+abbrev pub TakesAsTold : {D T A : Type 0} → (disk : DiskGhosts D) (taker : TakerGhosts T) → D → FinMap nat_cmp ℕ → T → T → Result A Finding → (List ℕ → Records) → Type 0
+TakesAsTold disk taker before waiting old new answer records =
+    IfSome (disk.bytes before) (λ image. held_after taker.with (taker.held old) (records (overlaid waiting 0 image)) ≡ unless_found answer (taker.held new))

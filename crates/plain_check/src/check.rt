@@ -15,7 +15,7 @@ use crate::primary::read_superblock;
 use crate::read::Volume;
 use crate::roots::{check_roots, chunk_root, named, top_root};
 use crate::takers::{Chunks, Roots};
-use crate::walk::walk_tree;
+use crate::walk::walk_into;
 use chunk_map::{ChunkMap, Sys};
 use recon_disk::Disk;
 use records::{Nothing, Taker};
@@ -78,7 +78,7 @@ fn chunk_map<D: Disk>(alloc: Global, disk: &mut D, volume: &Volume<'_>) -> Resul
     ensures kept { Kept D.Disk disk.old disk.new (is_disk_halt result) }
 {
     let mut chunks = Chunks::new(alloc);
-    walk_tree(alloc, disk, volume, &chunk_root(volume.sup), &mut chunks)?;
+    walk_into(alloc, disk, volume, &chunk_root(volume.sup), &mut chunks)?;
     let map = chunks.map;
     match map.map_fault(volume.map, volume.sup.devid, volume.end) {
         Some(found) => Err(Halt::Found(found)),
@@ -101,7 +101,7 @@ fn root_items<D: Disk>(
     ensures kept { Kept D.Disk disk.old disk.new (is_disk_halt result) }
 {
     let mut roots = Roots::new(alloc);
-    walk_tree(alloc, disk, volume, &top_root(volume.sup), &mut roots)?;
+    walk_into(alloc, disk, volume, &top_root(volume.sup), &mut roots)?;
     check_roots(alloc, &roots.items)?;
     Ok(roots.items)
 }
@@ -123,7 +123,7 @@ fn walk_trees<D: Disk, T: Taker>(
     ensures kept { Kept D.Disk disk.old disk.new (is_disk_halt result) }
 {
     for root in roots {
-        walk_tree(alloc, disk, volume, &named(root), into)?;
+        walk_into(alloc, disk, volume, &named(root), into)?;
     }
     Ok(())
 }

@@ -1,6 +1,6 @@
 //! The walk of a tree.
 
-ghost use Rattle.std.specs.Prelude.{◌≡◌, ◌+◌, ◌-◌, ◌*◌, ◌<◌, ◌≤◌, ◌∷◌, length, true};
+ghost use Rattle.std.specs.Prelude.{◌≡◌, ◌+◌, ◌-◌, ◌*◌, ◌<◌, ◌≤◌, ◌∷◌, length, true, IfOk};
 ghost use Rattle.verdict.specs.Trees.{is_node_size};
 ghost use Rattle.recon_disk.specs.Keeping.{Kept};
 ghost use Rattle.node_reader.specs.Places.{each_from};
@@ -8,23 +8,42 @@ ghost use Rattle.node_reader.specs.Layout.{level_of, count_of, pointer_of};
 ghost use Rattle.records.specs.Part.{located};
 ghost use Rattle.records.specs.Walk.{block_reading, block_record, children_of, high_of, walk_of};
 ghost use Rattle.plain_check.specs.Gives.{is_disk_fault, is_disk_halt};
-ghost use Rattle.plain_check.specs.Takes.{ReadsInto};
+ghost use Rattle.plain_check.specs.Takes.{ReadsInto, TakesAsTold};
 ghost use Rattle.plain_check.specs.Private.{pointers_from};
 
-use crate::halt::Halt;
+use crate::Fault;
+use crate::halt::{Halt, told};
 use crate::items::take_items;
 use crate::read::{Volume, read_block};
 use node_reader::{Block, Expect};
 use recon_disk::Disk;
 use records::{Rec, RecAt, Taker};
 use std::alloc::Global;
-use verdict::Key;
+use verdict::{Finding, Key};
 
 /// Walks the tree from the block on that is expected, and gives its records to a taker: that of a block before those
 /// of what is below it, and children and items in their order. It stops at the first finding: of a block's copies, of
-/// the block, or of an item.
-#[tactic(auto, using(crate::proofs::Copies::room_fits))]
+/// the block, or of an item; what was taken before is with the taker then.
 pub fn walk_tree<D: Disk, T: Taker>(
+    alloc: Global,
+    disk: &mut D,
+    volume: &Volume<'_>,
+    e: &Expect,
+    into: &mut T,
+) -> Result<Result<(), Finding>, Fault>
+    requires size { is_node_size volume.now.sup.now.nodesize ≡ true }
+    requires end { volume.now.end ≡ D.len disk.old }
+    ensures taken { let sup = volume.now.sup.now in
+        IfOk result (λ answer. TakesAsTold D.Disk T.Taker disk.old volume.now.cache.now into.old into.new answer
+        (λ image. walk_of sup (block_reading volume.now.map.now sup image) e.now)) }
+    ensures kept { Kept D.Disk disk.old disk.new (is_disk_fault result) }
+{
+    told(walk_into(alloc, disk, volume, e, into))
+}
+
+// The same as a step of the check.
+#[tactic(auto, using(crate::proofs::Copies::room_fits))]
+pub fn walk_into<D: Disk, T: Taker>(
     alloc: Global,
     disk: &mut D,
     volume: &Volume<'_>,
