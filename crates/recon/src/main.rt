@@ -1,18 +1,16 @@
 //! Recon for Btrfs: a runtime consistency checker between a Btrfs file system and its disk.
 #![tactic(auto)]
 
+mod why;
+
 use recon_cli::recon_run;
 use recon_disk::Steps;
-use recon_host::{FileDisk, StdSink, StdSource};
+use recon_host::{FileDisk, HeldStreams, StdSink, StdSource};
 use std::env;
 use std::io::{self, ErrorKind};
 use std::process::ExitCode;
 use std::rt::Env;
-
-/// The status where the system does not give the program its words for want of memory.
-const NO_MEMORY: u8 = 7;
-/// The status where it does not give them for another cause.
-const NO_WORDS: u8 = 9;
+use why::Why;
 
 // The words behind the program's name.
 fn words<R: Env + AllocGlobal>(rt: &R) -> io::Result<Vec<String>> {
@@ -23,26 +21,46 @@ fn words<R: Env + AllocGlobal>(rt: &R) -> io::Result<Vec<String>> {
     Ok(words)
 }
 
-fn main(rt: HostRuntime) -> ExitCode {
-    let words = match words(&rt) {
-        Ok(words) => words,
-        Err(error) if error.kind() == ErrorKind::OutOfMemory => return ExitCode::from(NO_MEMORY),
-        Err(_) => return ExitCode::from(NO_WORDS),
-    };
+// Says on standard error why a run ended, and answers its status. Where the line cannot be written, nothing
+// else changes.
+fn stop(rt: &impl Eprint, why: Why) -> u8 {
+    let _ = eprintln!(rt; "recon: {why}");
+    why.status()
+}
+
+// Does what the words ask for, over the last of them as IMAGE and the standard streams, and answers the
+// status.
+fn run(rt: &HostRuntime, words: &[String]) -> u8 {
     let image = match words.last() {
         Some(word) => word.as_str(),
         None => "",
     };
-    let mut disk = FileDisk::at_path(&rt, image);
+    let mut disk = FileDisk::at_path(rt, image);
     let mut trace = StdSource::new(rt.stdin());
     let mut out = StdSink::new(rt.stdout());
     let status = recon_run(
         rt.alloc(),
-        &words,
+        words,
         &mut disk,
         &mut trace,
         &mut out,
         &mut Steps::new(()),
     );
+    if let Some(why) = Why::of(status, words, image, disk.is_open()) {
+        stop(rt, why);
+    }
+    status
+}
+
+fn main(rt: HostRuntime) -> ExitCode {
+    // Held to the end, so that IMAGE takes the place of no standard stream.
+    let Ok(_streams) = HeldStreams::take(&rt) else {
+        return ExitCode::from(stop(&rt, Why::NoFull));
+    };
+    let status = match words(&rt) {
+        Ok(words) => run(&rt, &words),
+        Err(error) if error.kind() == ErrorKind::OutOfMemory => stop(&rt, Why::Memory),
+        Err(_) => stop(&rt, Why::NoWords),
+    };
     ExitCode::from(status)
 }

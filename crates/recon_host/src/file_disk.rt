@@ -19,6 +19,8 @@ pub struct FileDisk<F: Read + Write + Seek + OpenFile + Drop> {
 }
 
 impl<F: Read + Write + Seek + OpenFile + Drop> FileDisk<F> {
+    ghost use Rattle.recon_host.specs.FileDisk.{is_opened, size_of, reads_of, faults_of};
+
     /// The disk that is the file at a path. Its length is the one learned here, in bytes.
     pub fn at_path<R: Files<File = F>>(rt: &R, path: &str) -> FileDisk<F>
         ensures untold { ⟦<FileDisk<F> as Disk>⟧.bytes result ≡ None }
@@ -37,12 +39,20 @@ impl<F: Read + Write + Seek + OpenFile + Drop> FileDisk<F> {
         }
     }
 
+    /// Whether the file was opened for reading and writing, and its length learned.
+    pub fn is_open(&self) -> bool
+        ensures { result ≡ is_opened self.now }
+    {
+        self.file.is_some()
+    }
+
     // Counts a failed call, and gives its answer.
     fn failed<T>(&mut self) -> Result<T, Failed>
-        ensures size { self.new.size ≡ self.old.size }
-        ensures reads { self.new.reads ≡ self.old.reads }
+        ensures opened { is_opened self.new ≡ is_opened self.old }
+        ensures size { size_of self.new ≡ size_of self.old }
+        ensures reads { reads_of self.new ≡ reads_of self.old }
         ensures err { IsErr result }
-        ensures cause { HasCause self.old.faults self.new.faults result }
+        ensures cause { HasCause (faults_of self.old) (faults_of self.new) result }
     {
         self.faults = self.faults.saturating_add(1);
         Err(Failed)
@@ -93,7 +103,9 @@ fn write_at<F: Write + Seek>(file: &mut F, at: u64, from: &[u8]) -> bool {
 }
 
 impl<F: Read + Write + Seek + OpenFile + Drop> Disk for FileDisk<F> {
-    ghost use Rattle.std.specs.Prelude.{None};
+    ghost use Rattle.std.specs.Prelude.{false, None, IfOk};
+    ghost use Rattle.recon_disk.specs.Outside.{counted};
+    ghost use Rattle.recon_host.specs.FileDisk.{is_opened, size_of, reads_of, faults_of};
 
     ghost len = { λ d. d.size };
 
@@ -105,14 +117,27 @@ impl<F: Read + Write + Seek + OpenFile + Drop> Disk for FileDisk<F> {
 
     ghost told_length = { λ d. tt };
 
-    fn length(&mut self) -> Result<u64, Failed> {
+    fn length(&mut self) -> Result<u64, Failed>
+        ensures unopened { is_opened self.old ≡ false → IsErr result }
+        ensures stays { is_opened self.new ≡ is_opened self.old }
+        ensures value { IfOk result (λ n. n ≡ size_of self.old) }
+        ensures len { size_of self.new ≡ size_of self.old }
+        ensures reads { reads_of self.new ≡ reads_of self.old }
+        ensures cause { HasCause (faults_of self.old) (faults_of self.new) result }
+    {
         if self.file.is_none() {
             return self.failed();
         }
         Ok(self.size)
     }
 
-    fn read(&mut self, at: u64, into: &mut [u8]) -> Result<(), Failed> {
+    fn read(&mut self, at: u64, into: &mut [u8]) -> Result<(), Failed>
+        ensures unopened { is_opened self.old ≡ false → IsErr result }
+        ensures stays { is_opened self.new ≡ is_opened self.old }
+        ensures len { size_of self.new ≡ size_of self.old }
+        ensures reads { reads_of self.new ≡ counted (reads_of self.old) }
+        ensures cause { HasCause (faults_of self.old) (faults_of self.new) result }
+    {
         self.reads = self.reads.saturating_add(1);
         if let Some(file) = &mut self.file
             && read_at(file, at, into)
@@ -122,7 +147,13 @@ impl<F: Read + Write + Seek + OpenFile + Drop> Disk for FileDisk<F> {
         self.failed()
     }
 
-    fn write(&mut self, at: u64, from: &[u8]) -> Result<(), Failed> {
+    fn write(&mut self, at: u64, from: &[u8]) -> Result<(), Failed>
+        ensures unopened { is_opened self.old ≡ false → IsErr result }
+        ensures stays { is_opened self.new ≡ is_opened self.old }
+        ensures len { size_of self.new ≡ size_of self.old }
+        ensures reads { reads_of self.new ≡ reads_of self.old }
+        ensures cause { HasCause (faults_of self.old) (faults_of self.new) result }
+    {
         if let Some(file) = &mut self.file
             && write_at(file, at, from)
         {
@@ -131,7 +162,13 @@ impl<F: Read + Write + Seek + OpenFile + Drop> Disk for FileDisk<F> {
         self.failed()
     }
 
-    fn flush(&mut self) -> Result<(), Failed> {
+    fn flush(&mut self) -> Result<(), Failed>
+        ensures unopened { is_opened self.old ≡ false → IsErr result }
+        ensures stays { is_opened self.new ≡ is_opened self.old }
+        ensures len { size_of self.new ≡ size_of self.old }
+        ensures reads { reads_of self.new ≡ reads_of self.old }
+        ensures cause { HasCause (faults_of self.old) (faults_of self.new) result }
+    {
         if let Some(file) = &self.file
             && file.sync_data().is_ok()
         {

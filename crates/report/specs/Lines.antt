@@ -15,7 +15,7 @@ line_feed = 10 ∷ []
 abbrev pub event_word : Bool → List ℕ
 event_word settle = if settle then codes "settle" else codes "commit"
 
--- the name of the fault of a trace that has this number, from 1 to 7
+-- The name of the fault of a trace that has this number, from 1 to 7. This is the one table of the names.
 abbrev pub fault_name : ℕ → List ℕ
 fault_name number =
     if number == 1 then codes "BadHeader"

@@ -101,13 +101,6 @@ fn each_line_has_its_text(rt: HostRuntime) -> Result<(), AllocError> {
             "end passed 200 rejected 1\n",
         ),
         (
-            Line::BadTrace {
-                number: 4,
-                place: 1,
-            },
-            "trace fault 4 Truncated record 1\n",
-        ),
-        (
             Line::Past {
                 place: 1,
                 at: 33554425,
@@ -121,4 +114,27 @@ fn each_line_has_its_text(rt: HostRuntime) -> Result<(), AllocError> {
         assert!(rt; prints(&rt, line, want), "{want}");
     }
     Ok(())
+}
+
+#[test]
+fn each_fault_of_a_trace_has_its_name(rt: HostRuntime) {
+    let rows = [
+        "trace fault 1 BadHeader record 0\n",
+        "trace fault 2 BadTag record 1\n",
+        "trace fault 3 BadLength record 2\n",
+        "trace fault 4 Truncated record 3\n",
+        "trace fault 5 ReadFault record 4\n",
+        "trace fault 6 NoMemory record 5\n",
+        "trace fault 7 TooMany record 6\n",
+    ];
+    let mut number = 1u8;
+    let mut place = 0u64;
+    for want in rows {
+        assert!(rt;
+            prints(&rt, &Line::BadTrace { number, place }, want),
+            "{want}"
+        );
+        number = number.saturating_add(1);
+        place = place.saturating_add(1);
+    }
 }

@@ -22,7 +22,14 @@ abbrev pub after_event : ReaderState → ReaderState
 after_event s =
     record { limit = s.limit; whole = s.whole + 1; number = s.whole + 1; at_header = false; live = true }
 
--- a reader that has ended, after as many whole records as before: in the header, or in the next record
+-- a reader that has met the end tag, which stands in the place of the next record
+pub record IsEnded (old new : ReaderState) : Type 0 where
+  pub limit : new.limit ≡ old.limit
+  pub whole : new.whole ≡ old.whole
+  pub number : new.number ≡ old.whole + 1
+  pub live : new.live ≡ false
+
+-- a reader that has met a fault, after as many whole records as before: in the header, or in the next record
 pub record IsOver (old new : ReaderState) : Type 0 where
   pub limit : new.limit ≡ old.limit
   pub whole : new.whole ≡ old.whole
@@ -32,7 +39,7 @@ pub record IsOver (old new : ReaderState) : Type 0 where
 -- the state that a call leaves
 abbrev pub IsAfter : ReaderState → Result Item TraceFault → ReaderState → Type 0
 IsAfter old (Ok (an_event e)) new = new ≡ after_event old
-IsAfter old (Ok the_end) new = IsOver old new
+IsAfter old (Ok the_end) new = IsEnded old new
 IsAfter old (Err f) new = IsOver old new
 
 -- these bytes, at which a reader stands, end so before one more record is whole

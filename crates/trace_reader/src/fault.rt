@@ -1,7 +1,7 @@
 //! What can be wrong with a trace.
 
 ghost use Rattle.std.specs.Prelude.{◌≡◌};
-ghost use Rattle.trace_reader.specs.Fault.{fault_number, fault_name};
+ghost use Rattle.trace_reader.specs.Fault.{fault_number};
 
 use thiserror::Error;
 
@@ -32,7 +32,7 @@ pub enum TraceFault {
 }
 
 impl TraceFault {
-    /// The fault's number, from 1 to 7.
+    /// The fault's number, from 1 to 7. The line of a fault prints it, with the name that it has there.
     pub fn number(&self) -> u8
         ensures { result ≡ fault_number self.now }
     {
@@ -44,21 +44,6 @@ impl TraceFault {
             TraceFault::ReadFault => 5,
             TraceFault::NoMemory => 6,
             TraceFault::TooMany => 7,
-        }
-    }
-
-    /// The variant's name, in ASCII.
-    pub fn name(&self) -> &'static str
-        ensures { result.now ≡ fault_name self.now }
-    {
-        match self {
-            TraceFault::BadHeader => "BadHeader",
-            TraceFault::BadTag => "BadTag",
-            TraceFault::BadLength => "BadLength",
-            TraceFault::Truncated => "Truncated",
-            TraceFault::ReadFault => "ReadFault",
-            TraceFault::NoMemory => "NoMemory",
-            TraceFault::TooMany => "TooMany",
         }
     }
 }

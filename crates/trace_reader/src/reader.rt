@@ -78,7 +78,8 @@ impl TraceReader {
     }
 
     /// The next event, or the end. It takes a record's bytes and no more. After the end or a fault the
-    /// reader is no longer live.
+    /// reader is no longer live. The end tag's place is that of the next record: after an end on the first
+    /// call `record_number` is 1.
     ///
     /// `ReadFault` comes only where a call of the source failed, and `NoMemory` only where a write's
     /// bytes are to be held, after its length was found good. Every other fault is one of the bytes,

@@ -140,17 +140,16 @@ fn a_write_has_its_fields(rt: HostRuntime) -> Result<(), AllocError> {
 }
 
 #[test]
-fn a_fault_has_a_number_and_a_name(rt: HostRuntime) {
-    for (fault, number, name) in [
-        (TraceFault::BadHeader, 1, "BadHeader"),
-        (TraceFault::BadTag, 2, "BadTag"),
-        (TraceFault::BadLength, 3, "BadLength"),
-        (TraceFault::Truncated, 4, "Truncated"),
-        (TraceFault::ReadFault, 5, "ReadFault"),
-        (TraceFault::NoMemory, 6, "NoMemory"),
-        (TraceFault::TooMany, 7, "TooMany"),
+fn a_fault_has_a_number(rt: HostRuntime) {
+    for (fault, number) in [
+        (TraceFault::BadHeader, 1),
+        (TraceFault::BadTag, 2),
+        (TraceFault::BadLength, 3),
+        (TraceFault::Truncated, 4),
+        (TraceFault::ReadFault, 5),
+        (TraceFault::NoMemory, 6),
+        (TraceFault::TooMany, 7),
     ] {
         assert_eq!(rt; fault.number(), number);
-        assert_eq!(rt; fault.name(), name);
     }
 }

@@ -6,11 +6,13 @@ use Rattle.verdict.specs.declared.machine.HeldWrite.{HeldWrite}
 abbrev pub range : ℕ → ℕ → List ℕ → List ℕ
 range at n image = take n (drop at image)
 
--- an image with these bytes over the range that begins at an offset; the range lies inside it
+-- An image with these bytes over the range that begins at an offset. It keeps its length: bytes of the write that
+-- would lie behind the image's end fall away.
 unfoldable pub written : List ℕ → ℕ → List ℕ → List ℕ
-written image at bytes = take at image ++ bytes ++ drop (at + length bytes) image
+written image at bytes = take (length image) (take at image ++ bytes ++ drop (at + length bytes) image)
 
--- an image with all these writes over it, in order, so that of two writes of one byte the later stands
+-- An image with all these writes over it, in order, so that of two writes of one byte the later stands. It keeps its
+-- length.
 abbrev pub applied : List ℕ → List HeldWrite → List ℕ
 applied image [] = image
 applied image (w ∷ ws) = applied (written image w.at w.bytes) ws
