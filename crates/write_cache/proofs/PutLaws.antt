@@ -17,7 +17,7 @@ use Rattle.std.proofs.lemmas.List.{get_or-take, get_or-drop, drop_all, take_all,
 use Rattle.std.proofs.lemmas.Map.Keys.{sorted_head, sorted_tail}
 use Rattle.std.proofs.Math.Seq.{take-append_seam}
 use Rattle.verdict.specs.Image.{written}
-use Rattle.verdict.proofs.Images.{length-written}
+use Rattle.verdict.proofs.Images.{length-written, written_inside}
 use Rattle.write_cache.specs.Cache.{with_bytes}
 use Rattle.write_cache.specs.Pieces.{AreApart, map_of}
 use Rattle.write_cache.specs.Runs.{pieces_of, EndBy, AreKept, Hold, run_at, NoneFrom, IsLast, IsTail, Reaches, NoneReaches, AreCleared}
@@ -403,7 +403,6 @@ laid_list base bytes tail from over place least =
     ∙ ap (λ a. take from base ++ a) (joined base bytes tail from over place least)
 
 pub laid_into : (base bytes tail inside behind first items whole out : List ℕ) (from over len count : ℕ) → from ≤ length base → count ≡ length base → over ≡ min (length bytes) (count - from) → inside ≡ take over bytes → behind ≡ drop over bytes → first ≡ base ++ behind → items ≡ first ++ tail → whole ≡ items → length whole ≡ len → out ≡ written whole from inside → take len (out ++ drop (length out) items) ≡ take from base ++ (bytes ++ (drop (from + length bytes) base ++ tail))
-unfolding written
 laid_into base bytes tail inside behind first items whole out from over len count place counted least is_inside is_behind is_first is_items is_whole sized is_out =
     let upto : over ≡ min (length bytes) (length base - from) = least ∙ ap (λ n. min (length bytes) (n - from)) counted in
     let wide : whole ≡ base ++ drop over bytes ++ tail = is_whole ∙ is_items ∙ ap (λ a. a ++ tail) (is_first ∙ ap (λ a. base ++ a) is_behind) in
@@ -413,6 +412,7 @@ laid_into base bytes tail inside behind first items whole out from over len coun
     ap (λ n. take n (out ++ drop (length out) items)) (sym size_out)
     ∙ take-append_seam out (drop (length out) items)
     ∙ is_out
+    ∙ written_inside whole inside from (omega arith)
     ∙ ap (λ a. take from a ++ inside ++ drop (from + length inside) a) wide
     ∙ ap (λ n. take from (base ++ drop over bytes ++ tail) ++ inside ++ drop (from + n) (base ++ drop over bytes ++ tail)) size_inside
     ∙ ap (λ a. take from (base ++ drop over bytes ++ tail) ++ a ++ drop (from + over) (base ++ drop over bytes ++ tail)) is_inside
