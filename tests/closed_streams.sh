@@ -27,7 +27,7 @@ fail() {
     exit 1
 }
 
-sum_of() { sha256sum < "$1"; }
+sum_of() { sha256sum < "$1" | cut -c 1-64; }
 
 # Runs a form over a fresh image: run FORM REDIRECTIONS. The redirections are given as text, to be read by the shell.
 run() {
@@ -38,10 +38,10 @@ run() {
     runs=$((runs + 1))
 }
 
-# What the last run left is to be: wants WHAT STATUS IMAGE LINES, the last two as files.
+# What the last run left is to be: wants WHAT STATUS SUM LINES, the sum of the image, and the lines as a file.
 wants() {
     [ "$status" = "$2" ] || fail "$1: status $status, not $2"
-    [ "$(sum_of "$image")" = "$(sum_of "$3")" ] || fail "$1: the image holds other bytes"
+    [ "$(sum_of "$image")" = "$3" ] || fail "$1: the image holds other bytes"
     cmp -s "$out" "$4" || fail "$1: other lines on standard output"
 }
 
@@ -54,20 +54,21 @@ says_why() {
 }
 
 python3 examples/base_image.py "$first" "$trace" || fail "the image could not be made"
+before=$(sum_of "$first")
 : > "$folder/none"
 
 # With open streams: the image that each form leaves, its lines and its status.
 run check ''
 [ "$status" = 0 ] || fail "check of a good image: status $status"
 cp "$out" "$folder/check.lines"
-wants 'check with open streams' 0 "$first" "$folder/check.lines"
+wants 'check with open streams' 0 "$before" "$folder/check.lines"
 says_why 'check with open streams'
 run replay ''
 open_status=$status
 [ "$open_status" = 0 ] || [ "$open_status" = 1 ] || fail "replay of a good trace: status $open_status"
 cp "$out" "$folder/replay.lines"
-cp --sparse=always "$image" "$folder/replayed.img"
-cmp -s "$first" "$image" && fail 'the replay writes nothing, so it shows nothing'
+replayed=$(sum_of "$image")
+[ "$replayed" != "$before" ] || fail 'the replay writes nothing, so it shows nothing'
 says_why 'replay with open streams'
 
 # Each combination of closed streams: a bit each for 0, 1 and 2.
@@ -80,14 +81,14 @@ for closed in 1 2 3 4 5 6 7; do
         run $form "$streams"
         what="$form with $streams"
         if [ $((closed & 2)) != 0 ]; then
-            wants "$what" 6 "$first" "$folder/none"
+            wants "$what" 6 "$before" "$folder/none"
         elif [ $form = check ]; then
-            wants "$what" 0 "$first" "$folder/check.lines"
+            wants "$what" 0 "$before" "$folder/check.lines"
         elif [ $((closed & 1)) != 0 ]; then
             head -n 1 "$folder/replay.lines" > "$folder/one.line"
-            wants "$what" 5 "$first" "$folder/one.line"
+            wants "$what" 5 "$before" "$folder/one.line"
         else
-            wants "$what" "$open_status" "$folder/replayed.img" "$folder/replay.lines"
+            wants "$what" "$open_status" "$replayed" "$folder/replay.lines"
         fi
         [ $((closed & 4)) != 0 ] || says_why "$what"
     done
@@ -97,7 +98,7 @@ done
 mkfifo "$folder/pipe"
 for form in check replay; do
     run $form '> /dev/full'
-    wants "$form on a full disk" 6 "$first" "$folder/none"
+    wants "$form on a full disk" 6 "$before" "$folder/none"
     says_why "$form on a full disk"
     cat "$folder/pipe" > /dev/null &
     reader=$!
@@ -106,20 +107,20 @@ for form in check replay; do
     wait "$reader" 2> /dev/null
     run $form '>&3 3>&-'
     exec 3>&-
-    wants "$form into a pipe that has ended" 6 "$first" "$folder/none"
+    wants "$form into a pipe that has ended" 6 "$before" "$folder/none"
     says_why "$form into a pipe that has ended"
     run $form '1< /dev/null'
-    wants "$form with standard output open for reading" 6 "$first" "$folder/none"
+    wants "$form with standard output open for reading" 6 "$before" "$folder/none"
     says_why "$form with standard output open for reading"
     run $form '2> /dev/full'
-    [ $form = check ] && wants "$form with errors on a full disk" 0 "$first" "$folder/check.lines"
-    [ $form = replay ] && wants "$form with errors on a full disk" "$open_status" "$folder/replayed.img" "$folder/replay.lines"
+    [ $form = check ] && wants "$form with errors on a full disk" 0 "$before" "$folder/check.lines"
+    [ $form = replay ] && wants "$form with errors on a full disk" "$open_status" "$replayed" "$folder/replay.lines"
 done
 
 # A trace that cannot be read: a folder.
 run replay "< \"\$folder\""
 head -n 1 "$folder/replay.lines" > "$folder/one.line"
-wants 'replay of a folder as the trace' 5 "$first" "$folder/one.line"
+wants 'replay of a folder as the trace' 5 "$before" "$folder/one.line"
 says_why 'replay of a folder as the trace'
 
 # An IMAGE that cannot be opened: a folder, one that is missing, one that must not be written.

@@ -1,2 +1,6 @@
+pub mod Ranks
+pub mod Homes
+pub mod Meets
 pub mod Ordered
 pub mod Pairs
+pub mod Orders

@@ -1,30 +1,21 @@
 -- Chunks by start, one added, and what all of a list keep.
-use Rattle.std.proofs.Common.{◌≡◌, ℕ, zero, suc, ◌+◌, ◌<◌, ◌≤◌, Bool, true, false, cond, List, [], ◌∷◌, ◌++◌, length, take, drop, get_or, refl, ap, sym, subst, ◌∙◌, arith, nat_le}
-use Rattle.std.specs.Prelude.{Option, Some, None}
-use Rattle.std.specs.List.{insert}
+use Rattle.std.proofs.Common.{◌≡◌, ℕ, zero, suc, ◌+◌, ◌-◌, ◌<◌, ◌≤◌, Bool, true, cond, List, [], ◌∷◌, ◌++◌, length, take, drop, get_or, refl, ap, sym, subst, ◌∙◌, arith, false, ⊎_elim}
+use Rattle.std.specs.Prelude.{Option, Some, None, IsTrue}
+use Rattle.std.specs.List.{All, Contains, insert, remove}
 use Rattle.verdict.specs.Rules.{TableRow, first_failing, or_found}
 use Rattle.verdict.proofs.Tables.{first_failing_joined}
 use Rattle.verdict.specs.declared.finding.Finding.{Finding}
 use Rattle.verdict.specs.declared.place.Chunk.{Chunk}
-use Rattle.std.proofs.lemmas.List.{drop_more}
+use Rattle.std.proofs.lemmas.Bool.{cases_lt}
+use Rattle.std.proofs.lemmas.List.{drop_more, same_lists}
+use Rattle.std.proofs.lemmas.List.Edits.{length-insert, length-remove, get_or-remove_below, get_or-remove_above, get_or-insert_below, get_or-insert_above}
 use Rattle.volume_items.specs.MapRules.{array_rows, rows_of_chunk, rows_by_start, map_finding}
 use Rattle.volume_items.specs.ChunkOrder.{put_by_start, all_by_start, by_start}
-use Rattle.chunk_map.specs.Order.{rank_by_start, AllFit, InOrder}
-
-pub rank_low : (start : ℕ) (chunks : List Chunk) → rank_by_start start chunks ≤ length chunks
-rank_low start [] = omega arith
-rank_low start (chunk ∷ chunks) =
-    let rest : rank_by_start start chunks ≤ length chunks = rank_low start chunks in
-    elim (nat_le chunk.start start) as (λ b. cond b (rank_by_start start chunks + 1) 0 ≤ suc (length chunks)) [ true ↦ omega arith | false ↦ omega arith ]
-
--- to insert a chunk at its place is to put it by start
-insert_rank : (chunk : Chunk) (chunks : List Chunk) → insert chunks (rank_by_start chunk.start chunks) chunk ≡ put_by_start chunk chunks
-insert_rank chunk [] = refl
-insert_rank chunk (other ∷ others) =
-    elim (nat_le other.start chunk.start) as (λ b. insert (other ∷ others) (cond b (rank_by_start chunk.start others + 1) 0) chunk ≡ cond b (other ∷ put_by_start chunk others) (chunk ∷ other ∷ others)) [
-      | true ↦ (let one : rank_by_start chunk.start others + 1 ≡ suc (rank_by_start chunk.start others) = omega arith in ap (λ n. insert (other ∷ others) n chunk) one) ∙ ap (λ cs. other ∷ cs) (insert_rank chunk others)
-      | false ↦ refl
-    ]
+use Rattle.chunk_map.specs.Order.{rank_by_start, AllFit, AllClear, Ascend, AreApart, AreFree, HasCopies, IsTurned, InOrder}
+use Rattle.chunk_map.proofs.Ranks.{rank_low, insert_rank, insert_apart, by_start-ascends, by_start-permutes}
+use Rattle.chunk_map.proofs.Meets.{has_more, put_clear}
+use Rattle.std.proofs.lemmas.List.Elements.{All-weaker, All-push}
+use Rattle.std.proofs.lemmas.List.Sorted.{All-permutation, IsNonDecreasingBy-short}
 
 all_by_start-push : (sorted chunks : List Chunk) (chunk : Chunk) → all_by_start sorted (chunks ++ chunk ∷ []) ≡ put_by_start chunk (all_by_start sorted chunks)
 unfolding all_by_start
@@ -43,18 +34,77 @@ fits_at (other ∷ others) (suc i) d all h = fits_at others i d all.1 (omega ari
 pub AllFit-get : (chunks items : List Chunk) (i : ℕ) (d : Chunk) → AllFit chunks → items ≡ chunks → i < length items → (get_or items i d).start + (get_or items i d).length ≤ 18446744073709551615
 AllFit-get chunks items i d all same h = subst (λ cs. (get_or cs i d).start + (get_or cs i d).length ≤ 18446744073709551615) (sym same) (fits_at chunks i d all (subst (λ cs. i < length cs) same h))
 
-pub none_in_order : (chunks sorted : List Chunk) → chunks ≡ [] → sorted ≡ [] → InOrder chunks sorted
+pub none_in_order : (chunks sorted copies : List Chunk) (apart clear : Bool) → chunks ≡ [] → sorted ≡ [] → copies ≡ [] → InOrder chunks sorted copies apart clear
 unfolding all_by_start
-none_in_order chunks sorted a b = rw (a, b) (record { order = refl; fit = tt })
+none_in_order chunks sorted copies apart clear a b c = rw (a, b, c) (record {
+  order = refl;
+  fit = tt;
+  distances = λ _ k d h. absurd (omega arith);
+  around = record { ascend = IsNonDecreasingBy-short (λ (c : Chunk). c.start) [] (omega arith); distances = λ _ k d h. absurd (omega arith) };
+  there = λ k d h. absurd (omega arith);
+  none_meet = λ _. tt;
+})
 
--- one chunk more in both lists
-pub added_in_order : (chunks sorted more wide : List Chunk) (chunk : Chunk) (rank : ℕ) (pushed inserted : Bool) → InOrder chunks sorted → chunk.start + chunk.length ≤ 18446744073709551615 → rank ≡ rank_by_start chunk.start sorted → more ≡ cond pushed (chunks ++ chunk ∷ []) chunks → pushed ≡ true → wide ≡ cond inserted (insert sorted rank chunk) sorted → inserted ≡ true → InOrder more wide
-added_in_order chunks sorted more wide chunk rank pushed inserted kept fits r m mt w wt =
-    let m1 : more ≡ chunks ++ chunk ∷ [] = m ∙ ap (λ b. cond b (chunks ++ chunk ∷ []) chunks) mt in
+-- the chunks by start ascend
+pub in_order-ascends : (chunks sorted items copies : List Chunk) (apart clear : Bool) → InOrder chunks sorted copies apart clear → items ≡ sorted → Ascend items
+in_order-ascends chunks sorted items copies apart clear kept is = subst Ascend (sym (is ∙ kept.order)) (by_start-ascends chunks)
+
+-- a chunk that stands apart from those by start, put among them
+pub kept_apart : (sorted items parts : List Chunk) (rank : ℕ) (chunk : Chunk) (was result apart : Bool) → (was ≡ true → AreApart sorted) → was ≡ true → items ≡ sorted → rank ≤ length items → parts ≡ sorted → (IsTrue result → 0 < rank → (get_or parts (rank - 1) chunk).start + (get_or parts (rank - 1) chunk).length ≤ chunk.start) → (IsTrue result → rank < length parts → chunk.start + chunk.length ≤ (get_or parts rank chunk).start) → apart ≡ result → apart ≡ true → AreApart (insert sorted rank chunk)
+kept_apart sorted items parts rank chunk was result apart kept on i low p before behind is now =
+    let passes : result ≡ true = sym is ∙ now in
+    insert_apart sorted rank chunk (kept on) (subst (λ cs. rank ≤ length cs) i low)
+    (λ h. subst (λ cs. (get_or cs (rank - 1) chunk).start + (get_or cs (rank - 1) chunk).length ≤ chunk.start) p (before passes h))
+    (λ h. subst (λ cs. chunk.start + chunk.length ≤ (get_or cs rank chunk).start) p (behind passes (subst (λ cs. rank < length cs) (sym p) h)))
+
+-- more copies than those of the chunks, where the last chunk was not put
+pub more_copies : (chunks sorted wide copies more : List Chunk) (apart was clear : Bool) → InOrder chunks sorted copies apart was → wide ≡ sorted → IsTurned more clear → (clear ≡ true → was ≡ true) → ((copy : Chunk) → Contains copies copy → Contains more copy) → InOrder chunks wide more apart clear
+more_copies chunks sorted wide copies more apart was clear kept w around stays keeps = record {
+  order = w ∙ kept.order;
+  fit = kept.fit;
+  distances = λ now. subst AreApart (sym w) (kept.distances now);
+  around = around;
+  there = All-weaker (HasCopies copies) (HasCopies more) (λ chunk has. has_more copies more chunk keeps has) chunks kept.there;
+  none_meet = λ now. subst AllClear (sym w) (kept.none_meet (stays now));
+}
+
+-- what was inserted, removed again
+remove-insert : (xs : List Chunk) (i : ℕ) (y : Chunk) → i ≤ length xs → remove (insert xs i y) i ≡ xs
+remove-insert xs i y low =
+    let long : length (insert xs i y) ≡ length xs + 1 = length-insert xs i y low in
+    let short : length (remove (insert xs i y) i) + 1 ≡ length (insert xs i y) = length-remove (insert xs i y) i (omega arith) in
+    same_lists (remove (insert xs i y) i) xs (omega arith) (λ k d l.
+    ⊎_elim (λ h. get_or-remove_below (insert xs i y) i d k h (omega arith) ∙ get_or-insert_below xs i y d k h low)
+    (λ h. get_or-remove_above (insert xs i y) i d k h (omega arith) ∙ get_or-insert_above xs i y d k h low)
+    (cases_lt k i))
+
+-- a chunk taken out again
+pub undone : (chunks sorted longer wide back copies more : List Chunk) (chunk : Chunk) (rank : ℕ) (pushed inserted apart was clear : Bool) → InOrder chunks sorted copies apart was → rank ≡ rank_by_start chunk.start sorted → longer ≡ cond pushed (chunks ++ chunk ∷ []) chunks → pushed ≡ false → wide ≡ cond inserted (insert sorted rank chunk) sorted → inserted ≡ true → back ≡ remove wide rank → IsTurned more clear → (clear ≡ true → was ≡ true) → ((copy : Chunk) → Contains copies copy → Contains more copy) → InOrder longer back more apart clear
+undone chunks sorted longer wide back copies more chunk rank pushed inserted apart was clear kept r m mf w wt b around stays keeps =
+    let low : rank ≤ length sorted = rw r (rank_low chunk.start sorted) in
     let w1 : wide ≡ insert sorted rank chunk = w ∙ ap (λ b. cond b (insert sorted rank chunk) sorted) wt in
-    let order : wide ≡ by_start more = w1 ∙ ap (λ n. insert sorted n chunk) r ∙ insert_rank chunk sorted ∙ ap (put_by_start chunk) kept.order ∙ sym (all_by_start-push [] chunks chunk) ∙ ap by_start (sym m1) in
-    let fit : AllFit more = subst AllFit (sym m1) (AllFit-push chunks chunk kept.fit fits) in
-    record { order = order; fit = fit }
+    let same : back ≡ sorted = b ∙ ap (λ cs. remove cs rank) w1 ∙ remove-insert sorted rank chunk low in
+    let m1 : longer ≡ chunks = m ∙ ap (λ b. cond b (chunks ++ chunk ∷ []) chunks) mf in
+    subst (λ cs. InOrder cs back more apart clear) (sym m1) (more_copies chunks sorted back copies more apart was clear kept same around stays keeps)
+
+-- one chunk more in all lists
+pub added_in_order : (chunks sorted longer wide copies more : List Chunk) (chunk : Chunk) (rank : ℕ) (pushed inserted apart was clear now : Bool) → InOrder chunks sorted copies apart was → chunk.start + chunk.length ≤ 18446744073709551615 → rank ≡ rank_by_start chunk.start sorted → longer ≡ cond pushed (chunks ++ chunk ∷ []) chunks → pushed ≡ true → wide ≡ cond inserted (insert sorted rank chunk) sorted → inserted ≡ true → (now ≡ true → AreApart (insert sorted rank chunk)) → IsTurned more clear → (clear ≡ true → was ≡ true) → ((copy : Chunk) → Contains copies copy → Contains more copy) → HasCopies more chunk → (clear ≡ true → AreFree copies chunk) → InOrder longer wide more now clear
+added_in_order chunks sorted longer wide copies more chunk rank pushed inserted apart was clear now kept fits r m mt w wt keeps around stays contained has free =
+    let m1 : longer ≡ chunks ++ chunk ∷ [] = m ∙ ap (λ b. cond b (chunks ++ chunk ∷ []) chunks) mt in
+    let w1 : wide ≡ insert sorted rank chunk = w ∙ ap (λ b. cond b (insert sorted rank chunk) sorted) wt in
+    let w2 : wide ≡ put_by_start chunk sorted = w1 ∙ ap (λ n. insert sorted n chunk) r ∙ insert_rank chunk sorted in
+    let order : wide ≡ by_start longer = w2 ∙ ap (put_by_start chunk) kept.order ∙ sym (all_by_start-push [] chunks chunk) ∙ ap by_start (sym m1) in
+    let fit : AllFit longer = subst AllFit (sym m1) (AllFit-push chunks chunk kept.fit fits) in
+    let old : All (HasCopies more) chunks = All-weaker (HasCopies copies) (HasCopies more) (λ other h. has_more copies more other contained h) chunks kept.there in
+    let by : All (HasCopies copies) sorted = subst (All (HasCopies copies)) (sym kept.order) (All-permutation (HasCopies copies) chunks (by_start chunks) (by_start-permutes chunks) kept.there) in
+    record {
+      order = order;
+      fit = fit;
+      distances = λ on. subst AreApart (sym w1) (keeps on);
+      around = around;
+      there = subst (All (HasCopies more)) (sym m1) (All-push (HasCopies more) chunks chunk old has);
+      none_meet = λ on. subst AllClear (sym w2) (put_clear copies chunk sorted (free on) by (kept.none_meet (stays on)));
+    }
 
 -- the rules on the array and on the chunks by start are those on the map
 pub map_array : (chunks array items given : List Chunk) (end : ℕ) (finding : Finding) → items ≡ chunks → given ≡ array → Some finding ≡ first_failing (array_rows items given) → Some finding ≡ map_finding chunks array end

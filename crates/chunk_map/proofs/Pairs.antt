@@ -1,6 +1,6 @@
 -- The pairs of the system array, read one after the other.
 use Rattle.std.proofs.Common.{◌≡◌, ℕ, zero, suc, ◌+◌, ◌-◌, ◌<◌, ◌≤◌, ◌==◌, Bool, true, false, cond, List, [], ◌∷◌, ◌++◌, take, drop, refl, ap, sym, ◌∙◌, arith}
-use Rattle.std.specs.Prelude.{Option, Some, None, Ok, Err}
+use Rattle.std.specs.Prelude.{None, Ok, Err}
 use Rattle.std.proofs.lemmas.Grind.{common_steps}
 use Rattle.recon_bytes.specs.Field.{field}
 use Rattle.verdict.specs.Image.{range}

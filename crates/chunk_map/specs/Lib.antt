@@ -1,2 +1,3 @@
 pub mod SystemArray
 pub mod Order
+pub mod Laws

@@ -35,8 +35,10 @@ pub fn read_pair<'a>(sup: &'a Super, at: usize) -> Result<Pair<'a>, Finding>
     requires size { sup.now.array_size ≤ 2048 }
     requires inside { at < sup.now.array_size }
     ensures read { let pair = pair_of (array_place sup.now) sup.now.array sup.now.array_size at in
-        MatchResult result (λ read. pair ≡ Ok (fields_in read.item)) (λ finding. pair ≡ Err finding) }
-    ensures end { IfOk result (λ pair. (pair.end ≡ at + 17 + item_size sup.now.array at) × (pair.end ≤ sup.now.array_size)) }
+        MatchResult result (λ read. pair ≡ Ok (fields_in read.item))
+        (λ finding. pair ≡ Err finding) }
+    ensures end { IfOk result (λ pair.
+        (pair.end ≡ at + 17 + item_size sup.now.array at) × (pair.end ≤ sup.now.array_size)) }
 {
     let Some(head) = pair_at(&sup.array, sup.array_size as usize, at) else {
         return Err(Finding::of_image(Family::S, 9, at as u64));
@@ -58,7 +60,11 @@ pub fn read_pair<'a>(sup: &'a Super, at: usize) -> Result<Pair<'a>, Finding>
 fn pair_at(array: &[u8], size: usize, at: usize) -> Option<Head>
     requires size { size ≤ length array.now }
     requires inside { at < size }
-    ensures { MatchOption result (IsTrue (pair_fails array.now size at)) (λ head. IsFalse (pair_fails array.now size at) × (head.key ≡ key_of array.now at) × (head.size ≡ item_size array.now at) × (at + 17 + head.size ≤ size)) }
+    ensures { MatchOption result (IsTrue (pair_fails array.now size at)) (λ head.
+        IsFalse (pair_fails array.now size at)
+        × (head.key ≡ key_of array.now at)
+        × (head.size ≡ item_size array.now at)
+        × (at + 17 + head.size ≤ size)) }
 {
     let left = size - at;
     if left < KEY + 48 {

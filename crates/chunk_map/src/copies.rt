@@ -48,7 +48,8 @@ pub fn ends_by(at: u64, len: u64, end: u64) -> bool
 /// The logical address whose copy in this chunk stands at a physical offset.
 pub fn logical_in(chunk: &Chunk, physical: u64) -> Option<u64>
     requires { chunk.now.start + chunk.now.length < 2 ^ 64 }
-    ensures { result ≡ logical_in_copies chunk.now.start chunk.now.length chunk.now.first chunk.now.second physical }
+    ensures { let chunk = chunk.now in
+        result ≡ logical_in_copies chunk.start chunk.length chunk.first chunk.second physical }
 {
     if chunk.first <= physical && physical - chunk.first < chunk.length {
         return Some(chunk.start + (physical - chunk.first));

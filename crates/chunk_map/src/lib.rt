@@ -4,10 +4,15 @@
 
 mod array;
 mod copies;
+mod home;
+mod laws;
 mod map;
+mod order;
 mod rules;
 #[cfg(test)]
 mod tests;
+mod turned;
 
+pub use laws::{array_law, order_by_start_law};
 pub use map::{ChunkMap, Sys};
 pub use verdict::{Chunk, Place};

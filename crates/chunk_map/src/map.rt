@@ -1,14 +1,18 @@
 //! The list of chunks.
 
-ghost use Rattle.std.specs.Prelude.{◌≡◌, ◌+◌, ◌-◌, ◌≤◌, ◌<◌, ◌^◌, [], ◌∷◌, ◌++◌, length, IfOk, IfSome, OnOk, OnErr};
+ghost use Rattle.std.specs.Prelude.{◌≡◌, ◌+◌, ◌-◌, ◌≤◌, ◌<◌, ◌^◌, [], ◌∷◌, ◌++◌, IfOk, IfSome, OnOk, OnErr};
 ghost use Rattle.verdict.specs.Chunks.{home, place, logical_of};
-ghost use Rattle.chunk_map.specs.Order.{rank_by_start};
-ghost use Rattle.volume_items.specs.MapRules.{map_finding};
+ghost use Rattle.verdict.specs.Rules.{first_failing};
+ghost use Rattle.volume_items.specs.ChunkOrder.{by_start};
+ghost use Rattle.volume_items.specs.MapRules.{map_finding, rows_by_start};
 ghost use Rattle.chunk_map.specs.SystemArray.{chunks_of, sys_of};
 
 use crate::array::read_pair;
-use crate::copies::{holds, logical_in, place_of};
-use crate::rules::{array_fault, sorted_fault};
+use crate::copies::{logical_in, place_of};
+use crate::home::{home_apart, home_in};
+use crate::order::{rank_of, stands_apart};
+use crate::rules::{array_fault, clear_fault, sorted_fault};
+use crate::turned::put_copies;
 use std::alloc::Global;
 use std::marker::Model;
 use super_reader::Super;
@@ -20,6 +24,12 @@ pub struct ChunkMap {
     chunks: Vec<Chunk>,
     // The same chunks by start, those of one start in the order of the list.
     sorted: Vec<Chunk>,
+    // Whether no chunk by start begins before the end of the one before it.
+    apart: bool,
+    // The copies of all chunks by their offset on the device.
+    copies: Vec<Chunk>,
+    // Whether no two copies meet.
+    clear: bool,
 }
 
 /// What the system chunk array of a superblock gives.
@@ -40,7 +50,7 @@ impl Model for ChunkMap {
 
     ghost view = { λ m. m.chunks.items };
 
-    ghost invariant = { λ m. InOrder m.chunks.items m.sorted.items };
+    ghost invariant = { λ m. InOrder m.chunks.items m.sorted.items m.copies.items m.apart m.clear };
 }
 
 impl ChunkMap {
@@ -51,6 +61,9 @@ impl ChunkMap {
         ChunkMap {
             chunks: Vec::new(alloc),
             sorted: Vec::new(alloc),
+            apart: true,
+            copies: Vec::new(alloc),
+            clear: true,
         }
     }
 
@@ -74,13 +87,17 @@ impl ChunkMap {
         Ok(Sys::Map(map))
     }
 
-    /// Puts a chunk at the end of the list. When memory is wanting, nothing changes.
+    /// Puts a chunk at the end of the list. When memory is wanting, nothing changes. It costs binary
+    /// searches among the chunks by start and among the copies by offset, and what stands behind a place
+    /// found there moves by one: nothing, where chunks come by start and their copies by offset.
     pub fn add(&mut self, chunk: &Chunk) -> Result<(), NoMemory>
         requires { chunk.now.start + chunk.now.length < 2 ^ 64 }
         ensures ok { OnOk result (self.new ≡ self.old ++ chunk.now ∷ []) }
         ensures err { OnErr result (self.new ≡ self.old) }
     {
+        put_copies(&mut self.copies, &mut self.clear, chunk)?;
         let rank = rank_of(&self.sorted, chunk.start);
+        let apart = self.apart && stands_apart(&self.sorted, rank, chunk);
         if self.sorted.insert(rank, *chunk).is_err() {
             return Err(NoMemory);
         }
@@ -88,22 +105,38 @@ impl ChunkMap {
             self.sorted.remove(rank);
             return Err(NoMemory);
         }
+        self.apart = apart;
         Ok(())
     }
 
     /// Where `len` bytes from the logical address `addr` on stand, on a device of `end` bytes. The
-    /// first chunk of the list that holds them whole decides.
+    /// first chunk of the list that holds them whole decides. It costs a binary search where no two
+    /// chunks overlap, else a pass over the list.
     pub fn place(&self, addr: u64, len: u64, end: u64) -> Place
         ensures { result ≡ place self.now addr len end }
     {
-        match home_in(&self.chunks, addr, len) {
+        match self.home(addr, len) {
             Some(chunk) => place_of(&chunk, addr - chunk.start, len, end),
             None => Place::Nowhere,
         }
     }
 
+    // The first chunk of the list that holds `len` bytes from a logical address on whole. Where no two
+    // chunks overlap it is the only one that can hold a byte.
+    fn home(&self, addr: u64, len: u64) -> Option<Chunk>
+        ensures home { result ≡ home self.now addr len }
+        ensures held { IfSome result (λ chunk.
+            (chunk.start ≤ addr) × (addr - chunk.start + len < 2 ^ 64)) }
+    {
+        if self.apart && len > 0 {
+            home_apart(&self.sorted, addr, len)
+        } else {
+            home_in(&self.chunks, addr, len)
+        }
+    }
+
     /// The logical address whose copy stands at the byte `physical` of the device, in the first chunk
-    /// of the list that has one there.
+    /// of the list that has one there. It costs a pass over the list.
     pub fn logical_at(&self, physical: u64) -> Option<u64>
         ensures { result ≡ logical_of self.now physical }
     {
@@ -132,33 +165,19 @@ impl ChunkMap {
         if let Some(found) = array_fault(&self.chunks, &sys.chunks) {
             return Some(found);
         }
-        sorted_fault(&self.sorted, end)
+        self.own_fault(end)
     }
-}
 
-/// The first chunk of a list that holds `len` bytes from a logical address on whole.
-fn home_in(chunks: &[Chunk], addr: u64, len: u64) -> Option<Chunk>
-    ensures home { result ≡ home chunks.now addr len }
-    ensures held { IfSome result (λ chunk. (chunk.start ≤ addr) × (addr - chunk.start + len < 2 ^ 64)) }
-{
-    for chunk in chunks {
-        if holds(chunk, addr, len) {
-            return Some(*chunk);
+    // The first finding on the chunks by start. Where no two copies meet it is one pass over the chunks,
+    // else the copies of each chunk are compared with those of all before it, up to the first finding.
+    fn own_fault(&self, end: u64) -> Option<Finding>
+        ensures { result ≡ first_failing (rows_by_start [] (by_start self.now) end) }
+    {
+        let sorted = self.sorted.as_slice();
+        if self.clear {
+            clear_fault(sorted, end)
+        } else {
+            sorted_fault(sorted, end)
         }
     }
-    None
-}
-
-/// The place that a chunk with this start takes among chunks by start: behind those that do not start
-/// behind it.
-fn rank_of(sorted: &[Chunk], start: u64) -> usize
-    ensures rank { result ≡ rank_by_start start sorted.now }
-    ensures low { result ≤ length sorted.now }
-{
-    for (rank, chunk) in sorted.iter().enumerate() {
-        if chunk.start > start {
-            return rank;
-        }
-    }
-    sorted.len()
 }

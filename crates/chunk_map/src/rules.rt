@@ -4,6 +4,7 @@ ghost use Rattle.std.specs.Prelude.{◌≡◌, ◌+◌, ◌≤◌, ◌<◌, nat_
 ghost use Rattle.std.specs.List.{list_any};
 ghost use Rattle.verdict.specs.Rules.{first_failing};
 ghost use Rattle.volume_items.specs.MapRules.{chunk_finding, same_chunk, array_rows, meets_chunk, rows_of_chunk, rows_by_start, second_rows, starts_inside, last_before};
+ghost use Rattle.chunk_map.specs.Order.{AllClear, MeetsNone};
 
 use crate::copies::{common, ends_by, meets};
 use verdict::{Chunk, Family, Finding, Key, Rule};
@@ -50,6 +51,49 @@ pub fn sorted_fault(chunks: &[Chunk], end: u64) -> Option<Finding>
     None
 }
 
+/// The first finding on chunks by start of which no two copies meet (M1, M3), on a device of `end`
+/// bytes.
+pub fn clear_fault(chunks: &[Chunk], end: u64) -> Option<Finding>
+    requires { AllClear chunks.now }
+    ensures { result ≡ first_failing (rows_by_start [] chunks.now end) }
+{
+    for (place, chunk) in chunks.iter().enumerate() {
+        if let Some(found) = bounds_fault(&chunks[..place], chunk, end) {
+            return Some(found);
+        }
+    }
+    None
+}
+
+/// The first finding on a chunk none of whose copies meets an earlier one.
+fn bounds_fault(before: &[Chunk], chunk: &Chunk, end: u64) -> Option<Finding>
+    requires { MeetsNone before.now chunk.now }
+    ensures { result ≡ first_failing (rows_of_chunk before.now chunk.now end) }
+{
+    if let Some(last) = before.last() {
+        if inside(last, chunk) {
+            return Some(finding(Family::M, 1, chunk.start, last.start));
+        }
+    }
+    if !ends_by(chunk.first, chunk.length, end) {
+        return Some(finding(Family::M, 3, chunk.start, chunk.first));
+    }
+    second_bound_fault(before, chunk, end)
+}
+
+/// The first finding on the second copy of a chunk, which meets no earlier one.
+fn second_bound_fault(before: &[Chunk], chunk: &Chunk, end: u64) -> Option<Finding>
+    requires { MeetsNone before.now chunk.now }
+    ensures { result ≡ first_failing (second_rows before.now chunk.now chunk.now.second end) }
+{
+    match chunk.second {
+        Some(second) if !ends_by(second, chunk.length, end) => {
+            Some(finding(Family::M, 3, chunk.start, second))
+        }
+        _ => None,
+    }
+}
+
 /// The first finding on a chunk behind those that start before it.
 fn chunk_fault(before: &[Chunk], chunk: &Chunk, end: u64) -> Option<Finding>
     ensures { result ≡ first_failing (rows_of_chunk before.now chunk.now end) }
@@ -69,7 +113,7 @@ fn chunk_fault(before: &[Chunk], chunk: &Chunk, end: u64) -> Option<Finding>
 }
 
 /// Whether a chunk starts before the end of the one before it.
-fn inside(last: &Chunk, chunk: &Chunk) -> bool
+pub fn inside(last: &Chunk, chunk: &Chunk) -> bool
     ensures { result ≡ nat_lt chunk.now.start (last.now.start + last.now.length) }
 {
     chunk.start < last.start || chunk.start - last.start < last.length

@@ -193,19 +193,19 @@ mod tests {
         )?;
         fs::write(&rt, path.as_str(), [7u8; 16].as_slice())?;
         let mut disk = FileDisk::at_path(&rt, path.as_str());
+        assert!(rt; disk.is_open());
         assert_eq!(rt; disk.length().ok(), Some(16));
         let mut bytes = [0u8; 4];
-        if disk.size == 16 {
-            assert!(rt; disk.write(6, &[1, 2]).is_ok());
-        }
+        assert!(rt; disk.write(6, &[1, 2]).is_ok());
         assert!(rt; disk.flush().is_ok());
-        if disk.size == 16 {
-            assert!(rt; disk.read(5, &mut bytes).is_ok());
-        }
+        assert!(rt; disk.read(5, &mut bytes).is_ok());
         assert_eq!(rt; bytes.as_slice(), [7u8, 1, 2, 7].as_slice());
         fs::remove_file(&rt, path.as_str())?;
         let mut none = FileDisk::at_path(&rt, path.as_str());
+        assert!(rt; !none.is_open());
         assert!(rt; none.length().is_err());
+        assert!(rt; none.read(5, &mut bytes).is_err());
+        assert!(rt; none.write(6, &[1, 2]).is_err());
         assert!(rt; none.flush().is_err());
         Ok(())
     }

@@ -1,6 +1,6 @@
 use Rattle.std.proofs.Common.{◌≡◌, drop}
 use Rattle.verdict.specs.Chunks.{home}
-use Rattle.chunk_map.proofs.map.home_in.Given as goal
+use Rattle.chunk_map.proofs.home.home_in.Given as goal
 
 -- what is left decides
 abbrev pub invariant-loop-chunk : goal.invariant-loop-chunk

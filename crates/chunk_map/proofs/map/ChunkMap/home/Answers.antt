@@ -1,0 +1,13 @@
+use Rattle.std.proofs.Common.{◌∙◌, ap}
+use Rattle.verdict.specs.Chunks.{home}
+use Rattle.chunk_map.proofs.Ordered.{in_order-ascends}
+use Rattle.chunk_map.proofs.Homes.{home_by_start}
+use Rattle.chunk_map.proofs.map.ChunkMap.home.Goals as goal
+
+pub home_apart-requires-clause-order : goal.home_apart-requires-clause-order
+home_apart-requires-clause-order c = in_order-ascends c.self.inside.chunks.items c.self.inside.sorted.items c.deref.result.now c.self.inside.copies.items c.self.inside.apart c.self.inside.clear c.self.invariant c.deref.ensures.value
+
+pub returns-then-len-gt0-clause-home : goal.returns-then-len-gt0-clause-home
+returns-then-len-gt0-clause-home c =
+    home_by_start c.self.inside.chunks.items c.deref.result.now c.args.addr c.args.len c.home_apart.result (c.deref.ensures.value ∙ c.self.invariant.order) c.home_apart.ensures.only
+    ∙ ap (λ cs. home cs c.args.addr c.args.len) c.self.view_is

@@ -1,0 +1,19 @@
+use Rattle.chunk_map.proofs.Meets.{on_ok, one_there, both_there, one_free, both_free}
+use Rattle.chunk_map.proofs.turned.put_copies.Goals as goal
+
+pub returns-in-Some-clause-more : goal.returns-in-Some-clause-more
+returns-in-Some-clause-more c = λ copy has. c.put_copy-in-Some.ensures.more copy (c.put_copy.ensures.more copy has)
+
+pub returns-in-Some-clause-there : goal.returns-in-Some-clause-there
+returns-in-Some-clause-there c =
+    on_ok c.put_copy-in-Some.result (λ new. both_there c.put_copy.new.copies.items c.put_copy-in-Some.new.copies.items c.args.chunk.now c.in-Some.second c.copy_at.result c.copy_at-in-Some.result c.copy_at.ensures c.copy_at-in-Some.ensures c.in-Some.is c.in_ok-put_copy.ensures.there c.put_copy-in-Some.ensures.more new) c.put_copy-in-Some.ensures.there
+
+pub returns-in-Some-clause-free : goal.returns-in-Some-clause-free
+returns-in-Some-clause-free c =
+    on_ok c.put_copy-in-Some.result (λ far now. both_free c.args.copies.now.items c.put_copy.new.copies.items c.args.chunk.now c.in-Some.second c.copy_at.result c.copy_at-in-Some.result c.copy_at.ensures c.copy_at-in-Some.ensures c.in-Some.is c.put_copy.ensures.more c.in_ok-put_copy.ensures.there (c.in_ok-put_copy.ensures.free (c.put_copy-in-Some.ensures.stays now)) (far now)) c.put_copy-in-Some.ensures.free
+
+pub returns-in-None-clause-there : goal.returns-in-None-clause-there
+returns-in-None-clause-there c = one_there c.put_copy.new.copies.items c.args.chunk.now c.copy_at.result c.copy_at.ensures c.in-None.is c.in_ok-put_copy.ensures.there
+
+pub returns-in-None-clause-free : goal.returns-in-None-clause-free
+returns-in-None-clause-free c = λ now. one_free c.args.copies.now.items c.args.chunk.now c.copy_at.result c.copy_at.ensures c.in-None.is (c.in_ok-put_copy.ensures.free now)
