@@ -1,10 +1,11 @@
 #!/bin/bash
 # Times crc32c beside the same loop in C at -O2, in one run: by one table of 256 entries, and by eight
-# tables. Prints the speed of each in MB/s (10^6 bytes a second) and the ratios. Usage: bench/crc.sh [MIB] [ROUNDS]
+# tables. Takes user time, the least of five runs. Prints the speed of each in MB/s (10^6 bytes a second) and the
+# ratios. Usage: bench/crc.sh [MIB] [ROUNDS]
 set -euo pipefail
 top=$(cd "$(dirname "$0")/.." && pwd)
 bytes=$((${1:-64} * 1048576))
-rounds=${2:-8}
+rounds=${2:-160}
 work=$(mktemp -d)
 trap 'rm -rf "$work"' EXIT
 
@@ -66,25 +67,29 @@ compiler=${CC:-cc}
 (cd "$top/crates/crc_bench" && rt run -- 8 1 >"$work/build.log" 2>&1) || { tail -20 "$work/build.log"; exit 1; }
 proved=$top/crates/crc_bench/out/crc_bench
 
-# milliseconds of one run
-elapsed() {
-    local start end
-    start=$(date +%s%N)
-    "$@" >"$work/answer"
-    end=$(date +%s%N)
-    echo $(((end - start) / 1000000))
+# user milliseconds of a program, the least of five runs
+least() {
+    python3 - "$work/answer" "$@" <<'PYTHON'
+import os, subprocess, sys
+times = []
+for _ in range(5):
+    with open(sys.argv[1], 'wb') as out:
+        child = subprocess.Popen(sys.argv[2:], stdout=out)
+        times.append(os.wait4(child.pid, 0)[2].ru_utime)
+print(int(min(times) * 1000))
+PYTHON
 }
 
-# MB/s of a program at `bytes` and `rounds`, the best of five, without the time that it takes to start and fill
+# MB/s of a program at `bytes` and `rounds`: the least of its runs, less the least of runs that only start and fill
 speed() {
-    local best=0 whole empty now
-    for _ in 1 2 3 4 5; do
-        empty=$(elapsed "$@" "$bytes" 0)
-        whole=$(elapsed "$@" "$bytes" "$rounds")
-        now=$((bytes * rounds / 1000 / (whole > empty ? whole - empty : 1)))
-        ((now > best)) && best=$now
-    done
-    echo "$best"
+    local whole empty
+    empty=$(least "$@" "$bytes" 0)
+    whole=$(least "$@" "$bytes" "$rounds")
+    if ((whole - empty < 1000)); then
+        echo "too few rounds: only $((whole - empty)) ms of work; give more ROUNDS" >&2
+        exit 1
+    fi
+    echo $((bytes * rounds / 1000 / (whole - empty)))
 }
 
 wanted=$("$work/crc" 1 "$bytes" "$rounds")
