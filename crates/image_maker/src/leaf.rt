@@ -57,8 +57,10 @@ impl LeafMaker {
     #[tactic(auto, using(crate::proofs::Space::space_after_item))]
     pub fn push(&mut self, key: Key, bytes: &[u8]) -> Result<bool, NoMemory>
         ensures size { nodesize_of self.new ≡ nodesize_of self.old }
-        ensures fits { IfOk result (λ fits. fits ≡ nat_le (126 + space_of (items_of self.old) + length bytes.now) (nodesize_of self.old)) }
-        ensures items { IfOk result (λ fits. items_of self.new ≡ (if fits then items_of self.old ++ item key bytes.now ∷ [] else items_of self.old)) }
+        ensures fits { IfOk result (λ fits. fits ≡
+            nat_le (126 + space_of (items_of self.old) + length bytes.now) (nodesize_of self.old)) }
+        ensures items { IfOk result (λ fits. items_of self.new ≡
+            (if fits then items_of self.old ++ item key bytes.now ∷ [] else items_of self.old)) }
         ensures stays { OnErr result (items_of self.new ≡ items_of self.old) }
     {
         if bytes.len() > self.nodesize as usize - 101 - self.used {

@@ -58,7 +58,8 @@ pub fn check<D: Disk>(alloc: Global, disk: &mut D, cache: &WriteCache) -> Result
 // The chunks of the system array.
 fn system_chunks(alloc: Global, sup: &Super) -> Result<ChunkMap, Halt>
     requires { sup.now.array_size ≤ 2048 }
-    ensures { IsOutcome result (array_chunks (array_place sup.now) sup.now.array sup.now.array_size) }
+    ensures { IsOutcome result
+        (array_chunks (array_place sup.now) sup.now.array sup.now.array_size) }
 {
     match ChunkMap::from_sys(alloc, sup)? {
         Sys::Map(map) => Ok(map),

@@ -20,7 +20,8 @@ pub fn take_items<T: Taker>(
     into: &mut T,
 ) -> Result<(), Halt>
     requires leaf { level_of block.now ≡ 0 }
-    ensures { PutsInto T.Taker into.old into.new result (leaf_records sup.now e.now (items_of block.now)) }
+    ensures { PutsInto T.Taker into.old into.new result
+        (leaf_records sup.now e.now (items_of block.now)) }
 {
     let at = sup.place(e.tree, e.address, e.generation);
     for i in 0..block.count() {

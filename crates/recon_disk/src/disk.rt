@@ -35,7 +35,8 @@ pub trait Disk {
         requires some { 0 < length into.old }
         requires few { length into.old ≤ 65536 }
         requires inside { at + length into.old ≤ len self.old }
-        ensures told { OnOk result (IfSome (bytes self.old) (λ image. into.new ≡ range at (length into.old) image)) }
+        ensures told { OnOk result (IfSome (bytes self.old)
+            (λ image. into.new ≡ range at (length into.old) image)) }
         ensures len { len self.new ≡ len self.old }
         ensures bytes { bytes self.new ≡ bytes self.old }
         ensures reads { reads self.new ≡ counted (reads self.old) }
@@ -47,7 +48,8 @@ pub trait Disk {
         requires some { 0 < length from.now }
         requires few { length from.now ≤ 1048576 }
         requires inside { at + length from.now ≤ len self.old }
-        ensures written { OnOk result (bytes self.new ≡ option_map (λ image. written image at from.now) (bytes self.old)) }
+        ensures written { OnOk result (bytes self.new ≡ option_map
+            (λ image. written image at from.now) (bytes self.old)) }
         ensures partly { OnErr result (MayBeWritten (bytes self.old) at from.now (bytes self.new)) }
         ensures len { len self.new ≡ len self.old }
         ensures reads { reads self.new ≡ reads self.old }

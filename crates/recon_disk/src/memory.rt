@@ -152,13 +152,16 @@ impl Disk for MemDisk {
         requires some { 0 < length from.now }
         requires few { length from.now ≤ 1048576 }
         requires inside { at + length from.now ≤ length (bytes_in self.old) }
-        ensures written { OnOk result (Some (bytes_in self.new) ≡ Some (written (bytes_in self.old) at from.now)) }
-        ensures partly { OnErr result (MayBeWritten (Some (bytes_in self.old)) at from.now (Some (bytes_in self.new))) }
+        ensures written { OnOk result (Some (bytes_in self.new) ≡
+            Some (written (bytes_in self.old) at from.now)) }
+        ensures partly { OnErr result
+            (MayBeWritten (Some (bytes_in self.old)) at from.now (Some (bytes_in self.new))) }
         ensures len { length (bytes_in self.new) ≡ length (bytes_in self.old) }
         ensures reads { reads_of self.new ≡ reads_of self.old }
         ensures cause { HasCause (faults_of self.old) (faults_of self.new) result }
         ensures called { IsCalled Op.Write self.old self.new result }
-        ensures left { bytes_in self.new ≡ left_by (fail_of_next Op.Write self.old) (bytes_in self.old) at from.now }
+        ensures left { bytes_in self.new ≡
+            left_by (fail_of_next Op.Write self.old) (bytes_in self.old) at from.now }
     {
         self.writes = self.writes.saturating_add(1);
         if let Some(fail) = listed(&self.fails, Op::Write, self.writes) {

@@ -17,7 +17,8 @@ pub trait Sink {
 
     /// Appends all the bytes, or fails with a front of them appended.
     fn write(&mut self, from: &[u8]) -> Result<(), Failed>
-        ensures appended { OnOk result (kept self.new ≡ option_map (λ bytes. bytes ++ from.now) (kept self.old)) }
+        ensures appended { OnOk result (kept self.new ≡ option_map
+            (λ bytes. bytes ++ from.now) (kept self.old)) }
         ensures partly { OnErr result (MayBeAppended (kept self.old) from.now (kept self.new)) }
         ensures cause { HasCause (faults self.old) (faults self.new) result };
 }
@@ -96,8 +97,10 @@ impl Sink for MemSink {
     ghost faults = { λ s. s.faults };
 
     fn write(&mut self, from: &[u8]) -> Result<(), Failed>
-        ensures appended { OnOk result (Some (bytes_kept self.new) ≡ Some (bytes_kept self.old ++ from.now)) }
-        ensures partly { OnErr result (MayBeAppended (Some (bytes_kept self.old)) from.now (Some (bytes_kept self.new))) }
+        ensures appended { OnOk result (Some (bytes_kept self.new) ≡
+            Some (bytes_kept self.old ++ from.now)) }
+        ensures partly { OnErr result
+            (MayBeAppended (Some (bytes_kept self.old)) from.now (Some (bytes_kept self.new))) }
         ensures cause { HasCause (sink_faults self.old) (sink_faults self.new) result }
         ensures given { IsGiven self.old from.now self.new result }
     {

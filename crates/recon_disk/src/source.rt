@@ -77,13 +77,15 @@ impl Source for MemSource {
     fn read(&mut self, into: &mut [u8]) -> Result<usize, Failed>
         requires { 0 < length into.old }
         ensures count { IfOk result (λ n. n ≤ length into.old) }
-        ensures given { IfOk result (λ n. Gives n into.new (Some (bytes_left self.old)) (Some (bytes_left self.new))) }
+        ensures given { IfOk result
+            (λ n. Gives n into.new (Some (bytes_left self.old)) (Some (bytes_left self.new))) }
         ensures end { IfOk result (λ n. n ≡ 0 → is_at_end self.new ≡ true) }
         ensures stays { is_at_end self.old ≡ true → IfOk result (λ n. n ≡ 0) }
         ensures goes_on { is_at_end self.old ≡ true → is_at_end self.new ≡ true }
         ensures failed { OnErr result (Some (bytes_left self.new) ≡ Some (bytes_left self.old)) }
         ensures cause { HasCause (source_faults self.old) (source_faults self.new) result }
-        ensures most { IfOk result (λ n. n ≡ min (min (length into.old) (step_of self.old)) (length (bytes_left self.old))) }
+        ensures most { IfOk result (λ n. n ≡
+            min (min (length into.old) (step_of self.old)) (length (bytes_left self.old))) }
         ensures asked { IsAsked self.old self.new result }
     {
         self.calls = self.calls.saturating_add(1);

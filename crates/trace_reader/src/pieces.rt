@@ -16,7 +16,8 @@ const LONGEST_WRITE: u32 = 1_048_576;
 
 /// Takes the next bytes until the piece is whole. `Truncated` comes where the source ends before.
 pub fn fill<S: Source>(source: &mut S, piece: &mut [u8]) -> Result<(), TraceFault>
-    ensures told { IfSome (S.left source.old) (λ bytes. Fills bytes piece.new result (S.left source.new)) }
+    ensures told { IfSome (S.left source.old)
+        (λ bytes. Fills bytes piece.new result (S.left source.new)) }
     ensures lawful { IsBytes piece.new }
     ensures untold { S.left source.old ≡ None → S.left source.new ≡ None }
     ensures cause { HasReadCause (S.faults source.old) (S.faults source.new) result }
@@ -34,7 +35,8 @@ pub fn fill<S: Source>(source: &mut S, piece: &mut [u8]) -> Result<(), TraceFaul
 
 // The bytes of a write, held. Nothing is read where there is no memory for them.
 fn read_bytes<S: Source>(alloc: Global, len: usize, source: &mut S) -> Result<Bytes, TraceFault>
-    ensures told { IfSome (S.left source.old) (λ bytes. ReadsBytes len bytes result (S.left source.new)) }
+    ensures told { IfSome (S.left source.old)
+        (λ bytes. ReadsBytes len bytes result (S.left source.new)) }
     ensures size { IfOk result (λ bytes. length bytes ≡ len) }
     ensures untold { S.left source.old ≡ None → S.left source.new ≡ None }
     ensures cause { HasReadCause (S.faults source.old) (S.faults source.new) result }
@@ -48,7 +50,8 @@ fn read_bytes<S: Source>(alloc: Global, len: usize, source: &mut S) -> Result<By
 
 /// A write, whose tag was taken before.
 pub fn read_write<S: Source>(alloc: Global, source: &mut S) -> Result<Event, TraceFault>
-    ensures told { IfSome (S.left source.old) (λ bytes. ReadsWrite (1 ∷ bytes) result (S.left source.new)) }
+    ensures told { IfSome (S.left source.old)
+        (λ bytes. ReadsWrite (1 ∷ bytes) result (S.left source.new)) }
     ensures sized { IfOk result HasLength }
     ensures untold { S.left source.old ≡ None → S.left source.new ≡ None }
     ensures cause { HasReadCause (S.faults source.old) (S.faults source.new) result }

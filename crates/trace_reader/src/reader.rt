@@ -86,7 +86,8 @@ impl TraceReader {
     /// at the record of `record_number`.
     pub fn next<S: Source>(&mut self, alloc: Global, source: &mut S) -> Result<Item, TraceFault>
         requires { self.old.live ≡ true }
-        ensures told { IfSome (S.left source.old) (λ bytes. Tells self.old bytes result self.new (S.left source.new)) }
+        ensures told { IfSome (S.left source.old)
+            (λ bytes. Tells self.old bytes result self.new (S.left source.new)) }
         ensures untold { S.left source.old ≡ None → S.left source.new ≡ None }
         ensures sized { IfOk result IsSizedItem }
         ensures state { IsAfter self.old result self.new }
@@ -119,7 +120,8 @@ impl TraceReader {
 
 // Takes the header, where it is still to be read.
 fn read_front<S: Source>(at_header: bool, source: &mut S) -> Result<(), TraceFault>
-    ensures told { IfSome (S.left source.old) (λ bytes. ReadsFront at_header bytes result (S.left source.new)) }
+    ensures told { IfSome (S.left source.old)
+        (λ bytes. ReadsFront at_header bytes result (S.left source.new)) }
     ensures untold { S.left source.old ≡ None → S.left source.new ≡ None }
     ensures header { OnErr result (at_header ≡ true) }
     ensures cause { HasReadCause (S.faults source.old) (S.faults source.new) result }
@@ -146,7 +148,8 @@ fn read_record<S: Source>(
     requires { whole ≤ limit }
     ensures room { HasRoom limit whole result }
     ensures sized { IfOk result IsSizedItem }
-    ensures told { IfSome (S.left source.old) (λ bytes. ReadsRecord limit whole bytes result (S.left source.new)) }
+    ensures told { IfSome (S.left source.old)
+        (λ bytes. ReadsRecord limit whole bytes result (S.left source.new)) }
     ensures untold { S.left source.old ≡ None → S.left source.new ≡ None }
     ensures cause { HasReadCause (S.faults source.old) (S.faults source.new) result }
 {
