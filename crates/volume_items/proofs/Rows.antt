@@ -1,6 +1,9 @@
 -- The stripes of a chunk, one behind the other, and the three parts of the rules on a chunk.
-use Rattle.std.proofs.Common.{◌≡◌, ℕ, zero, suc, ◌-◌, ◌*◌, ◌/◌, ◌<◌, ◌≤◌, List, [], ◌∷◌, ◌++◌, length, take, drop, refl, ap, sym, ◌∙◌, arith, length-drop}
+use Rattle.std.proofs.Common.{◌≡◌, ℕ, zero, suc, ◌+◌, ◌-◌, ◌==◌, not, nat_lt, true, false, cond, ◌*◌, ◌/◌, ◌<◌, ◌≤◌, List, [], ◌∷◌, ◌++◌, length, take, drop, refl, ap, sym, ◌∙◌, arith, length-drop}
 use Rattle.std.proofs.lemmas.Grind.{common_steps}
+use Rattle.std.proofs.lemmas.Bool.{eqb-true, not-false}
+use Rattle.verdict.specs.Items.{item_rule, is_multiple, listed_rule}
+use Rattle.verdict.specs.declared.finding.Family.TheVariants.{I}
 use Rattle.std.specs.Prelude.{Option, Some, None, Ok, Err}
 use Rattle.verdict.specs.Rules.{TableRow, first_failing, or_found, finding_or}
 use Rattle.verdict.proofs.Tables.{first_failing_joined}
@@ -51,12 +54,40 @@ unfolding chunk_row
 row_at_stripes at key bytes rest size frame fields finding f f0 g g0 s r last =
     ap (λ o. finding_or o (chunk_fields key bytes)) (three at key bytes rest size frame fields f f0 g g0 s r ∙ sym last)
 
+row_passes : (row : TableRow) (rows : List TableRow) → first_failing (row ∷ rows) ≡ None → (row.fails ≡ false) × (first_failing rows ≡ None)
+row_passes row rows kept =
+    (elim row.fails as (λ b. cond b (Some row.finding) (first_failing rows) ≡ None → (b ≡ false) × (first_failing rows ≡ None)) [
+      | true ↦ λ e. cc
+      | false ↦ λ e. (refl, e)
+    ]) kept
+
+fifth_kept : (a b c d e : TableRow) → first_failing (a ∷ b ∷ c ∷ d ∷ e ∷ []) ≡ None → e.fails ≡ false
+fifth_kept a b c d e kept =
+    (row_passes e [] (row_passes d (e ∷ []) (row_passes c (d ∷ e ∷ []) (row_passes b (c ∷ d ∷ e ∷ []) (row_passes a (b ∷ c ∷ d ∷ e ∷ []) kept).1).1).1).1).0
+
+-- where the size keeps its rule, the whole stripes are as many as num_stripes says
+frame_size : (at : At) (key : Key) (bytes : List ℕ) → first_failing (frame_rows at key bytes) ≡ None → length bytes ≡ 48 + 32 * field 2 bytes 44
+unfolding frame_rows
+frame_size at key bytes kept =
+    let last : not (length bytes == 48 + 32 * field 2 bytes 44) ≡ false = fifth_kept
+    (listed_rule at key)
+    (item_rule at key (not (key.objectid == 256)) I 2 0)
+    (item_rule at key (not (is_multiple key.offset)) I 2 0)
+    (item_rule at key (nat_lt (length bytes) 48) I 1 (length bytes))
+    (item_rule at key (not (length bytes == 48 + 32 * field 2 bytes 44)) I 1 (length bytes)) kept in
+    eqb-true _ _ (not-false _ last)
+
+counted : (bytes : List ℕ) (n : ℕ) → length bytes ≡ 48 + 32 * n → stripe_list n (drop 48 bytes) ≡ stripes_of (drop 48 bytes)
+counted bytes n size =
+    let count : n ≡ length (drop 48 bytes) / 32 = omega (arith, length-drop 48 bytes) in
+    ap (λ m. stripe_list m (drop 48 bytes)) count
+
 -- the fields, where all parts are kept
 pub row_kept : (at : At) (key : Key) (bytes rest : List ℕ) (size class : ℕ) (frame fields stripes : Option Finding) → frame ≡ first_failing (frame_rows at key bytes) → frame ≡ None → fields ≡ first_failing (field_rows at key bytes) → fields ≡ None → size ≡ field 8 bytes 0 → class ≡ field 8 bytes 24 → rest ≡ drop 48 bytes → stripes ≡ first_failing (stripe_rows at key size 48 (stripes_of rest)) → stripes ≡ None → chunk_row at key bytes ≡ Ok (record { key = key; length = size; class = class; stripes = stripes_of rest })
 unfolding chunk_row
 row_kept at key bytes rest size class frame fields stripes f f0 g g0 s k r last last0 =
     ap (λ o. finding_or o (chunk_fields key bytes)) (three at key bytes rest size frame fields f f0 g g0 s r ∙ sym last ∙ last0)
-    ∙ rw (s, k, r) refl
+    ∙ rw (s, k, r) (ap (λ x. Ok (record { key = key; length = field 8 bytes 0; class = field 8 bytes 24; stripes = x })) (counted bytes (field 2 bytes 44) (frame_size at key bytes (sym f ∙ f0))))
 
 -- all bytes behind a place
 pub all_behind : (n : ℕ) (bytes : List ℕ) → take (length bytes - n) (drop n bytes) ≡ drop n bytes

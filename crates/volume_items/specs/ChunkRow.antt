@@ -76,13 +76,13 @@ abbrev pub chunk_rows : At → Key → List ℕ → List TableRow
 chunk_rows at key bytes =
     frame_rows at key bytes ++ (field_rows at key bytes ++ stripe_rows at key (field 8 bytes 0) 48 (stripes_of (drop 48 bytes)))
 
--- the fields of a chunk item
+-- the fields of a chunk item; num_stripes says how many stripes there are
 abbrev pub chunk_fields : Key → List ℕ → ChunkFields
 chunk_fields key bytes = record {
   key = key;
   length = field 8 bytes 0;
   class = field 8 bytes 24;
-  stripes = stripes_of (drop 48 bytes);
+  stripes = stripe_list (field 2 bytes 44) (drop 48 bytes);
 }
 
 -- what a chunk item says at its place: the finding of the first rule that fails, else its fields
