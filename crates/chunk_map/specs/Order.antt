@@ -1,4 +1,4 @@
--- What a chunk map keeps of its two lists. Only the map's own functions need it.
+-- What a chunk map keeps of its lists. Only the map's own functions need it.
 use Rattle.std.specs.Prelude.{◌≡◌, ℕ, ◌+◌, ◌≤◌, Bool, true, false, ◌||◌, nat_le, List, [], ◌∷◌, length, Option, Some, None, if◌then◌else◌}
 use Rattle.std.specs.Option.{IfSome}
 use Rattle.std.specs.List.{list_any, All, AllAdjacentBelow, Contains}

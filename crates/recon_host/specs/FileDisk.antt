@@ -1,4 +1,4 @@
--- What a file that is a disk has: whether it could be opened, its length, how often it was read, how often a call failed.
+-- A file that is a disk: whether it could be opened, its length, how often it was read, how often a call failed.
 use Rattle.std.specs.Prelude.{ℕ, Bool, is_some}
 use Rattle.recon_host.specs.declared.file_disk.FileDisk.{FileDisk}
 
