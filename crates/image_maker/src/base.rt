@@ -90,8 +90,8 @@ pub const BASE_BLOCKS: [TreeBlock; 6] = [
     },
 ];
 
-// The bytes that are used in each chunk.
-const USED: [u64; 3] = [16384, 81920, 0];
+/// The bytes that are used in each chunk of the base image.
+pub const BASE_USED: [u64; 3] = [16384, 81920, 0];
 
 /// An empty leaf that is to be the one block of a tree.
 pub fn leaf_of(alloc: Global, block: &TreeBlock) -> LeafMaker
@@ -131,22 +131,35 @@ pub fn root_tree(alloc: Global, at: &TreeBlock, trees: &[TreeBlock]) -> Result<B
     ensures { IfOk result (λ b. length b ≡ 16384) }
 {
     let mut leaf = leaf_of(alloc, at);
-    for block in trees {
-        let dirid = if block.tree == 5 { 256 } else { 0 };
-        let item = root_item(alloc, block.generation, dirid, block.address, 0)?;
-        add(&mut leaf, block.tree, 132, 0, &item)?;
-    }
+    add_roots(alloc, &mut leaf, trees)?;
     leaf.finish()
 }
 
+/// Appends the root items of these trees.
+pub fn add_roots(alloc: Global, leaf: &mut LeafMaker, trees: &[TreeBlock]) -> Result<(), NoMemory>
+    ensures { nodesize_of leaf.new ≡ nodesize_of leaf.old }
+{
+    for block in trees {
+        let dirid = if block.tree == 5 { 256 } else { 0 };
+        let item = root_item(alloc, block.generation, dirid, block.address, 0)?;
+        add(leaf, block.tree, 132, 0, &item)?;
+    }
+    Ok(())
+}
+
 /// The extent tree's leaf, with the items of these blocks, which ascend within each chunk, and of the
-/// base image's block groups.
-pub fn extent_tree(alloc: Global, at: &TreeBlock, blocks: &[TreeBlock]) -> Result<Bytes, NoMemory>
+/// base image's block groups, in each of which so many bytes are used.
+pub fn extent_tree(
+    alloc: Global,
+    at: &TreeBlock,
+    blocks: &[TreeBlock],
+    used: &[u64; 3],
+) -> Result<Bytes, NoMemory>
     ensures { IfOk result (λ b. length b ≡ 16384) }
 {
     let mut leaf = leaf_of(alloc, at);
     let mut low = 0;
-    for (chunk, used) in BASE_CHUNKS.iter().zip(USED.iter()) {
+    for (chunk, used) in BASE_CHUNKS.iter().zip(used.iter()) {
         add_blocks(alloc, &mut leaf, blocks, low, chunk.start)?;
         let item = group_item(alloc, *used, chunk.class)?;
         add(&mut leaf, chunk.start, 192, chunk.length, &item)?;
@@ -194,14 +207,22 @@ fn device_tree(alloc: Global, at: &TreeBlock) -> Result<Bytes, NoMemory>
     ensures { IfOk result (λ b. length b ≡ 16384) }
 {
     let mut leaf = leaf_of(alloc, at);
+    add_dev_extents(alloc, &mut leaf)?;
+    leaf.finish()
+}
+
+/// Appends the DEV_EXTENTs of the base image's chunks.
+pub fn add_dev_extents(alloc: Global, leaf: &mut LeafMaker) -> Result<(), NoMemory>
+    ensures { nodesize_of leaf.new ≡ nodesize_of leaf.old }
+{
     for chunk in &BASE_CHUNKS {
         let item = dev_extent_item(alloc, chunk)?;
-        add(&mut leaf, 1, 204, chunk.first, &item)?;
+        add(leaf, 1, 204, chunk.first, &item)?;
         if let Some(second) = chunk.second {
-            add(&mut leaf, 1, 204, second, &item)?;
+            add(leaf, 1, 204, second, &item)?;
         }
     }
-    leaf.finish()
+    Ok(())
 }
 
 /// Appends the top directory's INODE_ITEM, with names of so many bytes in it, and its INODE_REF.
@@ -214,8 +235,8 @@ pub fn add_top_directory(alloc: Global, leaf: &mut LeafMaker, size: u64) -> Resu
     add(leaf, 256, 12, 256, &name)
 }
 
-// The file tree's leaf.
-fn file_tree(alloc: Global, at: &TreeBlock) -> Result<Bytes, NoMemory>
+/// The leaf of a tree of files, with an empty top directory.
+pub fn file_tree(alloc: Global, at: &TreeBlock) -> Result<Bytes, NoMemory>
     ensures { IfOk result (λ b. length b ≡ 16384) }
 {
     let mut leaf = leaf_of(alloc, at);
@@ -231,8 +252,8 @@ fn put(image: &mut [u8], at: usize, block: &Bytes)
     image[at..at + block.len()].copy_from_slice(block);
 }
 
-// Puts both copies of a block of the metadata chunk.
-fn put_copies(image: &mut [u8], at: usize, block: &Bytes)
+/// Puts both copies of a block of the metadata chunk.
+pub fn put_copies(image: &mut [u8], at: usize, block: &Bytes)
     requires { at + 8388608 + length block.now ≤ length image.old }
 {
     put(image, at, block);
@@ -252,7 +273,7 @@ pub fn base_image(alloc: Global) -> Result<Bytes, NoMemory>
     put_copies(
         &mut image,
         5_259_264,
-        &extent_tree(alloc, &extents, &BASE_BLOCKS)?,
+        &extent_tree(alloc, &extents, &BASE_BLOCKS, &BASE_USED)?,
     );
     put_copies(&mut image, 5_275_648, &device_tree(alloc, &devices)?);
     put_copies(&mut image, 5_292_032, &file_tree(alloc, &files)?);

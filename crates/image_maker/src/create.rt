@@ -2,8 +2,9 @@
 
 ghost use Rattle.std.specs.Prelude.{◌≡◌, ◌≤◌, length, IfOk};
 
-use crate::base::{TreeBlock, add, add_top_directory, extent_tree, leaf_of, root_tree};
+use crate::base::{BASE_USED, TreeBlock, add, add_top_directory, extent_tree, leaf_of, root_tree};
 use crate::items::{dir_entry, inode_item, inode_ref_item};
+use crate::leaf_item::LeafItem;
 use crate::superblock::superblock_of;
 use recon_crc::name_hash;
 use std::alloc::Global;
@@ -47,8 +48,8 @@ const SUMS: TreeBlock = TreeBlock {
     generation: 1,
 };
 
-// The file tree's leaf with the file `hello` in the top directory.
-fn file_tree(alloc: Global) -> Result<Bytes, NoMemory> {
+// The file tree's leaf with the file `hello` in the top directory, and with these items behind the file's.
+fn file_tree(alloc: Global, more: &[LeafItem]) -> Result<Bytes, NoMemory> {
     let mut leaf = leaf_of(alloc, &FILES);
     add_top_directory(alloc, &mut leaf, 10)?;
     let name = b"hello";
@@ -64,6 +65,9 @@ fn file_tree(alloc: Global) -> Result<Bytes, NoMemory> {
     add(&mut leaf, 257, 1, 0, &inode)?;
     let link = inode_ref_item(alloc, 2, name)?;
     add(&mut leaf, 257, 12, 256, &link)?;
+    for item in more {
+        leaf.push(item.key, item.bytes.as_slice())?;
+    }
     leaf.finish()
 }
 
@@ -79,9 +83,14 @@ fn write_of(alloc: Global, at: u64, bytes: &[u8]) -> Result<Event, NoMemory> {
 /// The writes that make an empty file `hello` in the top directory of the base image, as one commit of
 /// generation 2: three new blocks, their second copies, and the superblock.
 pub fn create_writes(alloc: Global) -> Result<Vec<Event>, NoMemory> {
-    let files = file_tree(alloc)?;
+    create_writes_with(alloc, &[])
+}
+
+/// The same writes with further items behind those of the file, the inode 257, in the file tree's leaf.
+pub fn create_writes_with(alloc: Global, more: &[LeafItem]) -> Result<Vec<Event>, NoMemory> {
+    let files = file_tree(alloc, more)?;
     let blocks = [CHUNKS, DEVICES, SUMS, FILES, EXTENTS, ROOT];
-    let extents = extent_tree(alloc, &EXTENTS, &blocks)?;
+    let extents = extent_tree(alloc, &EXTENTS, &blocks, &BASE_USED)?;
     let roots = root_tree(alloc, &ROOT, &[EXTENTS, DEVICES, FILES, SUMS])?;
     let mut events = Vec::new(alloc);
     for copy in [0, 8_388_608] {

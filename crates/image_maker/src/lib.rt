@@ -1,5 +1,5 @@
 //! Makes tree blocks and whole images for tests: leaves and nodes with their headers and checksums,
-//! the items of each tree, the base image of 32 MiB, and the writes that make a file in it.
+//! the items of each tree, the base image of 32 MiB, a wider one, and the writes that make a file in it.
 #![tactic(auto)]
 
 mod base;
@@ -11,10 +11,11 @@ mod leaf;
 mod leaf_item;
 mod node;
 mod superblock;
+mod wider;
 
 pub use base::{BASE_BLOCKS, BASE_CHUNKS, BASE_LENGTH, NODESIZE, TreeBlock, base_image};
 pub use block::{FSID, with_checksum};
-pub use create::create_writes;
+pub use create::{create_writes, create_writes_with};
 pub use items::{
     ChunkAt, chunk_item, dev_extent_item, device_item, dir_entry, extent_item_of_block, group_item,
     inode_item, inode_ref_item, root_item,
@@ -23,6 +24,7 @@ pub use leaf::LeafMaker;
 pub use leaf_item::LeafItem;
 pub use node::{ChildPointer, node_block};
 pub use superblock::{base_superblock, superblock_of};
+pub use wider::wider_image;
 
 #[cfg(test)]
 mod tests;

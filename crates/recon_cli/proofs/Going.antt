@@ -13,6 +13,7 @@ use Rattle.trace_reader.specs.declared.fault.TraceFault.{TraceFault}
 use Rattle.trace_reader.specs.declared.fault.TraceFault.TheVariants.{BadHeader, BadTag, BadLength, Truncated, ReadFault, NoMemory, TooMany}
 use Rattle.trace_reader.specs.declared.reader.Item.{Item}
 use Rattle.trace_reader.specs.declared.reader.Item.TheVariants.{Event as an_event, End as the_end}
+use Rattle.recon_disk.specs.Keeping.{IsCounted}
 use Rattle.trace_reader.specs.Reader.{ReaderState}
 use Rattle.trace_reader.specs.Reading.{HasReadCause, IsAfter, first_state as reader_start, front_of, after_event, TakesEvent, TakesEnd, MeetsEnding, Tells}
 use Rattle.trace_reader.specs.Trace.{HasLength, IsBytes, IsTrace, IsRecords, HeaderEnds, Ending, End, Fault, header_bytes, spelling_of}
@@ -21,7 +22,7 @@ use Rattle.recon_cli.specs.declared.halt.Halt.{Halt}
 use Rattle.recon_cli.specs.declared.halt.Halt.TheVariants.{Device, Trace, Lines, Memory}
 use Rattle.recon_cli.specs.declared.tally.Tally.{Tally}
 use Rattle.recon_cli.specs.Outcome.{Outcome, after_text, answer_text, ended, is_settle, no_tally, outcome_from, past_end, tally_after}
-use Rattle.recon_cli.specs.Run.{ComesOut, EndsPast, HasFaultPrintCause, HasHaltCause, Rose, faults_are, GoesOn, IsNoRead, IsOfBytes, IsOutcomeStatus, Replays, record_limit}
+use Rattle.recon_cli.specs.Run.{ComesOut, EndsPast, HasFaultPrintCause, HasHaltCause, faults_are, GoesOn, IsNoRead, IsOfBytes, IsOutcomeStatus, Replays, record_limit}
 
 -- the events and the ending of what is left at the reader
 abbrev pub FromHere : ReaderState → List ℕ → List Event → Ending → Type 0
@@ -318,8 +319,8 @@ pub fault_cause : (f : TraceFault) (r : Result ℕ Halt) (d d' s0 s s' k0 k k' :
 fault_cause f (Ok status) d d' s0 s s' k0 k k' disk source sink read print = same_faults d d' s0 s' k0 k' disk (no_read f s s' print.0 read ∙ source) (print.1 ∙ sink)
 fault_cause f (Err Device) d d' s0 s s' k0 k k' disk source sink read print = absurd print
 fault_cause f (Err Trace) d d' s0 s s' k0 k k' disk source sink read print =
-    (disk, subst (λ b. Rose b s') source (subst (λ e. HasReadCause {T = Item} s s' (Err e)) print.0 read), print.1 ∙ sink)
-fault_cause f (Err Lines) d d' s0 s s' k0 k k' disk source sink read print = (disk, no_read f s s' print.0 read ∙ source, subst (λ b. Rose b k') sink print.1)
+    (disk, subst (λ b. IsCounted true b s') source (subst (λ e. HasReadCause {T = Item} s s' (Err e)) print.0 read), print.1 ∙ sink)
+fault_cause f (Err Lines) d d' s0 s s' k0 k k' disk source sink read print = (disk, no_read f s s' print.0 read ∙ source, subst (λ b. IsCounted true b k') sink print.1)
 fault_cause f (Err Memory) d d' s0 s s' k0 k k' disk source sink read print = same_faults d d' s0 s' k0 k' disk (no_read f s s' print.0 read ∙ source) (print.1 ∙ sink)
 
 pub three_is : (status : ℕ) → status ≡ 3 → IsOutcomeStatus status

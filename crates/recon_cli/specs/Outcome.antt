@@ -55,7 +55,8 @@ is_settle (Fetch at len) = false
 abbrev pub tally_after : Tally → Answer → Tally
 tally_after t Held = t
 tally_after t (Fetched bytes) = t
-tally_after t (Passed generation blocks hot) = record { passed = t.passed + 1; rejected = t.rejected }
+tally_after t (Passed generation blocks hot) =
+    record { passed = t.passed + 1; rejected = t.rejected }
 tally_after t (Rejected finding) = record { passed = t.passed; rejected = t.rejected + 1 }
 
 -- the line of an answer to an event that begins at a byte and may be a settle; a write that waits has
@@ -101,7 +102,8 @@ outcome_from s k t (event ∷ events) ending =
     else after_text
     (answer_text t (begin_of event) (is_settle event) (machine_step s event).answer)
     (length (spelling_of event))
-    (outcome_from (machine_step s event).after (k + 1) (tally_after t (machine_step s event).answer) events ending)
+    (outcome_from (machine_step s event).after (k + 1) (tally_after t (machine_step s event).answer)
+    events ending)
 
 -- no event was judged yet
 abbrev pub no_tally : Tally
@@ -116,7 +118,8 @@ replay_by (Found finding) image events ending = record {
   taken = Some 0;
 }
 replay_by (Accept generation) image events ending =
-    after_text (text_line (Image generation)) 16 (outcome_from (first_state image) 0 no_tally events ending)
+    after_text (text_line (Image generation)) 16
+    (outcome_from (first_state image) 0 no_tally events ending)
 
 -- the outcome of a replay of a trace, of these events and this ending, over an image
 abbrev pub replay_outcome : List ℕ → List Event → Ending → Outcome

@@ -1,6 +1,9 @@
 -- What a run of the program says of the objects that it is handed.
-use Rattle.std.specs.Prelude.{ℕ, ◌≡◌, ◌-◌, ◌^◌, ◌<◌, ◌≤◌, ◌⊎◌, true, false, nat_lt, List, [], ◌++◌, length, drop, Option, Some, None, IfSome, Result, Ok, Err}
-use Rattle.recon_disk.specs.Outside.{counted}
+use Rattle.std.specs.Prelude.{ℕ, ◌≡◌, ◌==◌, ◌-◌, ◌^◌, ◌<◌, ◌⊎◌, true, false, nat_lt, List, [], ◌++◌, length, drop, Option, Some, None, IfSome, Result, Ok, Err}
+use Rattle.recon_disk.specs.declared.disk.Disk.{Ghosts as DiskGhosts}
+use Rattle.recon_disk.specs.declared.source.Source.{Ghosts as SourceGhosts}
+use Rattle.recon_disk.specs.declared.sink.Sink.{Ghosts as SinkGhosts}
+use Rattle.recon_disk.specs.Keeping.{IsCounted}
 use Rattle.records.specs.FullCheck.{full_check}
 use Rattle.verdict.specs.declared.machine.Event.{Event}
 use Rattle.recon_core.specs.declared.checker.Checker.{Checker}
@@ -15,17 +18,19 @@ use Rattle.trace_reader.specs.declared.fault.TraceFault.TheVariants.{ReadFault, 
 use Rattle.recon_cli.specs.declared.halt.Halt.{Halt}
 use Rattle.recon_cli.specs.declared.halt.Halt.TheVariants.{Device, Trace, Lines, Memory}
 
--- The check of an image: the sink has gained exactly the line of what the full check says, the status is that
--- of what it says, and the disk holds the image.
-pub record ChecksAs (image kept : List ℕ) (status : ℕ) (disk sink : Option (List ℕ)) : Type 0 where
+-- The check of an image: the sink has gained exactly the line of what the full check says, the status is
+-- that of what it says, and the disk holds the image.
+pub record ChecksAs (image kept : List ℕ) (status : ℕ) (disk sink : Option (List ℕ))
+    : Type 0 where
   pub text : sink ≡ Some (kept ++ verdict_text (full_check image))
   pub status_is : status ≡ verdict_status (full_check image)
   pub device : disk ≡ Some image
 
--- the statuses of a check that came to its line, and of one that did not: 4 a call of the disk, 6 a write of
--- the line, 7 memory
+-- the statuses of a check that came to its line, and of one that did not: 4 a call of the disk, 6 a write
+-- of the line, 7 memory
 abbrev pub IsCheckStatus : ℕ → Type 0
-IsCheckStatus status = (status ≡ 0) ⊎ (status ≡ 1) ⊎ (status ≡ 4) ⊎ (status ≡ 6) ⊎ (status ≡ 7)
+IsCheckStatus status =
+    (status ≡ 0) ⊎ (status ≡ 1) ⊎ (status ≡ 4) ⊎ (status ≡ 6) ⊎ (status ≡ 7)
 
 -- the most records that a trace may have before its end tag
 abbrev pub record_limit : ℕ
@@ -33,7 +38,8 @@ record_limit = 4294967296
 
 -- The sink has gained exactly the outcome's text, the status is the outcome's, the disk holds exactly its
 -- device, and the source was taken exactly as far as the outcome says.
-pub record ComesOut (o : Outcome) (trace kept : List ℕ) (status : ℕ) (disk left sink : Option (List ℕ)) : Type 0 where
+pub record ComesOut (o : Outcome) (trace kept : List ℕ) (status : ℕ)
+    (disk left sink : Option (List ℕ)) : Type 0 where
   pub text : sink ≡ Some (kept ++ o.text)
   pub status_is : status ≡ o.status
   pub device : disk ≡ Some o.device
@@ -48,17 +54,22 @@ pub record Faults : Type 0 where
 abbrev pub faults_are : ℕ → ℕ → ℕ → Faults
 faults_are disk source sink = record { disk = disk; source = source; sink = sink }
 
--- a count rose, or stands at its greatest value
-abbrev pub Rose : ℕ → ℕ → Type 0
-Rose before now = (before ≤ now) × (counted before ≤ now)
+-- the counts of faults of these three objects
+abbrev pub faults_of : {D S K : Type 0} → DiskGhosts D → SourceGhosts S → SinkGhosts K
+    → D → S → K → Faults
+faults_of disks sources sinks disk trace out =
+    faults_are (disks.faults disk) (sources.faults trace) (sinks.faults out)
 
 -- A run stops early for a fault of an object only where that object's count rose, and leaves the counts
 -- of the others. With every other end it leaves all three.
 abbrev pub HasHaltCause : {T : Type 0} → Faults → Faults → Result T Halt → Type 0
 HasHaltCause before now (Ok value) = now ≡ before
-HasHaltCause before now (Err Device) = Rose before.disk now.disk × (now.source ≡ before.source) × (now.sink ≡ before.sink)
-HasHaltCause before now (Err Trace) = (now.disk ≡ before.disk) × Rose before.source now.source × (now.sink ≡ before.sink)
-HasHaltCause before now (Err Lines) = (now.disk ≡ before.disk) × (now.source ≡ before.source) × Rose before.sink now.sink
+HasHaltCause before now (Err Device) =
+    IsCounted true before.disk now.disk × (now.source ≡ before.source) × (now.sink ≡ before.sink)
+HasHaltCause before now (Err Trace) =
+    (now.disk ≡ before.disk) × IsCounted true before.source now.source × (now.sink ≡ before.sink)
+HasHaltCause before now (Err Lines) =
+    (now.disk ≡ before.disk) × (now.source ≡ before.source) × IsCounted true before.sink now.sink
 HasHaltCause before now (Err Memory) = now ≡ before
 
 -- no count of faults rose, and none stands at its greatest value
@@ -70,28 +81,34 @@ pub record HadNoFault (before now : Faults) : Type 0 where
 
 -- the same by the status of the run
 pub record HasStatusCause (before now : Faults) (status : ℕ) : Type 0 where
-  pub disk : (status ≡ 4 → Rose before.disk now.disk) × ((status ≡ 4 → ⊥) → now.disk ≡ before.disk)
-  pub source : (status ≡ 5 → Rose before.source now.source) × ((status ≡ 5 → ⊥) → now.source ≡ before.source)
-  pub sink : (status ≡ 6 → Rose before.sink now.sink) × ((status ≡ 6 → ⊥) → now.sink ≡ before.sink)
+  pub disk : IsCounted (status == 4) before.disk now.disk
+  pub source : IsCounted (status == 5) before.source now.source
+  pub sink : IsCounted (status == 6) before.sink now.sink
 
 -- What one event did: it goes on as the machine's step says, with the line of the answer printed, or the
 -- event passes the end of the device, which is printed, and the run ends with status 3.
-pub record GoesOn (s : MachineState) (t : Tally) (event : Event) (kept : List ℕ) (checker : Checker) (new : Tally) (disk sink : Option (List ℕ)) : Type 0 where
+pub record GoesOn (s : MachineState) (t : Tally) (event : Event) (kept : List ℕ)
+    (checker : Checker) (new : Tally) (disk sink : Option (List ℕ)) : Type 0 where
   pub inside : nat_lt (length s.image) (end_of event) ≡ false
   pub stands : StandsFor checker (machine_step s event).after
   pub image : disk ≡ Some (machine_step s event).after.image
   pub tally : new ≡ tally_after t (machine_step s event).answer
-  pub printed : sink ≡ Some (kept ++ answer_text t (begin_of event) (is_settle event) (machine_step s event).answer)
+  pub printed : sink ≡ Some
+      (kept ++ answer_text t (begin_of event) (is_settle event) (machine_step s event).answer)
 
-pub record EndsPast (s : MachineState) (place : ℕ) (event : Event) (kept : List ℕ) (status : ℕ) (disk sink : Option (List ℕ)) : Type 0 where
+pub record EndsPast (s : MachineState) (place : ℕ) (event : Event) (kept : List ℕ)
+    (status : ℕ) (disk sink : Option (List ℕ)) : Type 0 where
   pub outside : nat_lt (length s.image) (end_of event) ≡ true
   pub status_is : status ≡ 3
   pub image : disk ≡ Some s.image
   pub printed : sink ≡ Some (kept ++ (past_end s place event).text)
 
-abbrev pub Turns : MachineState → ℕ → Tally → Event → List ℕ → Option ℕ → Checker → Tally → Option (List ℕ) → Option (List ℕ) → Type 0
-Turns s place t event kept None checker new disk sink = GoesOn s t event kept checker new disk sink
-Turns s place t event kept (Some status) checker new disk sink = EndsPast s place event kept status disk sink
+abbrev pub Turns : MachineState → ℕ → Tally → Event → List ℕ
+    → Option ℕ → Checker → Tally → Option (List ℕ) → Option (List ℕ) → Type 0
+Turns s place t event kept None checker new disk sink =
+    GoesOn s t event kept checker new disk sink
+Turns s place t event kept (Some status) checker new disk sink =
+    EndsPast s place event kept status disk sink
 
 -- a status that an outcome may have
 abbrev pub IsOutcomeStatus : ℕ → Type 0
@@ -102,15 +119,15 @@ abbrev pub HasPrintCause : {T : Type 0} → ℕ → ℕ → Result T Halt → Ty
 HasPrintCause before now (Ok value) = now ≡ before
 HasPrintCause before now (Err Device) = ⊥
 HasPrintCause before now (Err Trace) = ⊥
-HasPrintCause before now (Err Lines) = Rose before now
+HasPrintCause before now (Err Lines) = IsCounted true before now
 HasPrintCause before now (Err Memory) = now ≡ before
 
 -- the cause of what one event gives, by the counts of the disk and of the sink
 abbrev pub HasTurnCause : {T : Type 0} → ℕ → ℕ → ℕ → ℕ → Result T Halt → Type 0
 HasTurnCause disk disk' sink sink' (Ok value) = (disk' ≡ disk) × (sink' ≡ sink)
-HasTurnCause disk disk' sink sink' (Err Device) = Rose disk disk' × (sink' ≡ sink)
+HasTurnCause disk disk' sink sink' (Err Device) = IsCounted true disk disk' × (sink' ≡ sink)
 HasTurnCause disk disk' sink sink' (Err Trace) = ⊥
-HasTurnCause disk disk' sink sink' (Err Lines) = (disk' ≡ disk) × Rose sink sink'
+HasTurnCause disk disk' sink sink' (Err Lines) = (disk' ≡ disk) × IsCounted true sink sink'
 HasTurnCause disk disk' sink sink' (Err Memory) = (disk' ≡ disk) × (sink' ≡ sink)
 
 -- the trace's bytes are at fault, and not a read of them or want of memory
@@ -129,19 +146,22 @@ abbrev pub HasFaultPrintCause : {T : Type 0} → TraceFault → ℕ → ℕ → 
 HasFaultPrintCause fault before now (Ok value) = IsNoRead fault × (now ≡ before)
 HasFaultPrintCause fault before now (Err Device) = ⊥
 HasFaultPrintCause fault before now (Err Trace) = (fault ≡ ReadFault) × (now ≡ before)
-HasFaultPrintCause fault before now (Err Lines) = IsNoRead fault × Rose before now
+HasFaultPrintCause fault before now (Err Lines) = IsNoRead fault × IsCounted true before now
 HasFaultPrintCause fault before now (Err Memory) = IsNoRead fault × (now ≡ before)
 
 -- A replay of these bytes over the state comes out as the outcome of the events that they spell, and of
 -- their ending, says.
-pub record Replays (first : MachineState) (bytes kept : List ℕ) (status : ℕ) (disk left sink : Option (List ℕ)) : Type 0 where
+pub record Replays (first : MachineState) (bytes kept : List ℕ) (status : ℕ)
+    (disk left sink : Option (List ℕ)) : Type 0 where
   pub events : List Event
   pub ending : Ending
   pub spelled : IsTrace record_limit bytes events ending
-  pub comes : ComesOut (after_text [] 16 (outcome_from first 0 no_tally events ending)) bytes kept status disk left sink
+  pub comes : ComesOut (after_text [] 16 (outcome_from first 0 no_tally events ending))
+      bytes kept status disk left sink
 
 -- the same as an outcome of a replay over the image, for the events and the ending that the bytes spell
-abbrev pub ReplaysAs : List ℕ → List ℕ → List ℕ → ℕ → Option (List ℕ) → Option (List ℕ) → Option (List ℕ) → Type 0
+abbrev pub ReplaysAs : List ℕ → List ℕ → List ℕ → ℕ
+    → Option (List ℕ) → Option (List ℕ) → Option (List ℕ) → Type 0
 ReplaysAs image bytes kept status disk left sink =
     (events : List Event) (ending : Ending) → IsTrace record_limit bytes events ending
     → ComesOut (replay_outcome image events ending) bytes kept status disk left sink

@@ -15,7 +15,8 @@ use write_cache::WriteCache;
 // Prints that the image is accepted.
 fn accept<K: Sink>(alloc: Global, generation: u64, out: &mut K) -> Result<u8, Halt>
     ensures status { IfOk result (λ status. status ≡ 0) }
-    ensures printed { OnOk result (K.kept out.new ≡ option_map (λ kept. kept ++ text_line (Line.Image generation)) (K.kept out.old)) }
+    ensures printed { OnOk result (K.kept out.new ≡
+        option_map (λ kept. kept ++ text_line (Line.Image generation)) (K.kept out.old)) }
     ensures cause { HasPrintCause (K.faults out.old) (K.faults out.new) result }
 {
     print(alloc, out, &Line::Image { generation })?;
@@ -24,11 +25,13 @@ fn accept<K: Sink>(alloc: Global, generation: u64, out: &mut K) -> Result<u8, Ha
 
 // Checks the disk's image and prints what is said of it. The disk's bytes stay, and no trace is asked for.
 pub fn check<D: Disk, K: Sink>(alloc: Global, disk: &mut D, out: &mut K) -> Result<u8, Halt>
-    ensures outcome { (image kept : List ℕ) → D.bytes disk.old ≡ Some image → K.kept out.old ≡ Some kept →
+    ensures outcome { (image kept : List ℕ) →
+        D.bytes disk.old ≡ Some image → K.kept out.old ≡ Some kept →
         IfOk result (λ status. ChecksAs image kept status (D.bytes disk.new) (K.kept out.new)) }
     ensures status { IfOk result (λ status. (status ≡ 0) ⊎ (status ≡ 1)) }
     ensures bytes { D.bytes disk.new ≡ D.bytes disk.old }
-    ensures cause { HasTurnCause (D.faults disk.old) (D.faults disk.new) (K.faults out.old) (K.faults out.new) result }
+    ensures cause { HasTurnCause (D.faults disk.old) (D.faults disk.new)
+        (K.faults out.old) (K.faults out.new) result }
 {
     match judge(alloc, disk, &WriteCache::new(alloc)) {
         Ok(Verdict::Accept { generation }) => accept(alloc, generation, out),

@@ -12,3 +12,14 @@ mod turn;
 mod words;
 
 pub use run::recon_run;
+
+#[cfg(test)]
+mod commit_tests;
+#[cfg(test)]
+mod fixtures;
+#[cfg(test)]
+mod image_tests;
+#[cfg(test)]
+mod machine_tests;
+#[cfg(test)]
+mod tests;

@@ -13,7 +13,8 @@ use verdict::Finding;
 // Prints a line in one write.
 pub fn print<K: Sink>(alloc: Global, out: &mut K, line: &Line) -> Result<(), Halt>
     requires { IsPrintable line.now }
-    ensures printed { OnOk result (K.kept out.new ≡ option_map (λ kept. kept ++ text_line line.now) (K.kept out.old)) }
+    ensures printed { OnOk result (K.kept out.new ≡
+        option_map (λ kept. kept ++ text_line line.now) (K.kept out.old)) }
     ensures cause { HasPrintCause (K.faults out.old) (K.faults out.new) result }
 {
     let Ok(text) = text_of(alloc, line) else {
@@ -28,7 +29,8 @@ pub fn print<K: Sink>(alloc: Global, out: &mut K, line: &Line) -> Result<(), Hal
 // Prints that the image is refused.
 pub fn refuse<K: Sink>(alloc: Global, finding: Finding, out: &mut K) -> Result<u8, Halt>
     ensures status { IfOk result (λ status. status ≡ 1) }
-    ensures printed { OnOk result (K.kept out.new ≡ option_map (λ kept. kept ++ text_line (Line.Refused finding)) (K.kept out.old)) }
+    ensures printed { OnOk result (K.kept out.new ≡
+        option_map (λ kept. kept ++ text_line (Line.Refused finding)) (K.kept out.old)) }
     ensures cause { HasPrintCause (K.faults out.old) (K.faults out.new) result }
 {
     print(alloc, out, &Line::Refused(finding))?;

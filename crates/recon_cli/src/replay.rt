@@ -1,13 +1,39 @@
 //! The replay of a trace.
 
-ghost use Rattle.std.specs.Prelude.{ℕ, ◌≡◌, ◌==◌, if◌then◌else◌, ◌+◌, ◌<◌, ◌≤◌, ◌++◌, false, List, Some, Ok, IfOk, OnOk, IfSome, option_map};
+ghost use Rattle.std.specs.Prelude.{
+  ℕ,
+  ◌≡◌,
+  ◌==◌,
+  if◌then◌else◌,
+  ◌+◌,
+  ◌<◌,
+  ◌≤◌,
+  ◌++◌,
+  false,
+  List,
+  Some,
+  Ok,
+  IfOk,
+  OnOk,
+  IfSome,
+  option_map,
+};
 ghost use Rattle.std.specs.FinMap as map;
 ghost use Rattle.recon_core.specs.Machine.{MachineState};
 ghost use Rattle.recon_core.specs.Standing.{IsBelow, StandsFor, first_state};
 ghost use Rattle.trace_reader.specs.Trace.{IsBytes};
 ghost use Rattle.report.specs.Lines.{text_line};
 ghost use Rattle.trace_reader.specs.Fault.{fault_number};
-ghost use Rattle.recon_cli.specs.Run.{ComesOut, HasFaultPrintCause, HasHaltCause, IsOfBytes, HasPrintCause, IsOutcomeStatus, Replays, ReplaysAs, faults_are};
+ghost use Rattle.recon_cli.specs.Run.{
+  HasFaultPrintCause,
+  HasHaltCause,
+  HasPrintCause,
+  IsOfBytes,
+  IsOutcomeStatus,
+  Replays,
+  ReplaysAs,
+  faults_of,
+};
 
 use crate::halt::Halt;
 use crate::lines::{print, refuse};
@@ -27,7 +53,9 @@ const RECORD_LIMIT: u64 = 4_294_967_296;
 // Prints the summary at the end tag.
 fn print_summary<K: Sink>(alloc: Global, tally: &Tally, out: &mut K) -> Result<u8, Halt>
     ensures status { IfOk result (λ status. status ≡ (if tally.now.rejected == 0 then 0 else 1)) }
-    ensures printed { OnOk result (K.kept out.new ≡ option_map (λ kept. kept ++ text_line (Line.End tally.now.passed tally.now.rejected)) (K.kept out.old)) }
+    ensures printed { let line = Line.End tally.now.passed tally.now.rejected in
+        OnOk result (K.kept out.new ≡
+        option_map (λ kept. kept ++ text_line line) (K.kept out.old)) }
     ensures cause { HasPrintCause (K.faults out.old) (K.faults out.new) result }
 {
     print(
@@ -49,7 +77,9 @@ fn print_fault<K: Sink>(
     place: u64,
     out: &mut K,
 ) -> Result<u8, Halt>
-    ensures printed { IfOk result (λ status. (status ≡ 3) × IsOfBytes fault × (K.kept out.new ≡ option_map (λ kept. kept ++ text_line (Line.BadTrace (fault_number fault) place)) (K.kept out.old))) }
+    ensures printed { let line = Line.BadTrace (fault_number fault) place in
+        IfOk result (λ status. (status ≡ 3) × IsOfBytes fault × (K.kept out.new ≡
+        option_map (λ kept. kept ++ text_line line) (K.kept out.old))) }
     ensures cause { HasFaultPrintCause fault (K.faults out.old) (K.faults out.new) result }
 {
     match fault {
@@ -82,11 +112,14 @@ fn take_records<D: Disk, S: Source, K: Sink, L>(
     requires open { checker.old.closed ≡ false }
     requires length { checker.old.length ≡ D.len disk.old }
     requires below { IsBelow checker.old.length checker.old.cache }
-    ensures outcome { (first : MachineState) (bytes kept : List ℕ) → StandsFor checker.old first → D.bytes disk.old ≡ Some first.image →
+    ensures outcome { (first : MachineState) (bytes kept : List ℕ) →
+        StandsFor checker.old first → D.bytes disk.old ≡ Some first.image →
         IsBytes bytes → S.left trace.old ≡ Some bytes → K.kept out.old ≡ Some kept →
-        IfOk result (λ status. Replays first bytes kept status (D.bytes disk.new) (S.left trace.new) (K.kept out.new)) }
+        IfOk result (λ status. Replays first bytes kept status
+        (D.bytes disk.new) (S.left trace.new) (K.kept out.new)) }
     ensures status { IfOk result IsOutcomeStatus }
-    ensures cause { HasHaltCause (faults_are (D.faults disk.old) (S.faults trace.old) (K.faults out.old)) (faults_are (D.faults disk.new) (S.faults trace.new) (K.faults out.new)) result }
+    ensures cause { HasHaltCause (faults_of D.Disk S.Source K.Sink disk.old trace.old out.old)
+        (faults_of D.Disk S.Source K.Sink disk.new trace.new out.new) result }
 {
     let mut reader = TraceReader::new(RECORD_LIMIT);
     let mut tally = Tally {
@@ -120,11 +153,14 @@ fn replay_over<D: Disk, S: Source, K: Sink, L>(
     requires empty { checker.cache ≡ map.empty }
     requires open { checker.closed ≡ false }
     requires length { checker.length ≡ D.len disk.old }
-    ensures outcome { (image bytes kept : List ℕ) → StandsFor checker (first_state image) → D.bytes disk.old ≡ Some image →
+    ensures outcome { (image bytes kept : List ℕ) →
+        StandsFor checker (first_state image) → D.bytes disk.old ≡ Some image →
         IsBytes bytes → S.left trace.old ≡ Some bytes → K.kept out.old ≡ Some kept →
-        IfOk result (λ status. ReplaysAs image bytes kept status (D.bytes disk.new) (S.left trace.new) (K.kept out.new)) }
+        IfOk result (λ status. ReplaysAs image bytes kept status
+        (D.bytes disk.new) (S.left trace.new) (K.kept out.new)) }
     ensures status { IfOk result IsOutcomeStatus }
-    ensures cause { HasHaltCause (faults_are (D.faults disk.old) (S.faults trace.old) (K.faults out.old)) (faults_are (D.faults disk.new) (S.faults trace.new) (K.faults out.new)) result }
+    ensures cause { HasHaltCause (faults_of D.Disk S.Source K.Sink disk.old trace.old out.old)
+        (faults_of D.Disk S.Source K.Sink disk.new trace.new out.new) result }
 {
     match superblock(disk, &checker.cache) {
         Ok(Ok(sup)) => {
@@ -148,9 +184,11 @@ pub fn replay<D: Disk, S: Source, K: Sink, L>(
 ) -> Result<u8, Halt>
     ensures outcome { (image bytes kept : List ℕ) → D.bytes disk.old ≡ Some image →
         IsBytes bytes → S.left trace.old ≡ Some bytes → K.kept out.old ≡ Some kept →
-        IfOk result (λ status. ReplaysAs image bytes kept status (D.bytes disk.new) (S.left trace.new) (K.kept out.new)) }
+        IfOk result (λ status. ReplaysAs image bytes kept status
+        (D.bytes disk.new) (S.left trace.new) (K.kept out.new)) }
     ensures status { IfOk result IsOutcomeStatus }
-    ensures cause { HasHaltCause (faults_are (D.faults disk.old) (S.faults trace.old) (K.faults out.old)) (faults_are (D.faults disk.new) (S.faults trace.new) (K.faults out.new)) result }
+    ensures cause { HasHaltCause (faults_of D.Disk S.Source K.Sink disk.old trace.old out.old)
+        (faults_of D.Disk S.Source K.Sink disk.new trace.new out.new) result }
 {
     match Checker::start(alloc, disk, steps) {
         Ok(Started::Ready(checker)) => replay_over(alloc, checker, disk, trace, out, steps),

@@ -5,7 +5,16 @@ ghost use Rattle.verdict.specs.declared.machine.Event.{Event as AnEvent};
 ghost use Rattle.trace_reader.specs.Trace.{Ending, IsBytes, IsTrace};
 ghost use Rattle.recon_cli.specs.Words.{IsForm, IsNoForm};
 ghost use Rattle.recon_cli.specs.Outcome.{replay_outcome};
-ghost use Rattle.recon_cli.specs.Run.{ChecksAs, ComesOut, HadNoFault, HasStatusCause, IsCheckStatus, IsOutcomeStatus, faults_are, record_limit};
+ghost use Rattle.recon_cli.specs.Run.{
+  ChecksAs,
+  ComesOut,
+  HadNoFault,
+  HasStatusCause,
+  IsCheckStatus,
+  IsOutcomeStatus,
+  faults_of,
+  record_limit,
+};
 
 use crate::check::check;
 use crate::halt::status_of;
@@ -42,25 +51,32 @@ pub fn recon_run<D: Disk, S: Source, K: Sink, L>(
     // through exactly when the full check of the image that it would produce accepts; otherwise it is rejected
     // with that check's own finding; the device then holds the starting image with exactly the writes of what
     // was let through. So says the outcome, step by step.
-    ensures replay { IsForm Form.Replay (map string_bytes words.now) → IsOutcomeStatus result → (image bytes kept : List ℕ) →
-        D.bytes disk.old ≡ Some image → S.left trace.old ≡ Some bytes → IsBytes bytes → K.kept out.old ≡ Some kept →
+    ensures replay { IsForm Form.Replay (map string_bytes words.now) → IsOutcomeStatus result →
+        (image bytes kept : List ℕ) → D.bytes disk.old ≡ Some image →
+        S.left trace.old ≡ Some bytes → IsBytes bytes → K.kept out.old ≡ Some kept →
         (events : List AnEvent) (ending : Ending) → IsTrace record_limit bytes events ending →
-        ComesOut (replay_outcome image events ending) bytes kept result (D.bytes disk.new) (S.left trace.new) (K.kept out.new) }
+        ComesOut (replay_outcome image events ending) bytes kept result
+        (D.bytes disk.new) (S.left trace.new) (K.kept out.new) }
 
     // A check of the image prints what the full check says of it. It leaves the disk's bytes and the trace.
-    ensures check { IsForm Form.Check (map string_bytes words.now) → IsOutcomeStatus result → (image kept : List ℕ) →
-        D.bytes disk.old ≡ Some image → K.kept out.old ≡ Some kept → ChecksAs image kept result (D.bytes disk.new) (K.kept out.new) }
-    ensures checked { IsForm Form.Check (map string_bytes words.now) → IsCheckStatus result × (D.bytes disk.new ≡ D.bytes disk.old) × (trace.new ≡ trace.old) }
+    ensures check { IsForm Form.Check (map string_bytes words.now) → IsOutcomeStatus result →
+        (image kept : List ℕ) → D.bytes disk.old ≡ Some image → K.kept out.old ≡ Some kept →
+        ChecksAs image kept result (D.bytes disk.new) (K.kept out.new) }
+    ensures checked { IsForm Form.Check (map string_bytes words.now) →
+        IsCheckStatus result × (D.bytes disk.new ≡ D.bytes disk.old) × (trace.new ≡ trace.old) }
 
     // Words that are no form: nothing is read or written.
     ensures words { (result ≡ 2) ↔ IsNoForm (map string_bytes words.now) }
-    ensures unread { result ≡ 2 → (disk.new ≡ disk.old) × (trace.new ≡ trace.old) × (out.new ≡ out.old) }
+    ensures unread { result ≡ 2 →
+        (disk.new ≡ disk.old) × (trace.new ≡ trace.old) × (out.new ≡ out.old) }
 
     // A status names a fault of an object only where that object's count rose, and leaves the other counts.
-    ensures causes { HasStatusCause (faults_are (D.faults disk.old) (S.faults trace.old) (K.faults out.old)) (faults_are (D.faults disk.new) (S.faults trace.new) (K.faults out.new)) result }
+    ensures causes { HasStatusCause (faults_of D.Disk S.Source K.Sink disk.old trace.old out.old)
+        (faults_of D.Disk S.Source K.Sink disk.new trace.new out.new) result }
 
     // Where nothing failed and memory was there, the replay has come to its outcome.
-    ensures complete { HadNoFault (faults_are (D.faults disk.old) (S.faults trace.old) (K.faults out.old)) (faults_are (D.faults disk.new) (S.faults trace.new) (K.faults out.new)) →
+    ensures complete { HadNoFault (faults_of D.Disk S.Source K.Sink disk.old trace.old out.old)
+        (faults_of D.Disk S.Source K.Sink disk.new trace.new out.new) →
         IsOutcomeStatus result ⊎ ((result ≡ 2) ⊎ (result ≡ 7)) }
     ensures known { result ≤ 7 }
 {
@@ -72,7 +88,7 @@ pub fn recon_run<D: Disk, S: Source, K: Sink, L>(
         },
         Some(Form::Replay) => match replay(alloc, disk, trace, out, steps) {
             Ok(status) => status,
-            Err(halt) => status_of(halt),
+            Err(stopped) => status_of(stopped),
         },
     }
 }

@@ -1,6 +1,21 @@
 //! What one event does.
 
-ghost use Rattle.std.specs.Prelude.{ℕ, ◌≡◌, ◌+◌, ◌^◌, ◌<◌, ◌≤◌, ◌++◌, false, List, Some, IfOk, IfSome, OnOk, option_map};
+ghost use Rattle.std.specs.Prelude.{
+  ℕ,
+  ◌≡◌,
+  ◌+◌,
+  ◌^◌,
+  ◌<◌,
+  ◌≤◌,
+  ◌++◌,
+  false,
+  List,
+  Some,
+  IfOk,
+  IfSome,
+  OnOk,
+  option_map,
+};
 ghost use Rattle.verdict.specs.Events.{IsSized, begin_of};
 ghost use Rattle.recon_core.specs.Machine.{MachineState};
 ghost use Rattle.recon_core.specs.Standing.{IsBelow, StandsFor};
@@ -38,7 +53,8 @@ fn report_answer<K: Sink>(
     out: &mut K,
 ) -> Result<(), Halt>
     requires { tally.old.passed + tally.old.rejected + 1 < 2 ^ 64 }
-    ensures printed { OnOk result (K.kept out.new ≡ option_map (λ kept. kept ++ answer_text tally.old at settle answer) (K.kept out.old)) }
+    ensures printed { OnOk result (K.kept out.new ≡
+        option_map (λ kept. kept ++ answer_text tally.old at settle answer) (K.kept out.old)) }
     ensures tally { tally.new ≡ tally_after tally.old answer }
     ensures cause { HasPrintCause (K.faults out.old) (K.faults out.new) result }
 {
@@ -96,15 +112,19 @@ pub fn take_event<D: Disk, K: Sink, L>(
     requires below { IsBelow checker.old.length checker.old.cache }
     requires sized { IsSized event }
     requires room { tally.old.passed + tally.old.rejected + 1 < 2 ^ 64 }
-    ensures turns { (state : MachineState) (kept : List ℕ) → StandsFor checker.old state → D.bytes disk.old ≡ Some state.image → K.kept out.old ≡ Some kept →
-        IfOk result (λ status. Turns state place tally.old event kept status checker.new tally.new (D.bytes disk.new) (K.kept out.new)) }
+    ensures turns { (state : MachineState) (kept : List ℕ) → StandsFor checker.old state →
+        D.bytes disk.old ≡ Some state.image → K.kept out.old ≡ Some kept →
+        IfOk result (λ status. Turns state place tally.old event kept status
+        checker.new tally.new (D.bytes disk.new) (K.kept out.new)) }
     ensures status { IfOk result (λ status. IfSome status (λ n. n ≡ 3)) }
     ensures open { OnOk result (checker.new.closed ≡ false) }
     ensures size { checker.new.length ≡ checker.old.length }
     ensures below { IsBelow checker.old.length checker.new.cache }
     ensures len { D.len disk.new ≡ D.len disk.old }
-    ensures count { OnOk result (tally.new.passed + tally.new.rejected ≤ tally.old.passed + tally.old.rejected + 1) }
-    ensures cause { HasTurnCause (D.faults disk.old) (D.faults disk.new) (K.faults out.old) (K.faults out.new) result }
+    ensures count { OnOk result
+        (tally.new.passed + tally.new.rejected ≤ tally.old.passed + tally.old.rejected + 1) }
+    ensures cause { HasTurnCause (D.faults disk.old) (D.faults disk.new)
+        (K.faults out.old) (K.faults out.new) result }
 {
     let (at, settle) = begin_and_kind(&event);
     match checker.event(alloc, disk, event, steps) {

@@ -14,7 +14,8 @@ pub enum Form {
 
 // The form of the words behind the program's name.
 pub fn form_of(words: &[String]) -> Option<Form>
-    ensures { MatchOption result (IsNoForm (map string_bytes words.now)) (λ form. IsForm form (map string_bytes words.now)) }
+    ensures { let said = map string_bytes words.now in
+        MatchOption result (IsNoForm said) (λ form. IsForm form said) }
 {
     match words {
         [first, _image] if first.as_str() == "check" => Some(Form::Check),

@@ -5,8 +5,16 @@ ghost use Rattle.verdict.specs.Items.{item_finding};
 ghost use Rattle.records.specs.Part.{IsLawful, part_of};
 ghost use Rattle.records.specs.Reads.{Reads};
 ghost use Rattle.records.specs.Item.{
-    chunk_tree_record, device_tree_record, extent_tree_record, file_tree_record, groups_tree_record, inode_record,
-    item_record, root_tree_record, sums_tree_record};
+  chunk_tree_record,
+  device_tree_record,
+  extent_tree_record,
+  file_tree_record,
+  groups_tree_record,
+  inode_record,
+  item_record,
+  root_tree_record,
+  sums_tree_record,
+};
 
 use crate::Rec;
 use extent_items::{read_extent, read_group, read_keyed};

@@ -1,0 +1,207 @@
+//! Whole runs: what each trace prints, and what a failed call of the outside leaves of it.
+
+use crate::fixtures::Piece::{Bytes, FirstMib, NoMagic, Place};
+use crate::fixtures::{
+    ACCEPTED, AT_PLACE, CHECK, END, HEADER, Outside, Piece, REPLAY, disk_over, fails_in_turn,
+    run_with, trace_of, wrong_replay,
+};
+use image_maker::base_image;
+use recon_disk::Op;
+use std::test::Fail;
+
+// The front of a write of the image's first MiB.
+const AT_START: Piece = Bytes(b"\x01\0\0\0\0\0\0\0\0\0\0\0\0\x10\0");
+
+// A write of the base image's last eight bytes, and one a byte further on.
+const AT_LAST: Piece = Bytes(b"\x01\0\0\xf8\xff\xff\x01\0\0\0\0\x08\0\0\0abcdefgh");
+
+const PAST_LAST: Piece = Bytes(b"\x01\0\0\xf9\xff\xff\x01\0\0\0\0\x08\0\0\0abcdefgh");
+
+// The same at the end of a device that is 4096 bytes longer.
+const AT_LONGER: Piece = Bytes(b"\x01\0\0\xf8\x0f\0\x02\0\0\0\0\x08\0\0\0abcdefgh");
+
+const PAST_LONGER: Piece = Bytes(b"\x01\0\0\xf9\x0f\0\x02\0\0\0\0\x08\0\0\0abcdefgh");
+
+// Writes that are longer than 1 MiB, empty and cut off.
+const LONG: Piece = Bytes(b"\x01\0\0\0\0\0\0\0\0\0\0\x01\0\x10\0");
+
+const EMPTY: Piece = Bytes(b"\x01\0\0\0\0\0\0\0\0\0\0\0\0\0\0");
+
+const CUT: Piece = Bytes(b"\x01\0\0\0\0\0\0\0\0\0\0\x0a\0\0\0123456789");
+
+// Another generation in the superblock under the old checksum. The finding's detail is the sum of the bytes,
+// which a program in another language computed.
+const NEXT: Piece = Bytes(b"\x01\0\0\x48\0\x01\0\0\0\0\0\x01\0\0\0\x02");
+
+const BROKEN: [(&[Piece], &str); 10] = [
+    (&[HEADER], "trace fault 4 Truncated record 1"),
+    (
+        &[Bytes(b"RECONTRC\x02\0\0\0\0\0\0\0"), END],
+        "trace fault 1 BadHeader record 0",
+    ),
+    (
+        &[HEADER, Bytes(b"\x09"), END],
+        "trace fault 2 BadTag record 1",
+    ),
+    (
+        &[HEADER, Bytes(b"\x02"), END],
+        "trace fault 2 BadTag record 1",
+    ),
+    (
+        &[HEADER, Bytes(b"\x03"), END],
+        "trace fault 2 BadTag record 1",
+    ),
+    (
+        &[HEADER, LONG, FirstMib, END],
+        "trace fault 3 BadLength record 1",
+    ),
+    (&[HEADER, EMPTY, END], "trace fault 3 BadLength record 1"),
+    (&[HEADER, CUT], "trace fault 4 Truncated record 1"),
+    (
+        &[HEADER, PAST_LAST, END],
+        "trace past end record 1 at 33554425 len 8 end 33554432",
+    ),
+    (
+        &[HEADER, AT_PLACE, Place, PAST_LAST, END],
+        "commit 1 passed generation 1 blocks 0 hot 0\ntrace past end record 2 at 33554425 len 8 end 33554432",
+    ),
+];
+
+const REJECTED: [(&[Piece], &str); 3] = [
+    (
+        &[HEADER, AT_PLACE, NoMagic, END],
+        "commit 1 rejected S2 tree 0 block 0 key 0 0 0 detail 0\nend passed 0 rejected 1",
+    ),
+    (
+        &[HEADER, NEXT, AT_PLACE, Place, END],
+        "commit 1 rejected S3 tree 0 block 0 key 0 0 0 detail 4274492710\ncommit 2 passed generation 1 blocks 0 hot 0\nend passed 1 rejected 1",
+    ),
+    (
+        &[HEADER, AT_LAST, AT_PLACE, NoMagic, END],
+        "commit 1 rejected S2 tree 0 block 0 key 0 0 0 detail 0\nend passed 0 rejected 1",
+    ),
+];
+
+const PASSED: [(&[Piece], &str); 3] = [
+    (&[HEADER, END], "end passed 0 rejected 0"),
+    (
+        &[HEADER, AT_START, FirstMib, END],
+        "commit 1 passed generation 1 blocks 0 hot 0\nend passed 1 rejected 0",
+    ),
+    (&[HEADER, AT_LAST, END], "end passed 0 rejected 0"),
+];
+
+const WRITES: [(&[Piece], &str); 1] = [(
+    &[HEADER, AT_LAST, AT_PLACE, Place, END],
+    "commit 1 passed generation 1 blocks 0 hot 0\nend passed 1 rejected 0",
+)];
+
+const AT_END: [(&[Piece], &str); 1] = [(&[HEADER, AT_LONGER, END], "end passed 0 rejected 0")];
+
+const PAST_END: [(&[Piece], &str); 1] = [(
+    &[HEADER, PAST_LONGER, END],
+    "trace past end record 1 at 33558521 len 8 end 33558528",
+)];
+
+// The last commit alone changes the device. The end is that of the device, and not of the file system.
+#[test]
+fn each_trace_has_its_lines(rt: HostRuntime) -> Result<(), Fail> {
+    let alloc = rt.alloc();
+    let base = base_image(alloc)?;
+    let mut disk = disk_over(alloc, base.as_slice(), &[])?;
+    assert_eq!(rt; wrong_replay(alloc, &mut disk, 3, &BROKEN)?, None);
+    assert_eq!(rt; wrong_replay(alloc, &mut disk, 1, &REJECTED)?, None);
+    assert_eq!(rt; wrong_replay(alloc, &mut disk, 0, &PASSED)?, None);
+    assert!(rt; disk.bytes() == base.as_slice());
+    assert_eq!(rt; wrong_replay(alloc, &mut disk, 0, &WRITES)?, None);
+    assert!(rt; disk.bytes().ends_with(b"abcdefgh".as_slice()));
+    let mut longer = Vec::from_slice(alloc, base.as_slice())?;
+    longer.extend_from_slice(&[0; 4096])?;
+    let mut disk = disk_over(alloc, &longer, &[])?;
+    assert_eq!(rt; wrong_replay(alloc, &mut disk, 0, &AT_END)?, None);
+    assert_eq!(rt; wrong_replay(alloc, &mut disk, 3, &PAST_END)?, None);
+    Ok(())
+}
+
+// Each call of the outside would fail.
+#[test]
+fn other_words_do_nothing(rt: HostRuntime) -> Result<(), Fail> {
+    let alloc = rt.alloc();
+    let rows: [&[&str]; 7] = [
+        &[],
+        &["replay"],
+        &["replay", "a", "b"],
+        &["Replay", "x"],
+        &["check"],
+        &["check", "a", "b"],
+        &["Check", "x"],
+    ];
+    for words in rows {
+        let mut disk = disk_over(alloc, b"", &[])?;
+        let (status, out) = run_with(alloc, words, &mut disk, b"", &[1], &[(1, 5)])?;
+        assert_eq!(rt; (status, out.bytes().len()), (2, 0));
+    }
+    Ok(())
+}
+
+#[test]
+fn a_failed_call_ends_the_run(rt: HostRuntime) -> Result<(), Fail> {
+    let alloc = rt.alloc();
+    let base = base_image(alloc)?;
+    let commit = trace_of(alloc, &[HEADER, AT_LAST, AT_PLACE, Place, END])?;
+    let lines =
+        "image accepted generation 1\ncommit 1 passed generation 1 blocks 0 hot 0\nend passed 1 rejected 0\n";
+    let rows: [(&[&str], Outside, u8, &str); 9] = [
+        (REPLAY, Outside::Disk(Op::Length), 4, lines),
+        (REPLAY, Outside::Disk(Op::Read), 4, lines),
+        (REPLAY, Outside::Disk(Op::Write), 4, lines),
+        (REPLAY, Outside::Disk(Op::Flush), 4, lines),
+        (REPLAY, Outside::Source, 5, lines),
+        (REPLAY, Outside::Sink, 6, lines),
+        (CHECK, Outside::Disk(Op::Length), 4, ACCEPTED),
+        (CHECK, Outside::Disk(Op::Read), 4, ACCEPTED),
+        (CHECK, Outside::Sink, 6, ACCEPTED),
+    ];
+    for (words, outside, status, lines) in rows {
+        assert!(rt;
+            fails_in_turn(
+                alloc,
+                base.as_slice(),
+                words,
+                &commit,
+                outside,
+                status,
+                lines
+            )?,
+            "{outside:?}"
+        );
+    }
+    Ok(())
+}
+
+// The image's line is there before a record is read, and what a failed write of it kept stays. Where memory is
+// wanting the status is 7, with no line that a run with ample memory has not.
+#[test]
+fn a_run_that_ends_early_keeps_its_lines(rt: HostRuntime) -> Result<(), Fail> {
+    let alloc = rt.alloc();
+    let base = base_image(alloc)?;
+    let mut disk = disk_over(alloc, base.as_slice(), &[])?;
+    let trace = trace_of(alloc, &[HEADER, END])?;
+    let rows: [(&[u64], &[(u64, usize)], u8, &str); 3] = [
+        (&[2], &[], 5, ACCEPTED),
+        (&[], &[(1, 5)], 6, "image"),
+        (
+            &[],
+            &[],
+            0,
+            "image accepted generation 1\nend passed 0 rejected 0\n",
+        ),
+    ];
+    for (source_fails, sink_fails, want, lines) in rows {
+        let (status, out) = run_with(alloc, REPLAY, &mut disk, &trace, source_fails, sink_fails)?;
+        let all = out.bytes() == lines.as_bytes();
+        let some = status == 7 && lines.as_bytes().starts_with(out.bytes());
+        assert!(rt; some || status == want && all, "{lines}");
+    }
+    Ok(())
+}
