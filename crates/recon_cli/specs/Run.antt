@@ -15,6 +15,7 @@ use Rattle.recon_cli.specs.Outcome.{Outcome, after_text, answer_text, no_tally, 
 use Rattle.trace_reader.specs.Trace.{Ending, IsTrace}
 use Rattle.trace_reader.specs.declared.fault.TraceFault.{TraceFault}
 use Rattle.trace_reader.specs.declared.fault.TraceFault.TheVariants.{ReadFault, NoMemory}
+use Rattle.recon_cli.specs.declared.outside.Outside.{Outside}
 use Rattle.recon_cli.specs.declared.halt.Halt.{Halt}
 use Rattle.recon_cli.specs.declared.halt.Halt.TheVariants.{Device, Trace, Lines, Memory}
 
@@ -60,6 +61,12 @@ abbrev pub faults_of : {D S K : Type 0} → DiskGhosts D → SourceGhosts S → 
 faults_of disks sources sinks disk trace out =
     faults_are (disks.faults disk) (sources.faults trace) (sinks.faults out)
 
+-- the same of what a replay is lent
+abbrev pub faults_lent : {D S K L : Type 0} → DiskGhosts D → SourceGhosts S → SinkGhosts K
+    → Outside D S K L → Faults
+faults_lent disks sources sinks lent =
+    faults_of disks sources sinks lent.disk.now lent.trace.now lent.out.now
+
 -- A run stops early for a fault of an object only where that object's count rose, and leaves the counts
 -- of the others. With every other end it leaves all three.
 abbrev pub HasHaltCause : {T : Type 0} → Faults → Faults → Result T Halt → Type 0
@@ -71,6 +78,13 @@ HasHaltCause before now (Err Trace) =
 HasHaltCause before now (Err Lines) =
     (now.disk ≡ before.disk) × (now.source ≡ before.source) × IsCounted true before.sink now.sink
 HasHaltCause before now (Err Memory) = now ≡ before
+
+-- the same disk, trace, place for lines and steps are lent still
+pub record IsSameOutside {D S K L : Type 0} (old new : Outside D S K L) : Type 0 where
+  pub disk : new.disk.ghost_name ≡ old.disk.ghost_name
+  pub trace : new.trace.ghost_name ≡ old.trace.ghost_name
+  pub out : new.out.ghost_name ≡ old.out.ghost_name
+  pub steps : new.steps.ghost_name ≡ old.steps.ghost_name
 
 -- no count of faults rose, and none stands at its greatest value
 pub record HadNoFault (before now : Faults) : Type 0 where

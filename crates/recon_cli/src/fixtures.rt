@@ -344,7 +344,7 @@ pub fn wrong_finding(
 
 /// Of what a call fails.
 #[derive(Clone, Copy, Debug)]
-pub enum Outside {
+pub enum Object {
     Disk(Op),
     Source,
     Sink,
@@ -357,7 +357,7 @@ pub fn fails_in_turn(
     image: &[u8],
     words: &[&str],
     trace: &[u8],
-    outside: Outside,
+    object: Object,
     fault: u8,
     lines: &str,
 ) -> Result<bool, Fail> {
@@ -367,10 +367,10 @@ pub fn fails_in_turn(
             Vec::new(alloc),
             Vec::new(alloc),
         );
-        match outside {
-            Outside::Disk(op) => disk_fails.push(DiskFail { op, nth, keep: 3 })?,
-            Outside::Source => source_fails.push(nth)?,
-            Outside::Sink => sink_fails.push((nth, 3))?,
+        match object {
+            Object::Disk(op) => disk_fails.push(DiskFail { op, nth, keep: 3 })?,
+            Object::Source => source_fails.push(nth)?,
+            Object::Sink => sink_fails.push((nth, 3))?,
         }
         let mut disk = disk_over(alloc, image, &disk_fails)?;
         let (status, out) = run_with(alloc, words, &mut disk, trace, &source_fails, &sink_fails)?;

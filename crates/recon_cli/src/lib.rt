@@ -5,6 +5,7 @@
 mod check;
 mod halt;
 mod lines;
+mod outside;
 mod replay;
 mod run;
 mod tally;

@@ -149,7 +149,7 @@ fn what_passes_alone_stands_on_the_device(rt: HostRuntime) -> Result<(), Fail> {
     let wide = early();
     let held = Act::Write(8192, b"held");
     let no_magic = Act::Write(65_600, &[0]);
-    let fault = Said::Rejected(Family::S, 2, 0);
+    let finding = Said::Rejected(Family::S, 2, 0);
     let rows: [([Act; 3], [Said; 3], (usize, &'static [u8])); 8] = [
         // A write waits until a superblock lets it through.
         (
@@ -160,12 +160,12 @@ fn what_passes_alone_stands_on_the_device(rt: HostRuntime) -> Result<(), Fail> {
         // After a rejection nothing waits.
         (
             [held, no_magic, Act::Fetch(8192, 4)],
-            [Said::Held, fault, Said::Fetched(0)],
+            [Said::Held, finding, Said::Fetched(0)],
             (8192, b"\0\0\0\0"),
         ),
         (
             [held, no_magic, Act::Write(65_536, &label)],
-            [Said::Held, fault, Said::Passed(1)],
+            [Said::Held, finding, Said::Passed(1)],
             (8192, b"\0\0\0\0"),
         ),
         (

@@ -1,47 +1,22 @@
 //! The replay of a trace.
 
-ghost use Rattle.std.specs.Prelude.{
-  ℕ,
-  ◌≡◌,
-  ◌==◌,
-  if◌then◌else◌,
-  ◌+◌,
-  ◌<◌,
-  ◌≤◌,
-  ◌++◌,
-  false,
-  List,
-  Some,
-  Ok,
-  IfOk,
-  OnOk,
-  IfSome,
-  option_map,
-};
+ghost use Rattle.std.specs.Prelude.{ℕ, ◌≡◌, ◌==◌, if◌then◌else◌, ◌+◌, ◌<◌, ◌≤◌, ◌++◌, false, List, Some, Ok, IfOk, OnOk, IfSome, option_map};
 ghost use Rattle.std.specs.FinMap as map;
 ghost use Rattle.recon_core.specs.Machine.{MachineState};
 ghost use Rattle.recon_core.specs.Standing.{IsBelow, StandsFor, first_state};
 ghost use Rattle.trace_reader.specs.Trace.{IsBytes};
 ghost use Rattle.report.specs.Lines.{text_line};
 ghost use Rattle.trace_reader.specs.Fault.{fault_number};
-ghost use Rattle.recon_cli.specs.Run.{
-  HasFaultPrintCause,
-  HasHaltCause,
-  HasPrintCause,
-  IsOfBytes,
-  IsOutcomeStatus,
-  Replays,
-  ReplaysAs,
-  faults_of,
-};
+ghost use Rattle.recon_cli.specs.Run.{HasFaultPrintCause, HasHaltCause, HasPrintCause, IsOfBytes, IsOutcomeStatus, IsSameOutside, Replays, ReplaysAs, faults_lent};
 
 use crate::halt::Halt;
 use crate::lines::{print, refuse};
+use crate::outside::Outside;
 use crate::tally::Tally;
 use crate::turn::take_event;
 use plain_check::{Fault, superblock};
 use recon_core::{Checker, Started};
-use recon_disk::{Disk, Sink, Source, Steps};
+use recon_disk::{Disk, Sink, Source};
 use report::Line;
 use std::alloc::Global;
 use trace_reader::{Item, TraceFault, TraceReader};
@@ -104,22 +79,21 @@ fn print_fault<K: Sink>(
 fn take_records<D: Disk, S: Source, K: Sink, L>(
     alloc: Global,
     checker: &mut Checker,
-    disk: &mut D,
-    trace: &mut S,
-    out: &mut K,
-    steps: &mut Steps<L>,
+    lent: &mut Outside<'_, '_, '_, '_, D, S, K, L>,
 ) -> Result<u8, Halt>
     requires open { checker.old.closed ≡ false }
-    requires length { checker.old.length ≡ D.len disk.old }
+    requires length { checker.old.length ≡ D.len lent.old.disk.now }
     requires below { IsBelow checker.old.length checker.old.cache }
     ensures outcome { (first : MachineState) (bytes kept : List ℕ) →
-        StandsFor checker.old first → D.bytes disk.old ≡ Some first.image →
-        IsBytes bytes → S.left trace.old ≡ Some bytes → K.kept out.old ≡ Some kept →
+        StandsFor checker.old first → D.bytes lent.old.disk.now ≡ Some first.image →
+        IsBytes bytes → S.left lent.old.trace.now ≡ Some bytes →
+        K.kept lent.old.out.now ≡ Some kept →
         IfOk result (λ status. Replays first bytes kept status
-        (D.bytes disk.new) (S.left trace.new) (K.kept out.new)) }
+        (D.bytes lent.new.disk.now) (S.left lent.new.trace.now) (K.kept lent.new.out.now)) }
     ensures status { IfOk result IsOutcomeStatus }
-    ensures cause { HasHaltCause (faults_of D.Disk S.Source K.Sink disk.old trace.old out.old)
-        (faults_of D.Disk S.Source K.Sink disk.new trace.new out.new) result }
+    ensures same { IsSameOutside lent.old lent.new }
+    ensures cause { HasHaltCause (faults_lent D.Disk S.Source K.Sink lent.old)
+        (faults_lent D.Disk S.Source K.Sink lent.new) result }
 {
     let mut reader = TraceReader::new(RECORD_LIMIT);
     let mut tally = Tally {
@@ -127,16 +101,18 @@ fn take_records<D: Disk, S: Source, K: Sink, L>(
         rejected: 0,
     };
     'records: loop {
-        match reader.next(alloc, trace) {
+        match reader.next(alloc, lent.trace) {
             Ok(Item::Event(event)) => {
                 let place = reader.record_number();
-                let turn = take_event(alloc, checker, &mut tally, place, event, disk, out, steps)?;
+                let turn = take_event(
+                    alloc, checker, &mut tally, place, event, lent.disk, lent.out, lent.steps,
+                )?;
                 if let Some(status) = turn {
                     return Ok(status);
                 }
             }
-            Ok(Item::End) => return print_summary(alloc, &tally, out),
-            Err(fault) => return print_fault(alloc, fault, reader.record_number(), out),
+            Ok(Item::End) => return print_summary(alloc, &tally, lent.out),
+            Err(fault) => return print_fault(alloc, fault, reader.record_number(), lent.out),
         }
     }
 }
@@ -145,30 +121,29 @@ fn take_records<D: Disk, S: Source, K: Sink, L>(
 fn replay_over<D: Disk, S: Source, K: Sink, L>(
     alloc: Global,
     mut checker: Checker,
-    disk: &mut D,
-    trace: &mut S,
-    out: &mut K,
-    steps: &mut Steps<L>,
+    lent: &mut Outside<'_, '_, '_, '_, D, S, K, L>,
 ) -> Result<u8, Halt>
     requires empty { checker.cache ≡ map.empty }
     requires open { checker.closed ≡ false }
-    requires length { checker.length ≡ D.len disk.old }
+    requires length { checker.length ≡ D.len lent.old.disk.now }
     ensures outcome { (image bytes kept : List ℕ) →
-        StandsFor checker (first_state image) → D.bytes disk.old ≡ Some image →
-        IsBytes bytes → S.left trace.old ≡ Some bytes → K.kept out.old ≡ Some kept →
+        StandsFor checker (first_state image) → D.bytes lent.old.disk.now ≡ Some image →
+        IsBytes bytes → S.left lent.old.trace.now ≡ Some bytes →
+        K.kept lent.old.out.now ≡ Some kept →
         IfOk result (λ status. ReplaysAs image bytes kept status
-        (D.bytes disk.new) (S.left trace.new) (K.kept out.new)) }
+        (D.bytes lent.new.disk.now) (S.left lent.new.trace.now) (K.kept lent.new.out.now)) }
     ensures status { IfOk result IsOutcomeStatus }
-    ensures cause { HasHaltCause (faults_of D.Disk S.Source K.Sink disk.old trace.old out.old)
-        (faults_of D.Disk S.Source K.Sink disk.new trace.new out.new) result }
+    ensures same { IsSameOutside lent.old lent.new }
+    ensures cause { HasHaltCause (faults_lent D.Disk S.Source K.Sink lent.old)
+        (faults_lent D.Disk S.Source K.Sink lent.new) result }
 {
-    match superblock(disk, &checker.cache) {
+    match superblock(lent.disk, &checker.cache) {
         Ok(Ok(sup)) => {
             let generation = sup.generation;
-            print(alloc, out, &Line::Image { generation })?;
-            take_records(alloc, &mut checker, disk, trace, out, steps)
+            print(alloc, lent.out, &Line::Image { generation })?;
+            take_records(alloc, &mut checker, lent)
         }
-        Ok(Err(finding)) => refuse(alloc, finding, out),
+        Ok(Err(finding)) => refuse(alloc, finding, lent.out),
         Err(Fault::Disk) => Err(Halt::Device),
         Err(Fault::NoMemory) => Err(Halt::Memory),
     }
@@ -177,22 +152,21 @@ fn replay_over<D: Disk, S: Source, K: Sink, L>(
 // Replays the trace over the disk's image, or refuses the image. A refused image leaves the trace unread.
 pub fn replay<D: Disk, S: Source, K: Sink, L>(
     alloc: Global,
-    disk: &mut D,
-    trace: &mut S,
-    out: &mut K,
-    steps: &mut Steps<L>,
+    lent: &mut Outside<'_, '_, '_, '_, D, S, K, L>,
 ) -> Result<u8, Halt>
-    ensures outcome { (image bytes kept : List ℕ) → D.bytes disk.old ≡ Some image →
-        IsBytes bytes → S.left trace.old ≡ Some bytes → K.kept out.old ≡ Some kept →
+    ensures outcome { (image bytes kept : List ℕ) → D.bytes lent.old.disk.now ≡ Some image →
+        IsBytes bytes → S.left lent.old.trace.now ≡ Some bytes →
+        K.kept lent.old.out.now ≡ Some kept →
         IfOk result (λ status. ReplaysAs image bytes kept status
-        (D.bytes disk.new) (S.left trace.new) (K.kept out.new)) }
+        (D.bytes lent.new.disk.now) (S.left lent.new.trace.now) (K.kept lent.new.out.now)) }
     ensures status { IfOk result IsOutcomeStatus }
-    ensures cause { HasHaltCause (faults_of D.Disk S.Source K.Sink disk.old trace.old out.old)
-        (faults_of D.Disk S.Source K.Sink disk.new trace.new out.new) result }
+    ensures same { IsSameOutside lent.old lent.new }
+    ensures cause { HasHaltCause (faults_lent D.Disk S.Source K.Sink lent.old)
+        (faults_lent D.Disk S.Source K.Sink lent.new) result }
 {
-    match Checker::start(alloc, disk, steps) {
-        Ok(Started::Ready(checker)) => replay_over(alloc, checker, disk, trace, out, steps),
-        Ok(Started::Refused(finding)) => refuse(alloc, finding, out),
+    match Checker::start(alloc, lent.disk, lent.steps) {
+        Ok(Started::Ready(checker)) => replay_over(alloc, checker, lent),
+        Ok(Started::Refused(finding)) => refuse(alloc, finding, lent.out),
         Err(Stop::DiskFault) => Err(Halt::Device),
         Err(Stop::NoMemory) => Err(Halt::Memory),
         Err(Stop::PastEnd { .. } | Stop::Closed) => unreachable!(),

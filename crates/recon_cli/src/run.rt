@@ -5,19 +5,11 @@ ghost use Rattle.verdict.specs.declared.machine.Event.{Event as AnEvent};
 ghost use Rattle.trace_reader.specs.Trace.{Ending, IsBytes, IsTrace};
 ghost use Rattle.recon_cli.specs.Words.{IsForm, IsNoForm};
 ghost use Rattle.recon_cli.specs.Outcome.{replay_outcome};
-ghost use Rattle.recon_cli.specs.Run.{
-  ChecksAs,
-  ComesOut,
-  HadNoFault,
-  HasStatusCause,
-  IsCheckStatus,
-  IsOutcomeStatus,
-  faults_of,
-  record_limit,
-};
+ghost use Rattle.recon_cli.specs.Run.{ChecksAs, ComesOut, HadNoFault, HasStatusCause, IsCheckStatus, IsOutcomeStatus, faults_of, record_limit};
 
 use crate::check::check;
 use crate::halt::status_of;
+use crate::outside::Outside;
 use crate::replay::replay;
 use crate::words::{Form, form_of};
 use recon_disk::{Disk, Sink, Source, Steps};
@@ -86,7 +78,15 @@ pub fn recon_run<D: Disk, S: Source, K: Sink, L>(
             Ok(said) => said,
             Err(halt) => status_of(halt),
         },
-        Some(Form::Replay) => match replay(alloc, disk, trace, out, steps) {
+        Some(Form::Replay) => match replay(
+            alloc,
+            &mut Outside {
+                disk,
+                trace,
+                out,
+                steps,
+            },
+        ) {
             Ok(status) => status,
             Err(stopped) => status_of(stopped),
         },

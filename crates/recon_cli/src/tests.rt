@@ -2,7 +2,7 @@
 
 use crate::fixtures::Piece::{Bytes, FirstMib, NoMagic, Place};
 use crate::fixtures::{
-    ACCEPTED, AT_PLACE, CHECK, END, HEADER, Outside, Piece, REPLAY, disk_over, fails_in_turn,
+    ACCEPTED, AT_PLACE, CHECK, END, HEADER, Object, Piece, REPLAY, disk_over, fails_in_turn,
     run_with, trace_of, wrong_replay,
 };
 use image_maker::base_image;
@@ -151,29 +151,29 @@ fn a_failed_call_ends_the_run(rt: HostRuntime) -> Result<(), Fail> {
     let commit = trace_of(alloc, &[HEADER, AT_LAST, AT_PLACE, Place, END])?;
     let lines =
         "image accepted generation 1\ncommit 1 passed generation 1 blocks 0 hot 0\nend passed 1 rejected 0\n";
-    let rows: [(&[&str], Outside, u8, &str); 9] = [
-        (REPLAY, Outside::Disk(Op::Length), 4, lines),
-        (REPLAY, Outside::Disk(Op::Read), 4, lines),
-        (REPLAY, Outside::Disk(Op::Write), 4, lines),
-        (REPLAY, Outside::Disk(Op::Flush), 4, lines),
-        (REPLAY, Outside::Source, 5, lines),
-        (REPLAY, Outside::Sink, 6, lines),
-        (CHECK, Outside::Disk(Op::Length), 4, ACCEPTED),
-        (CHECK, Outside::Disk(Op::Read), 4, ACCEPTED),
-        (CHECK, Outside::Sink, 6, ACCEPTED),
+    let rows: [(&[&str], Object, u8, &str); 9] = [
+        (REPLAY, Object::Disk(Op::Length), 4, lines),
+        (REPLAY, Object::Disk(Op::Read), 4, lines),
+        (REPLAY, Object::Disk(Op::Write), 4, lines),
+        (REPLAY, Object::Disk(Op::Flush), 4, lines),
+        (REPLAY, Object::Source, 5, lines),
+        (REPLAY, Object::Sink, 6, lines),
+        (CHECK, Object::Disk(Op::Length), 4, ACCEPTED),
+        (CHECK, Object::Disk(Op::Read), 4, ACCEPTED),
+        (CHECK, Object::Sink, 6, ACCEPTED),
     ];
-    for (words, outside, status, lines) in rows {
+    for (words, object, status, lines) in rows {
         assert!(rt;
             fails_in_turn(
                 alloc,
                 base.as_slice(),
                 words,
                 &commit,
-                outside,
+                object,
                 status,
                 lines
             )?,
-            "{outside:?}"
+            "{object:?}"
         );
     }
     Ok(())

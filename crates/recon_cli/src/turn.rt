@@ -1,21 +1,6 @@
 //! What one event does.
 
-ghost use Rattle.std.specs.Prelude.{
-  ℕ,
-  ◌≡◌,
-  ◌+◌,
-  ◌^◌,
-  ◌<◌,
-  ◌≤◌,
-  ◌++◌,
-  false,
-  List,
-  Some,
-  IfOk,
-  IfSome,
-  OnOk,
-  option_map,
-};
+ghost use Rattle.std.specs.Prelude.{ℕ, ◌≡◌, ◌+◌, ◌^◌, ◌<◌, ◌≤◌, ◌++◌, false, List, Some, IfOk, IfSome, OnOk, option_map};
 ghost use Rattle.verdict.specs.Events.{IsSized, begin_of};
 ghost use Rattle.recon_core.specs.Machine.{MachineState};
 ghost use Rattle.recon_core.specs.Standing.{IsBelow, StandsFor};

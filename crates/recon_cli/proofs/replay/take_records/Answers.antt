@@ -13,6 +13,7 @@ records-init g c =
       limit = ap (λ r. r.limit) c.new-reader.ensures;
       few = omega arith;
       count = omega arith;
+      same = record { disk = refl; trace = refl; out = refl; steps = refl };
       open_ = c.requires.open;
       size = c.requires.length;
       below = c.requires.below;
@@ -20,8 +21,8 @@ records-init g c =
       source_faults = refl;
       sink_faults = refl;
       going = λ first bytes kept stands image lawful left printed.
-          subst (λ r. Going first bytes kept r no_tally c.args.checker.now (g.D.Disk.bytes c.args.disk.now) (g.S.Source.left c.args.trace.now) (g.K.Sink.kept c.args.out.now)) (sym c.new-reader.ensures)
-          (going_start first bytes kept c.args.checker.now (g.D.Disk.bytes c.args.disk.now) (g.S.Source.left c.args.trace.now) (g.K.Sink.kept c.args.out.now) stands image lawful left printed);
+          subst (λ r. Going first bytes kept r no_tally c.args.checker.now (g.D.Disk.bytes c.args.lent.now.disk.now) (g.S.Source.left c.args.lent.now.trace.now) (g.K.Sink.kept c.args.lent.now.out.now)) (sym c.new-reader.ensures)
+          (going_start first bytes kept c.args.checker.now (g.D.Disk.bytes c.args.lent.now.disk.now) (g.S.Source.left c.args.lent.now.trace.now) (g.K.Sink.kept c.args.lent.now.out.now) stands image lawful left printed);
     }
 
 pub returns-in-Some-clause-outcome : goal.returns-in-Some-clause-outcome
@@ -29,9 +30,9 @@ returns-in-Some-clause-outcome g c first bytes kept stands image lawful left pri
     let going = c.records.invariant.going first bytes kept stands image lawful left printed in
     let next = after_is c.records.reader c.next.new.self c.in-Ok-Event.field-0 c.in-Ok-Event.event c.in-Ok-Event.field-0-is c.in-Ok-Event.ensures.state in
     let at = place_is c.records.reader c.next.new.self c.in-Ok-Event.event c.record_number-place.result next c.record_number-place.ensures.number c.records.invariant.few c.records.invariant.limit in
-    going_past first bytes kept c.records.reader c.next.new.self c.records.tally c.records.checker (g.D.Disk.bytes c.records.disk) (g.D.Disk.bytes c.take_event.new.disk)
-    (g.S.Source.left c.records.trace) (g.S.Source.left c.next.new.source) (g.K.Sink.kept c.records.out) (g.K.Sink.kept c.take_event.new.out) c.in-Some.status c.record_number-place.result c.in-Ok-Event.event
-    going (at_event c.records.reader c.next.new.self (g.S.Source.left c.records.trace) (g.S.Source.left c.next.new.source) c.in-Ok-Event.field-0 c.in-Ok-Event.event c.in-Ok-Event.field-0-is c.in-Ok-Event.ensures.told) at
+    going_past first bytes kept c.records.reader c.next.new.self c.records.tally c.records.checker (g.D.Disk.bytes c.records.lent.disk.now) (g.D.Disk.bytes c.take_event.new.disk)
+    (g.S.Source.left c.records.lent.trace.now) (g.S.Source.left c.next.new.source) (g.K.Sink.kept c.records.lent.out.now) (g.K.Sink.kept c.take_event.new.out) c.in-Some.status c.record_number-place.result c.in-Ok-Event.event
+    going (at_event c.records.reader c.next.new.self (g.S.Source.left c.records.lent.trace.now) (g.S.Source.left c.next.new.source) c.in-Ok-Event.field-0 c.in-Ok-Event.event c.in-Ok-Event.field-0-is c.in-Ok-Event.ensures.told) at
     (subst (λ t. Turns going.state c.record_number-place.result c.records.tally c.in-Ok-Event.event (kept ++ going.text) t c.take_event.new.checker c.take_event.new.tally (g.D.Disk.bytes c.take_event.new.disk) (g.K.Sink.kept c.take_event.new.out))
     c.in-Some.is (c.in_ok-turn-in-Ok-Event.ensures.turns going.state (kept ++ going.text) going.stands going.image going.printed))
 
@@ -42,24 +43,24 @@ returns-in-Some-clause-status g c =
 pub returns-in-Ok-End-clause-outcome : goal.returns-in-Ok-End-clause-outcome
 returns-in-Ok-End-clause-outcome g c first bytes kept stands image lawful left printed =
     let going = c.records.invariant.going first bytes kept stands image lawful left printed in
-    both_ok c.print_summary.result (λ status st out. going_end first bytes kept c.records.reader c.next.new.self c.records.tally c.records.checker (g.D.Disk.bytes c.records.disk)
-    (g.S.Source.left c.records.trace) (g.S.Source.left c.next.new.source) (g.K.Sink.kept c.records.out) (g.K.Sink.kept c.print_summary.new.out) status going
-    (at_end c.records.reader c.next.new.self (g.S.Source.left c.records.trace) (g.S.Source.left c.next.new.source) c.in-Ok-End.field-0 c.in-Ok-End.field-0-is c.in-Ok-End.ensures.told)
+    both_ok c.print_summary.result (λ status st out. going_end first bytes kept c.records.reader c.next.new.self c.records.tally c.records.checker (g.D.Disk.bytes c.records.lent.disk.now)
+    (g.S.Source.left c.records.lent.trace.now) (g.S.Source.left c.next.new.source) (g.K.Sink.kept c.records.lent.out.now) (g.K.Sink.kept c.print_summary.new.out) status going
+    (at_end c.records.reader c.next.new.self (g.S.Source.left c.records.lent.trace.now) (g.S.Source.left c.next.new.source) c.in-Ok-End.field-0 c.in-Ok-End.field-0-is c.in-Ok-End.ensures.told)
     st out) c.print_summary.ensures.status c.print_summary.ensures.printed
 
 pub returns-in-Err-clause-outcome : goal.returns-in-Err-clause-outcome
 returns-in-Err-clause-outcome g c first bytes kept stands image lawful left printed =
     let going = c.records.invariant.going first bytes kept stands image lawful left printed in
     let limit : c.next.new.self.limit ≡ record_limit = limit_over c.records.reader c.next.new.self c.in-Err.fault c.in-Err.ensures.state ∙ c.records.invariant.limit in
-    each_ok c.print_fault.result (λ status p. going_fault first bytes kept c.records.reader c.next.new.self c.records.tally c.records.checker (g.D.Disk.bytes c.records.disk)
-    (g.S.Source.left c.records.trace) (g.S.Source.left c.next.new.source) (g.K.Sink.kept c.records.out) (g.K.Sink.kept c.print_fault.new.out) status c.record_number.result c.in-Err.fault going
+    each_ok c.print_fault.result (λ status p. going_fault first bytes kept c.records.reader c.next.new.self c.records.tally c.records.checker (g.D.Disk.bytes c.records.lent.disk.now)
+    (g.S.Source.left c.records.lent.trace.now) (g.S.Source.left c.next.new.source) (g.K.Sink.kept c.records.lent.out.now) (g.K.Sink.kept c.print_fault.new.out) status c.record_number.result c.in-Err.fault going
     c.in-Err.ensures.told p.1 (place_fits c.next.new.self.number c.next.new.self.limit c.record_number.result c.record_number.ensures.number c.record_number.ensures.within limit) p.0 p.2)
     c.print_fault.ensures.printed
 
 pub returns-in-Err-clause-cause : goal.returns-in-Err-clause-cause
 returns-in-Err-clause-cause g c =
-    fault_cause c.in-Err.fault c.print_fault.result (g.D.Disk.faults c.args.disk.now) (g.D.Disk.faults c.records.disk) (g.S.Source.faults c.args.trace.now) (g.S.Source.faults c.records.trace) (g.S.Source.faults c.next.new.source)
-    (g.K.Sink.faults c.args.out.now) (g.K.Sink.faults c.records.out) (g.K.Sink.faults c.print_fault.new.out) c.records.invariant.disk_faults c.records.invariant.source_faults c.records.invariant.sink_faults
+    fault_cause c.in-Err.fault c.print_fault.result (g.D.Disk.faults c.args.lent.now.disk.now) (g.D.Disk.faults c.records.lent.disk.now) (g.S.Source.faults c.args.lent.now.trace.now) (g.S.Source.faults c.records.lent.trace.now) (g.S.Source.faults c.next.new.source)
+    (g.K.Sink.faults c.args.lent.now.out.now) (g.K.Sink.faults c.records.lent.out.now) (g.K.Sink.faults c.print_fault.new.out) c.records.invariant.disk_faults c.records.invariant.source_faults c.records.invariant.sink_faults
     c.in-Err.ensures.cause c.print_fault.ensures.cause
 
 pub records-preserved : goal.records-preserved
@@ -72,17 +73,23 @@ records-preserved g c =
       limit = ap (λ r. r.limit) next ∙ c.records.invariant.limit;
       few = c.in-Ok-Event.ensures.within;
       count = omega (arith, turn.count, c.records.invariant.count);
+      same = record {
+        disk = c.records.invariant.same.disk;
+        trace = c.records.invariant.same.trace;
+        out = c.records.invariant.same.out;
+        steps = c.records.invariant.same.steps;
+      };
       open_ = turn.open;
       size = turn.size ∙ c.records.invariant.size ∙ sym turn.len;
       below = subst (λ n. IsBelow n c.take_event.new.checker.cache) (sym turn.size) turn.below;
       disk_faults = turn.cause.0 ∙ c.records.invariant.disk_faults;
-      source_faults = event_reads (g.S.Source.faults c.records.trace) (g.S.Source.faults c.next.new.source) c.in-Ok-Event.field-0 c.in-Ok-Event.ensures.cause ∙ c.records.invariant.source_faults;
+      source_faults = event_reads (g.S.Source.faults c.records.lent.trace.now) (g.S.Source.faults c.next.new.source) c.in-Ok-Event.field-0 c.in-Ok-Event.ensures.cause ∙ c.records.invariant.source_faults;
       sink_faults = turn.cause.1 ∙ c.records.invariant.sink_faults;
       going = λ first bytes kept stands image lawful left printed.
           let going = c.records.invariant.going first bytes kept stands image lawful left printed in
-          going_event first bytes kept c.records.reader c.next.new.self c.records.tally c.take_event.new.tally c.records.checker c.take_event.new.checker (g.D.Disk.bytes c.records.disk) (g.D.Disk.bytes c.take_event.new.disk)
-          (g.S.Source.left c.records.trace) (g.S.Source.left c.next.new.source) (g.K.Sink.kept c.records.out) (g.K.Sink.kept c.take_event.new.out) c.in-Ok-Event.event
-          going (at_event c.records.reader c.next.new.self (g.S.Source.left c.records.trace) (g.S.Source.left c.next.new.source) c.in-Ok-Event.field-0 c.in-Ok-Event.event c.in-Ok-Event.field-0-is c.in-Ok-Event.ensures.told) next
+          going_event first bytes kept c.records.reader c.next.new.self c.records.tally c.take_event.new.tally c.records.checker c.take_event.new.checker (g.D.Disk.bytes c.records.lent.disk.now) (g.D.Disk.bytes c.take_event.new.disk)
+          (g.S.Source.left c.records.lent.trace.now) (g.S.Source.left c.next.new.source) (g.K.Sink.kept c.records.lent.out.now) (g.K.Sink.kept c.take_event.new.out) c.in-Ok-Event.event
+          going (at_event c.records.reader c.next.new.self (g.S.Source.left c.records.lent.trace.now) (g.S.Source.left c.next.new.source) c.in-Ok-Event.field-0 c.in-Ok-Event.event c.in-Ok-Event.field-0-is c.in-Ok-Event.ensures.told) next
           (subst (λ t. Turns going.state c.record_number-place.result c.records.tally c.in-Ok-Event.event (kept ++ going.text) t c.take_event.new.checker c.take_event.new.tally (g.D.Disk.bytes c.take_event.new.disk) (g.K.Sink.kept c.take_event.new.out))
           c.in_default.is (turn.turns going.state (kept ++ going.text) going.stands going.image going.printed));
     }
