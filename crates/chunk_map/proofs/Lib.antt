@@ -3,4 +3,5 @@ pub mod Homes
 pub mod Meets
 pub mod Ordered
 pub mod Pairs
+pub mod Addresses
 pub mod Orders

@@ -1,16 +1,16 @@
 -- Copies by offset, and chunks of which no two copies meet.
-use Rattle.std.proofs.Common.{◌≡◌, ℕ, zero, suc, ◌+◌, ◌-◌, ◌<◌, ◌≤◌, ◌||◌, min, max, Bool, true, false, cond, List, [], ◌∷◌, length, take, get_or, refl, ap, sym, subst, ◌∙◌, arith, nat_le, ⊎_elim}
+use Rattle.std.proofs.Common.{◌≡◌, ℕ, zero, suc, ◌+◌, ◌-◌, ◌<◌, ◌≤◌, ◌||◌, min, max, Bool, true, false, cond, List, [], ◌∷◌, length, take, get_or, refl, ap, sym, subst, ◌∙◌, arith, nat_le, ⊎_elim, ◌⊎◌, inl, inr}
 use Rattle.std.specs.Prelude.{Option, Some, None, IsTrue, Result, Ok, Err, OnOk}
 use Rattle.std.specs.Option.{IfSome}
 use Rattle.std.specs.List.{All, Contains, insert, list_any}
 use Rattle.std.proofs.lemmas.Bool.{or_from, or_parts, ltb-false, le-ltb, cases_lt}
 use Rattle.std.proofs.lemmas.List.{get_or_default}
 use Rattle.std.proofs.lemmas.List.Elements.{All-cons, All-tail, All-contains, Contains-get_or}
-use Rattle.std.proofs.lemmas.List.Sorted.{All-permutation, Contains-permutation, IsPermutation-insert, IsNonDecreasingBy-insert}
+use Rattle.std.proofs.lemmas.List.Sorted.{All-permutation, Contains-permutation, IsPermutation-insert, IsPermutation-sym, IsNonDecreasingBy-insert}
 use Rattle.verdict.specs.declared.place.Chunk.{Chunk}
 use Rattle.volume_items.specs.ChunkOrder.{put_by_start}
 use Rattle.volume_items.specs.MapRules.{have_common, meets_second, meets_chunk}
-use Rattle.chunk_map.specs.Order.{rank_by_start, Ascend, AreApart, IsTurned, HasCopies, IsFree, AreFree, IsClearOf, AllClear, MeetsNone, turned}
+use Rattle.chunk_map.specs.Order.{rank_by_start, Ascend, AreApart, IsTurned, HasCopies, IsCopyOf, IsFree, AreFree, IsClearOf, AllClear, MeetsNone, turned}
 use Rattle.chunk_map.proofs.Ranks.{rank_below, rank_above, rank_low, put_permutes}
 
 apart_no_common : (p n q m : ℕ) → p + n ≤ q → have_common p n q m ≡ false
@@ -141,6 +141,22 @@ contains_more copies more y r is copy has = subst (λ cs. Contains cs copy) (sym
 
 pub contains_new : (copies more : List Chunk) (y : Chunk) (r : ℕ) → more ≡ insert copies r y → Contains more y
 contains_new copies more y r is = subst (λ cs. Contains cs y) (sym is) (Contains-permutation (y ∷ copies) (insert copies r y) y (IsPermutation-insert copies r y) (0, omega arith, refl))
+
+head_or_tail : (y : Chunk) (copies : List Chunk) (copy : Chunk) (k : ℕ) → k < suc (length copies) → get_or (y ∷ copies) k copy ≡ copy → Contains copies copy ⊎ (copy ≡ y)
+head_or_tail y copies copy zero l is = inr (sym is)
+head_or_tail y copies copy (suc k) l is = inl (k, omega arith, is)
+
+pub contains_old : (copies more : List Chunk) (y : Chunk) (r : ℕ) → more ≡ insert copies r y → (copy : Chunk) → Contains more copy → Contains copies copy ⊎ (copy ≡ y)
+contains_old copies more y r is copy has =
+    let back = Contains-permutation (insert copies r y) (y ∷ copies) copy (IsPermutation-sym (y ∷ copies) (insert copies r y) (IsPermutation-insert copies r y)) (subst (λ cs. Contains cs copy) is has) in
+    head_or_tail y copies copy back.0 back.1 back.2
+
+pub one_source : (old new : List Chunk) (chunk one : Chunk) → one ≡ turned chunk chunk.first → ((copy : Chunk) → Contains new copy → Contains old copy ⊎ (copy ≡ one)) → (copy : Chunk) → Contains new copy → Contains old copy ⊎ IsCopyOf chunk copy
+one_source old new chunk one e from copy has = ⊎_elim (λ was. inl was) (λ is. inr (chunk.first, is ∙ e, inl refl)) (from copy has)
+
+pub both_sources : (old mid new : List Chunk) (chunk : Chunk) (at : ℕ) (one two : Chunk) → one ≡ turned chunk chunk.first → two ≡ turned chunk at → chunk.second ≡ Some at → ((copy : Chunk) → Contains mid copy → Contains old copy ⊎ (copy ≡ one)) → ((copy : Chunk) → Contains new copy → Contains mid copy ⊎ (copy ≡ two)) → (copy : Chunk) → Contains new copy → Contains old copy ⊎ IsCopyOf chunk copy
+both_sources old mid new chunk at one two e f second first next copy has =
+    ⊎_elim (λ was. one_source old mid chunk one e first copy was) (λ is. inr (at, is ∙ f, inr second)) (next copy has)
 
 -- what a test of the neighbours tells
 pub free_put : (copies items parts : List Chunk) (y : Chunk) (r : ℕ) (was result apart : Bool) → IsTurned copies was → was ≡ true → items ≡ copies → r ≡ rank_by_start y.start items → parts ≡ copies → (IsTrue result → 0 < r → (get_or parts (r - 1) y).start + (get_or parts (r - 1) y).length ≤ y.start) → (IsTrue result → r < length parts → y.start + y.length ≤ (get_or parts r y).start) → apart ≡ result → apart ≡ true → IsFree y.start y.length copies

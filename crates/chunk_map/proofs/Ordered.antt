@@ -1,20 +1,20 @@
 -- Chunks by start, one added, and what all of a list keep.
-use Rattle.std.proofs.Common.{◌≡◌, ℕ, zero, suc, ◌+◌, ◌-◌, ◌<◌, ◌≤◌, Bool, true, cond, List, [], ◌∷◌, ◌++◌, length, take, drop, get_or, refl, ap, sym, subst, ◌∙◌, arith, false, ⊎_elim}
+use Rattle.std.proofs.Common.{◌≡◌, ℕ, zero, suc, ◌+◌, ◌-◌, ◌<◌, ◌≤◌, Bool, true, cond, List, [], ◌∷◌, ◌++◌, length, take, drop, get_or, refl, ap, sym, subst, ◌∙◌, arith, false, ⊎_elim, ◌⊎◌}
 use Rattle.std.specs.Prelude.{Option, Some, None, IsTrue}
 use Rattle.std.specs.List.{All, Contains, insert, remove}
 use Rattle.verdict.specs.Rules.{TableRow, first_failing, or_found}
 use Rattle.verdict.proofs.Tables.{first_failing_joined}
 use Rattle.verdict.specs.declared.finding.Finding.{Finding}
 use Rattle.verdict.specs.declared.place.Chunk.{Chunk}
-use Rattle.std.proofs.lemmas.Bool.{cases_lt}
+use Rattle.std.proofs.lemmas.Bool.{cases_lt, both_ways}
 use Rattle.std.proofs.lemmas.List.{drop_more, same_lists}
 use Rattle.std.proofs.lemmas.List.Edits.{length-insert, length-remove, get_or-remove_below, get_or-remove_above, get_or-insert_below, get_or-insert_above}
 use Rattle.volume_items.specs.MapRules.{array_rows, rows_of_chunk, rows_by_start, map_finding}
 use Rattle.volume_items.specs.ChunkOrder.{put_by_start, all_by_start, by_start}
-use Rattle.chunk_map.specs.Order.{rank_by_start, AllFit, AllClear, Ascend, AreApart, AreFree, HasCopies, IsTurned, InOrder}
+use Rattle.chunk_map.specs.Order.{rank_by_start, AllFit, AllClear, Ascend, AreApart, AreFree, HasCopies, IsCopyOf, IsOfOne, IsTurned, InOrder}
 use Rattle.chunk_map.proofs.Ranks.{rank_low, insert_rank, insert_apart, by_start-ascends, by_start-permutes}
 use Rattle.chunk_map.proofs.Meets.{has_more, put_clear}
-use Rattle.std.proofs.lemmas.List.Elements.{All-weaker, All-push}
+use Rattle.std.proofs.lemmas.List.Elements.{All-weaker, All-push, All-contains, Contains-append_left, Contains-push, Contains-get_or}
 use Rattle.std.proofs.lemmas.List.Sorted.{All-permutation, IsNonDecreasingBy-short}
 
 all_by_start-push : (sorted chunks : List Chunk) (chunk : Chunk) → all_by_start sorted (chunks ++ chunk ∷ []) ≡ put_by_start chunk (all_by_start sorted chunks)
@@ -42,6 +42,7 @@ none_in_order chunks sorted copies apart clear a b c = rw (a, b, c) (record {
   distances = λ _ k d h. absurd (omega arith);
   around = record { ascend = IsNonDecreasingBy-short (λ (c : Chunk). c.start) [] (omega arith); distances = λ _ k d h. absurd (omega arith) };
   there = λ k d h. absurd (omega arith);
+  sources = λ _ k d h. absurd (omega arith);
   none_meet = λ _. tt;
 })
 
@@ -58,14 +59,15 @@ kept_apart sorted items parts rank chunk was result apart kept on i low p before
     (λ h. subst (λ cs. chunk.start + chunk.length ≤ (get_or cs rank chunk).start) p (behind passes (subst (λ cs. rank < length cs) (sym p) h)))
 
 -- more copies than those of the chunks, where the last chunk was not put
-pub more_copies : (chunks sorted wide copies more : List Chunk) (apart was clear : Bool) → InOrder chunks sorted copies apart was → wide ≡ sorted → IsTurned more clear → (clear ≡ true → was ≡ true) → ((copy : Chunk) → Contains copies copy → Contains more copy) → InOrder chunks wide more apart clear
-more_copies chunks sorted wide copies more apart was clear kept w around stays keeps = record {
+pub more_copies : (chunks sorted wide copies more : List Chunk) (apart was clear : Bool) → InOrder chunks sorted copies apart was → wide ≡ sorted → IsTurned more clear → ((copy : Chunk) → Contains copies copy → Contains more copy) → InOrder chunks wide more apart false
+more_copies chunks sorted wide copies more apart was clear kept w around keeps = record {
   order = w ∙ kept.order;
   fit = kept.fit;
   distances = λ now. subst AreApart (sym w) (kept.distances now);
-  around = around;
+  around = record { ascend = around.ascend; distances = λ now. absurd (both_ways false refl now) };
   there = All-weaker (HasCopies copies) (HasCopies more) (λ chunk has. has_more copies more chunk keeps has) chunks kept.there;
-  none_meet = λ now. subst AllClear (sym w) (kept.none_meet (stays now));
+  sources = λ now. absurd (both_ways false refl now);
+  none_meet = λ now. absurd (both_ways false refl now);
 }
 
 -- what was inserted, removed again
@@ -79,17 +81,26 @@ remove-insert xs i y low =
     (cases_lt k i))
 
 -- a chunk taken out again
-pub undone : (chunks sorted longer wide back copies more : List Chunk) (chunk : Chunk) (rank : ℕ) (pushed inserted apart was clear : Bool) → InOrder chunks sorted copies apart was → rank ≡ rank_by_start chunk.start sorted → longer ≡ cond pushed (chunks ++ chunk ∷ []) chunks → pushed ≡ false → wide ≡ cond inserted (insert sorted rank chunk) sorted → inserted ≡ true → back ≡ remove wide rank → IsTurned more clear → (clear ≡ true → was ≡ true) → ((copy : Chunk) → Contains copies copy → Contains more copy) → InOrder longer back more apart clear
-undone chunks sorted longer wide back copies more chunk rank pushed inserted apart was clear kept r m mf w wt b around stays keeps =
+pub undone : (chunks sorted longer wide back copies more : List Chunk) (chunk : Chunk) (rank : ℕ) (pushed inserted apart was clear : Bool) → InOrder chunks sorted copies apart was → rank ≡ rank_by_start chunk.start sorted → longer ≡ cond pushed (chunks ++ chunk ∷ []) chunks → pushed ≡ false → wide ≡ cond inserted (insert sorted rank chunk) sorted → inserted ≡ true → back ≡ remove wide rank → IsTurned more clear → ((copy : Chunk) → Contains copies copy → Contains more copy) → InOrder longer back more apart false
+undone chunks sorted longer wide back copies more chunk rank pushed inserted apart was clear kept r m mf w wt b around keeps =
     let low : rank ≤ length sorted = rw r (rank_low chunk.start sorted) in
     let w1 : wide ≡ insert sorted rank chunk = w ∙ ap (λ b. cond b (insert sorted rank chunk) sorted) wt in
     let same : back ≡ sorted = b ∙ ap (λ cs. remove cs rank) w1 ∙ remove-insert sorted rank chunk low in
     let m1 : longer ≡ chunks = m ∙ ap (λ b. cond b (chunks ++ chunk ∷ []) chunks) mf in
-    subst (λ cs. InOrder cs back more apart clear) (sym m1) (more_copies chunks sorted back copies more apart was clear kept same around stays keeps)
+    subst (λ cs. InOrder cs back more apart false) (sym m1) (more_copies chunks sorted back copies more apart was clear kept same around keeps)
+
+-- each copy is one of the chunks or of the new one
+all_of_one : (chunks copies more : List Chunk) (chunk : Chunk) → All (IsOfOne chunks) copies → ((copy : Chunk) → Contains more copy → Contains copies copy ⊎ IsCopyOf chunk copy) → All (IsOfOne (chunks ++ chunk ∷ [])) more
+all_of_one chunks copies more chunk all sources k d l =
+    let copy : Chunk = get_or more k d in
+    ⊎_elim
+    (λ old. let one : IsOfOne chunks copy = All-contains (IsOfOne chunks) copies copy all old in (one.0, Contains-append_left chunks (chunk ∷ []) one.0 one.1, one.2))
+    (λ new. (chunk, Contains-push chunks chunk, new))
+    (sources copy (Contains-get_or more k d l))
 
 -- one chunk more in all lists
-pub added_in_order : (chunks sorted longer wide copies more : List Chunk) (chunk : Chunk) (rank : ℕ) (pushed inserted apart was clear now : Bool) → InOrder chunks sorted copies apart was → chunk.start + chunk.length ≤ 18446744073709551615 → rank ≡ rank_by_start chunk.start sorted → longer ≡ cond pushed (chunks ++ chunk ∷ []) chunks → pushed ≡ true → wide ≡ cond inserted (insert sorted rank chunk) sorted → inserted ≡ true → (now ≡ true → AreApart (insert sorted rank chunk)) → IsTurned more clear → (clear ≡ true → was ≡ true) → ((copy : Chunk) → Contains copies copy → Contains more copy) → HasCopies more chunk → (clear ≡ true → AreFree copies chunk) → InOrder longer wide more now clear
-added_in_order chunks sorted longer wide copies more chunk rank pushed inserted apart was clear now kept fits r m mt w wt keeps around stays contained has free =
+pub added_in_order : (chunks sorted longer wide copies more : List Chunk) (chunk : Chunk) (rank : ℕ) (pushed inserted apart was clear now : Bool) → InOrder chunks sorted copies apart was → chunk.start + chunk.length ≤ 18446744073709551615 → rank ≡ rank_by_start chunk.start sorted → longer ≡ cond pushed (chunks ++ chunk ∷ []) chunks → pushed ≡ true → wide ≡ cond inserted (insert sorted rank chunk) sorted → inserted ≡ true → (now ≡ true → AreApart (insert sorted rank chunk)) → IsTurned more clear → (clear ≡ true → was ≡ true) → ((copy : Chunk) → Contains copies copy → Contains more copy) → HasCopies more chunk → (clear ≡ true → AreFree copies chunk) → ((copy : Chunk) → Contains more copy → Contains copies copy ⊎ IsCopyOf chunk copy) → InOrder longer wide more now clear
+added_in_order chunks sorted longer wide copies more chunk rank pushed inserted apart was clear now kept fits r m mt w wt keeps around stays contained has free sources =
     let m1 : longer ≡ chunks ++ chunk ∷ [] = m ∙ ap (λ b. cond b (chunks ++ chunk ∷ []) chunks) mt in
     let w1 : wide ≡ insert sorted rank chunk = w ∙ ap (λ b. cond b (insert sorted rank chunk) sorted) wt in
     let w2 : wide ≡ put_by_start chunk sorted = w1 ∙ ap (λ n. insert sorted n chunk) r ∙ insert_rank chunk sorted in
@@ -103,6 +114,7 @@ added_in_order chunks sorted longer wide copies more chunk rank pushed inserted 
       distances = λ on. subst AreApart (sym w1) (keeps on);
       around = around;
       there = subst (All (HasCopies more)) (sym m1) (All-push (HasCopies more) chunks chunk old has);
+      sources = λ on. subst (λ cs. All (IsOfOne cs) more) (sym m1) (all_of_one chunks copies more chunk (kept.sources (stays on)) sources);
       none_meet = λ on. subst AllClear (sym w2) (put_clear copies chunk sorted (free on) by (kept.none_meet (stays on)));
     }
 

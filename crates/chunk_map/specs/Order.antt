@@ -1,5 +1,5 @@
 -- What a chunk map keeps of its lists. Only the map's own functions need it.
-use Rattle.std.specs.Prelude.{◌≡◌, ℕ, ◌+◌, ◌≤◌, Bool, true, false, ◌||◌, nat_le, List, [], ◌∷◌, length, Option, Some, None, if◌then◌else◌}
+use Rattle.std.specs.Prelude.{◌≡◌, ℕ, ◌+◌, ◌≤◌, Bool, true, false, ◌||◌, ◌⊎◌, nat_le, List, [], ◌∷◌, length, Option, Some, None, if◌then◌else◌}
 use Rattle.std.specs.Option.{IfSome}
 use Rattle.std.specs.List.{list_any, All, AllAdjacentBelow, Contains}
 use Rattle.std.specs.List.Sorted.{IsNonDecreasingBy}
@@ -41,6 +41,14 @@ pub record HasCopies (copies : List Chunk) (chunk : Chunk) : Type 0 where
   pub first : Contains copies (turned chunk chunk.first)
   pub second : IfSome chunk.second (λ at. Contains copies (turned chunk at))
 
+-- a copy is one of this chunk's
+abbrev pub IsCopyOf : Chunk → Chunk → Type 0
+IsCopyOf chunk copy = (at : ℕ) × (copy ≡ turned chunk at) × ((chunk.first ≡ at) ⊎ (chunk.second ≡ Some at))
+
+-- a copy is one of a chunk among these
+abbrev pub IsOfOne : List Chunk → Chunk → Type 0
+IsOfOne chunks copy = (chunk : Chunk) × Contains chunks chunk × IsCopyOf chunk copy
+
 -- n bytes at an offset have no byte in common with one of these copies
 abbrev pub IsFree : ℕ → ℕ → List Chunk → Type 0
 IsFree at n copies = All (λ (copy : Chunk). have_common at n copy.start copy.length ≡ false) copies
@@ -70,13 +78,15 @@ pub record MeetsNone (before : List Chunk) (chunk : Chunk) : Type 0 where
   pub second : IfSome chunk.second (λ at. (list_any (meets_chunk at chunk.length) before || have_common at chunk.length chunk.first chunk.length) ≡ false)
 
 -- what a chunk map keeps of its lists: the second has the chunks of the first by start, all fit, and where the map says
--- that they are apart they are; the third has the copies of all by offset, and where it is said to be clear none meet
+-- that they are apart they are; the third has the copies of all by offset, and where it is said to be clear it has no
+-- others, and none meet
 pub record InOrder (chunks sorted copies : List Chunk) (apart clear : Bool) : Type 0 where
   pub order : sorted ≡ by_start chunks
   pub fit : AllFit chunks
   pub distances : apart ≡ true → AreApart sorted
   pub around : IsTurned copies clear
   pub there : All (HasCopies copies) chunks
+  pub sources : clear ≡ true → All (IsOfOne chunks) copies
   pub none_meet : clear ≡ true → AllClear sorted
 
 -- what a search gives is the only one of some chunks that holds n bytes from a logical address on whole

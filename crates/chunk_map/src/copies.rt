@@ -1,8 +1,9 @@
 //! The copies of one chunk.
 
 ghost use Rattle.std.specs.Prelude.{◌≡◌, ◌+◌, ◌-◌, ◌≤◌, ◌<◌, ◌^◌, nat_le, IsTrue};
-ghost use Rattle.verdict.specs.Chunks.{holds_range, place_of_copies, logical_in_copies};
+ghost use Rattle.verdict.specs.Chunks.{holds_range, place_of_copies, logical_in_copies, logical_of};
 ghost use Rattle.volume_items.specs.MapRules.{have_common, meets_chunk};
+ghost use Rattle.chunk_map.specs.Order.{AllFit};
 
 use verdict::{Chunk, Place};
 
@@ -46,7 +47,7 @@ pub fn ends_by(at: u64, len: u64, end: u64) -> bool
 }
 
 /// The logical address whose copy in this chunk stands at a physical offset.
-pub fn logical_in(chunk: &Chunk, physical: u64) -> Option<u64>
+fn logical_in(chunk: &Chunk, physical: u64) -> Option<u64>
     requires { chunk.now.start + chunk.now.length < 2 ^ 64 }
     ensures { let chunk = chunk.now in
         result ≡ logical_in_copies chunk.start chunk.length chunk.first chunk.second physical }
@@ -60,6 +61,20 @@ pub fn logical_in(chunk: &Chunk, physical: u64) -> Option<u64>
         }
         _ => None,
     }
+}
+
+/// The logical address whose copy stands at a physical offset, in the first chunk of a list that has one
+/// there.
+pub fn logical_in_list(chunks: &[Chunk], physical: u64) -> Option<u64>
+    requires { AllFit chunks.now }
+    ensures { result ≡ logical_of chunks.now physical }
+{
+    for chunk in chunks {
+        if let Some(address) = logical_in(chunk, physical) {
+            return Some(address);
+        }
+    }
+    None
 }
 
 /// Whether two ranges of bytes have a byte in common.

@@ -8,7 +8,7 @@ ghost use Rattle.volume_items.specs.MapRules.{map_finding, rows_by_start};
 ghost use Rattle.chunk_map.specs.SystemArray.{chunks_of, sys_of};
 
 use crate::array::read_pair;
-use crate::copies::{logical_in, place_of};
+use crate::copies::{logical_in_list, place_of};
 use crate::home::{home_apart, home_in};
 use crate::order::{rank_of, stands_apart};
 use crate::rules::{array_fault, clear_fault, sorted_fault};
@@ -28,7 +28,7 @@ pub struct ChunkMap {
     apart: bool,
     // The copies of all chunks by their offset on the device.
     copies: Vec<Chunk>,
-    // Whether no two copies meet.
+    // Whether no two copies meet, and each is one of a chunk of the list.
     clear: bool,
 }
 
@@ -87,15 +87,19 @@ impl ChunkMap {
         Ok(Sys::Map(map))
     }
 
-    /// Puts a chunk at the end of the list. When memory is wanting, nothing changes. It costs binary
-    /// searches among the chunks by start and among the copies by offset, and what stands behind a place
-    /// found there moves by one: nothing, where chunks come by start and their copies by offset.
+    /// Puts a chunk at the end of the list. When memory is wanting, the list stays as it was, and from
+    /// then on a look at the copies costs a pass. It costs binary searches among the chunks by start and
+    /// among the copies by offset, and what stands behind a place found there moves by one: nothing,
+    /// where chunks come by start and their copies by offset.
     pub fn add(&mut self, chunk: &Chunk) -> Result<(), NoMemory>
         requires { chunk.now.start + chunk.now.length < 2 ^ 64 }
         ensures ok { OnOk result (self.new ≡ self.old ++ chunk.now ∷ []) }
         ensures err { OnErr result (self.new ≡ self.old) }
     {
-        put_copies(&mut self.copies, &mut self.clear, chunk)?;
+        let mut clear = self.clear;
+        // Not said of copies of a chunk that the list may not get.
+        self.clear = false;
+        put_copies(&mut self.copies, &mut clear, chunk)?;
         let rank = rank_of(&self.sorted, chunk.start);
         let apart = self.apart && stands_apart(&self.sorted, rank, chunk);
         if self.sorted.insert(rank, *chunk).is_err() {
@@ -106,6 +110,7 @@ impl ChunkMap {
             return Err(NoMemory);
         }
         self.apart = apart;
+        self.clear = clear;
         Ok(())
     }
 
@@ -136,16 +141,17 @@ impl ChunkMap {
     }
 
     /// The logical address whose copy stands at the byte `physical` of the device, in the first chunk
-    /// of the list that has one there. It costs a pass over the list.
+    /// of the list that has one there. It costs a binary search where no two copies meet, else a pass
+    /// over the list.
     pub fn logical_at(&self, physical: u64) -> Option<u64>
         ensures { result ≡ logical_of self.now physical }
     {
-        for chunk in &self.chunks {
-            if let Some(address) = logical_in(chunk, physical) {
-                return Some(address);
-            }
+        if self.clear {
+            let copy = home_apart(&self.copies, physical, 1)?;
+            Some(copy.first + (physical - copy.start))
+        } else {
+            logical_in_list(&self.chunks, physical)
         }
-        None
     }
 
     /// The chunks, in the order in which they were put.

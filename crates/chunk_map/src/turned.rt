@@ -1,9 +1,9 @@
 //! The map turned around: the copies of all chunks by their offset on the device.
 
-ghost use Rattle.std.specs.Prelude.{◌≡◌, true, OnOk};
+ghost use Rattle.std.specs.Prelude.{◌≡◌, ◌⊎◌, true, OnOk};
 ghost use Rattle.std.specs.List.{Contains};
 ghost use Rattle.verdict.specs.declared.place.Chunk.{Chunk};
-ghost use Rattle.chunk_map.specs.Order.{turned, IsTurned, HasCopies, IsFree, AreFree};
+ghost use Rattle.chunk_map.specs.Order.{turned, IsTurned, HasCopies, IsCopyOf, IsFree, AreFree};
 
 use crate::order::{rank_of, stands_apart};
 use verdict::{Chunk, NoMemory};
@@ -18,6 +18,8 @@ pub fn put_copies(copies: &mut Vec<Chunk>, clear: &mut bool, chunk: &Chunk) -> R
         Contains copies.old.items copy → Contains copies.new.items copy }
     ensures there { OnOk result (HasCopies copies.new.items chunk.now) }
     ensures free { OnOk result (clear.new ≡ true → AreFree copies.old.items chunk.now) }
+    ensures sources { OnOk result ((copy : Chunk) → Contains copies.new.items copy →
+        Contains copies.old.items copy ⊎ IsCopyOf chunk.now copy) }
 {
     put_copy(copies, clear, copy_at(chunk, chunk.first))?;
     match chunk.second {
@@ -48,6 +50,8 @@ fn put_copy(copies: &mut Vec<Chunk>, clear: &mut bool, copy: Chunk) -> Result<()
         Contains copies.old.items other → Contains copies.new.items other }
     ensures there { OnOk result (Contains copies.new.items copy) }
     ensures free { OnOk result (clear.new ≡ true → IsFree copy.start copy.length copies.old.items) }
+    ensures sources { OnOk result ((other : Chunk) → Contains copies.new.items other →
+        Contains copies.old.items other ⊎ (other ≡ copy)) }
 {
     let rank = rank_of(copies, copy.start);
     let apart = *clear && stands_apart(copies, rank, &copy);

@@ -1,4 +1,4 @@
-use Rattle.chunk_map.proofs.Meets.{on_ok, one_there, both_there, one_free, both_free}
+use Rattle.chunk_map.proofs.Meets.{on_ok, one_there, both_there, one_free, both_free, one_source, both_sources}
 use Rattle.chunk_map.proofs.turned.put_copies.Goals as goal
 
 pub returns-in-Some-clause-more : goal.returns-in-Some-clause-more
@@ -17,3 +17,10 @@ returns-in-None-clause-there c = one_there c.put_copy.new.copies.items c.args.ch
 
 pub returns-in-None-clause-free : goal.returns-in-None-clause-free
 returns-in-None-clause-free c = λ now. one_free c.args.copies.now.items c.args.chunk.now c.copy_at.result c.copy_at.ensures c.in-None.is (c.in_ok-put_copy.ensures.free now)
+
+pub returns-in-Some-clause-sources : goal.returns-in-Some-clause-sources
+returns-in-Some-clause-sources c =
+    on_ok c.put_copy-in-Some.result (λ next. both_sources c.args.copies.now.items c.put_copy.new.copies.items c.put_copy-in-Some.new.copies.items c.args.chunk.now c.in-Some.second c.copy_at.result c.copy_at-in-Some.result c.copy_at.ensures c.copy_at-in-Some.ensures c.in-Some.is c.in_ok-put_copy.ensures.sources next) c.put_copy-in-Some.ensures.sources
+
+pub returns-in-None-clause-sources : goal.returns-in-None-clause-sources
+returns-in-None-clause-sources c = one_source c.args.copies.now.items c.put_copy.new.copies.items c.args.chunk.now c.copy_at.result c.copy_at.ensures c.in_ok-put_copy.ensures.sources

@@ -2,7 +2,7 @@ use Rattle.std.proofs.Common.{◌≡◌, true, cond, ◌∙◌, ap}
 use Rattle.std.proofs.lemmas.Bool.{both_ways}
 use Rattle.std.specs.List.{insert}
 use Rattle.chunk_map.specs.Order.{rank_by_start, AreApart}
-use Rattle.chunk_map.proofs.Meets.{put_turned, contains_more, contains_new, free_put}
+use Rattle.chunk_map.proofs.Meets.{put_turned, contains_more, contains_new, contains_old, free_put}
 use Rattle.chunk_map.proofs.Ordered.{kept_apart}
 use Rattle.chunk_map.proofs.turned.put_copy.Goals as goal
 use Rattle.chunk_map.proofs.turned.put_copy.Goals.{then-clear, else-clear}
@@ -30,3 +30,6 @@ returns-clause-free c =
       | then-clear w ↦ free_put c.args.copies.now.items c.deref.result.now w.deref-then-clear.result.now c.args.copy c.rank_of-rank.result c.args.clear.now w.stands_apart-apart.result c.if-clear.apart c.requires w.if-clear.true c.deref.ensures.value c.rank_of-rank.ensures.rank w.deref-then-clear.ensures.value w.stands_apart-apart.ensures.before w.stands_apart-apart.ensures.behind w.apart-is
       | else-clear w ↦ λ now. absurd (both_ways _ (w.apart-is ∙ w.if-clear.false) now)
     ]
+
+pub returns-clause-sources : goal.returns-clause-sources
+returns-clause-sources c = contains_old c.args.copies.now.items c.insert.new.self.items c.args.copy c.rank_of-rank.result (c.insert.ensures.items ∙ ap (λ b. cond b (insert c.args.copies.now.items c.rank_of-rank.result c.args.copy) c.args.copies.now.items) c.if-is_err.ensures.negation)

@@ -10,14 +10,14 @@ pub rank_of-rank-requires : goal.rank_of-rank-requires
 rank_of-rank-requires c = in_order-ascends c.self.inside.chunks.items c.self.inside.sorted.items c.deref.result.now c.self.inside.copies.items c.self.inside.apart c.self.inside.clear c.self.invariant c.deref.ensures.value
 
 pub invariant_of-self : goal.invariant_of-self
-invariant_of-self c = more_copies c.self.inside.chunks.items c.self.inside.sorted.items c.self.inside.sorted.items c.self.inside.copies.items c.put_copies.new.copies.items c.self.inside.apart c.self.inside.clear c.put_copies.new.clear c.self.invariant refl c.put_copies.ensures.kept c.put_copies.ensures.stays c.put_copies.ensures.more
+invariant_of-self c = more_copies c.self.inside.chunks.items c.self.inside.sorted.items c.self.inside.sorted.items c.self.inside.copies.items c.put_copies.new.copies.items c.self.inside.apart c.self.inside.clear c.put_copies.new.clear c.self.invariant refl c.put_copies.ensures.kept c.put_copies.ensures.more
 
 pub invariant_of-self-then-is_err-2 : goal.invariant_of-self-then-is_err-2
 invariant_of-self-then-is_err-2 c =
     undone c.self.inside.chunks.items c.self.inside.sorted.items c.push.new.self.items c.insert.new.self.items c.remove.new.self.items c.self.inside.copies.items c.put_copies.new.copies.items c.args.chunk.now c.rank_of-rank.result _ _ c.self.inside.apart c.self.inside.clear c.put_copies.new.clear c.self.invariant
     (c.rank_of-rank.ensures.rank ∙ ap (rank_by_start c.args.chunk.now.start) c.deref.ensures.value)
     c.push.ensures.items c.if-is_err-2.ensures.negation c.insert.ensures.items c.if-is_err.ensures.negation c.remove.ensures.items
-    c.put_copies.ensures.kept c.put_copies.ensures.stays c.put_copies.ensures.more
+    c.put_copies.ensures.kept c.put_copies.ensures.more
 
 pub invariant_of-self-2 : goal.invariant_of-self-2
 invariant_of-self-2 c =
@@ -29,4 +29,4 @@ invariant_of-self-2 c =
     added_in_order c.self.inside.chunks.items c.self.inside.sorted.items c.push.new.self.items c.insert.new.self.items c.self.inside.copies.items c.put_copies.new.copies.items c.args.chunk.now c.rank_of-rank.result _ _ c.self.inside.apart c.self.inside.clear c.put_copies.new.clear c.if-self.apart c.self.invariant (omega arith)
     (c.rank_of-rank.ensures.rank ∙ ap (rank_by_start c.args.chunk.now.start) c.deref.ensures.value)
     c.push.ensures.items c.if-is_err-2.ensures.negation c.insert.ensures.items c.if-is_err.ensures.negation keeps
-    c.put_copies.ensures.kept c.put_copies.ensures.stays c.put_copies.ensures.more c.in_ok-put_copies.ensures.there c.in_ok-put_copies.ensures.free
+    c.put_copies.ensures.kept c.put_copies.ensures.stays c.put_copies.ensures.more c.in_ok-put_copies.ensures.there c.in_ok-put_copies.ensures.free c.in_ok-put_copies.ensures.sources
