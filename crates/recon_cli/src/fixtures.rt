@@ -280,16 +280,21 @@ fn changed(alloc: Global, image: &[u8], change: Change) -> Result<Bytes, Fail> {
     }
 }
 
-// Writes a block to each of its places, where it lies inside.
-fn write_copies(disk: &mut MemDisk, at: u64, block: &[u8]) -> Result<(), Fail> {
+// Writes bytes to the disk, where they lie inside.
+fn write(disk: &mut MemDisk, at: u64, from: &[u8]) -> Result<(), Fail> {
     let end = disk.bytes().len() as u64;
-    let len = block.len() as u64;
-    for copy in [0, SECOND] {
-        let place = at.saturating_add(copy);
-        let is_copy = copy == 0 || at >= ROOTS;
-        if is_copy && 0 < len && len <= 1_048_576 && place < end && len <= end - place {
-            disk.write(place, block)?;
-        }
+    let len = from.len() as u64;
+    if 0 < len && len <= 1_048_576 && at < end && len <= end - at {
+        disk.write(at, from)?;
+    }
+    Ok(())
+}
+
+// Writes all copies of a block, whose first is at a place.
+fn write_copies(disk: &mut MemDisk, at: u64, from: &[u8]) -> Result<(), Fail> {
+    write(disk, at, from)?;
+    if at >= ROOTS {
+        write(disk, at.saturating_add(SECOND), from)?;
     }
     Ok(())
 }
