@@ -3,8 +3,8 @@
 
 ghost use Rattle.walk_laws.specs.WalkOrder.{WalksAscend};
 
-/// The keys of the items that a walk gives ascend: each stands before all later ones. So root items come in the
-/// order of their ids as unsigned numbers, and two of one id are neighbors.
+/// The keys of the items that a walk of an image gives ascend: each stands before all later ones, by object id, then
+/// kind, then offset, as unsigned numbers.
 pub fn walks_ascend()
     ensures { WalksAscend }
 {}
