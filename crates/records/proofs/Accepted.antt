@@ -1,7 +1,7 @@
 -- What an accepted image has.
 use Rattle.std.proofs.Common.{◌≡◌, ℕ, List, ◌∷◌, refl, ap, sym, ◌∙◌}
 use Rattle.std.specs.Prelude.{Result, Ok, Err}
-use Rattle.verdict.specs.Rules.{and_then}
+use Rattle.verdict.specs.Rules.{and_then, finding_or}
 use Rattle.verdict.specs.declared.finding.Finding.{Finding}
 use Rattle.verdict.specs.declared.finding.Verdict.{Verdict}
 use Rattle.verdict.specs.declared.finding.Verdict.TheVariants.{Accept, Found}
@@ -9,6 +9,8 @@ use Rattle.super_reader.specs.declared.Super.{Super}
 use Rattle.super_reader.specs.Superblock.{array_place}
 use Rattle.volume_items.specs.SystemArray.{array_chunks}
 use Rattle.records.specs.Contents.{Contents, contents, superblock_in, chunk_map_in, root_items_in, all_records, super_record}
+use Rattle.records.specs.Context.{context_of}
+use Rattle.records.specs.Postings.{account_fault}
 use Rattle.records.specs.FullCheck.{checked, verdict_of, full_check}
 
 -- a step that comes to a value, and what followed
@@ -36,6 +38,7 @@ held_superblock image held is =
 pub accepted_superblock : (image : List ℕ) (generation : ℕ) → full_check image ≡ Accept generation → (sup : Super) × (superblock_in image ≡ Ok sup) × (sup.generation ≡ generation)
 unfolding checked
 accepted_superblock image generation is =
-    let held = and_then-ok (contents image) (λ h. Ok h.sup.generation) generation (accepted_generation (checked image) generation is) in
-    let same : held.0.sup.generation ≡ generation = cc (held.2) in
+    let held = and_then-ok (contents image) _ generation (accepted_generation (checked image) generation is) in
+    let last = and_then-ok (finding_or (account_fault (context_of held.0) held.0.records) (tt {0})) _ generation held.2 in
+    let same : held.0.sup.generation ≡ generation = cc (last.2) in
     (held.0.sup, held_superblock image held.0 held.1, same)

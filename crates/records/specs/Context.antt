@@ -1,7 +1,7 @@
 -- The context of an image: what the records of one item are read by beside the item itself.
-use Rattle.std.specs.Prelude.{ℕ, ◌==◌, bit_and, List, Option, Some, None, if◌then◌else◌}
+use Rattle.std.specs.Prelude.{ℕ, ◌==◌, bit_and, Option, Some, None, if◌then◌else◌}
 use Rattle.std.specs.List.{filter_map}
-use Rattle.verdict.specs.declared.place.Chunk.{Chunk}
+use Rattle.accounts.specs.Context.{Context}
 use Rattle.records.specs.Part.{Located, Part}
 use Rattle.records.specs.Part.Part.{InodePart}
 use Rattle.records.specs.Contents.{Contents}
@@ -17,12 +17,6 @@ sum_free_part tree other = None
 
 abbrev pub sum_free_inode : Located → Option (ℕ × ℕ)
 sum_free_inode one = sum_free_part one.tree one.part
-
--- the chunks of the chunk tree, the size of a tree block, and the inodes, each with its tree, whose data has no checksums
-pub record Context : Type 0 where
-  pub chunks : List Chunk
-  pub nodesize : ℕ
-  pub sum_free : List (ℕ × ℕ)
 
 -- the context of an image that holds this
 abbrev pub context_of : Contents → Context

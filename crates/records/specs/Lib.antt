@@ -4,7 +4,13 @@ pub mod Reads
 pub mod Walk
 pub mod Takes
 pub mod Contents
+pub mod Context
+pub mod Post
+pub mod ExtentPostings
+pub mod InodePostings
+pub mod DirPostings
+pub mod SpacePostings
+pub mod Postings
 pub mod FullCheck
 pub mod WalkLaw
 pub mod Owned
-pub mod Context

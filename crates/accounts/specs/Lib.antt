@@ -1,0 +1,9 @@
+pub mod Order
+pub mod OrderLaws
+pub mod Sums
+pub mod Broken
+pub mod Least
+pub mod Context
+pub mod Kinds
+pub mod Taken
+pub mod Posts

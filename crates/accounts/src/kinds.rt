@@ -1,0 +1,250 @@
+//! The accounts, a kind each, in the order of their numbers.
+
+ghost use Rattle.std.specs.Prelude.{◌≡◌, [], IfOk};
+ghost use Rattle.accounts.specs.Kinds as kinds;
+
+use crate::{Account, Home};
+use std::alloc::Global;
+use verdict::{Bytes, Key, NoMemory};
+
+// The key of three numbers.
+fn key_by(objectid: u64, kind: u8, offset: u64) -> Key
+    ensures { result ≡ kinds.key_by objectid kind offset }
+{
+    Key {
+        objectid,
+        kind,
+        offset,
+    }
+}
+
+// An account without a tail.
+fn plain(alloc: Global, kind: u8, tree: u64, block: u64, key: Key, detail: u64) -> Account
+    ensures { result ≡ kinds.plain kind tree block key detail }
+{
+    Account {
+        kind,
+        tree,
+        block,
+        key,
+        detail,
+        tail: Bytes::from(Vec::new(alloc)),
+    }
+}
+
+// An account that is of no block, whose tail is a name.
+fn named(
+    alloc: Global,
+    kind: u8,
+    tree: u64,
+    key: Key,
+    detail: u64,
+    name: &[u8],
+) -> Result<Account, NoMemory>
+    ensures { IfOk result (λ account. account ≡ kinds.named kind tree 0 key detail name.now) }
+{
+    Ok(Account {
+        kind,
+        tree,
+        block: 0,
+        key,
+        detail,
+        tail: Bytes::of(alloc, name)?,
+    })
+}
+
+impl Account {
+    /// A1: the tree with this root id refers to the tree block at a logical address.
+    pub fn block_ref(alloc: Global, root: u64, address: u64) -> Account
+        ensures { result ≡ kinds.block_ref root address }
+    {
+        plain(alloc, 1, root, address, key_by(address, 176, root), 0)
+    }
+
+    /// A1: the block at a logical address refers to the tree block at another.
+    pub fn shared_block_ref(alloc: Global, parent: u64, address: u64) -> Account
+        ensures { result ≡ kinds.shared_block_ref parent address }
+    {
+        plain(alloc, 1, 0, address, key_by(address, 182, parent), 0)
+    }
+
+    /// A2: an inode of the tree with this root id refers to the extent at a logical address, whose first byte would
+    /// be the file's byte `origin`.
+    pub fn data_ref(alloc: Global, root: u64, address: u64, ino: u64, origin: u64) -> Account
+        ensures { result ≡ kinds.data_ref root address ino origin }
+    {
+        plain(alloc, 2, root, address, key_by(ino, 178, origin), 0)
+    }
+
+    /// A2: the leaf at a logical address refers to the extent at another.
+    pub fn shared_data_ref(alloc: Global, parent: u64, address: u64) -> Account
+        ensures { result ≡ kinds.shared_data_ref parent address }
+    {
+        plain(alloc, 2, 0, address, key_by(parent, 184, 0), 0)
+    }
+
+    /// A3: the extent at a logical address.
+    pub fn extent(alloc: Global, address: u64) -> Account
+        ensures { result ≡ kinds.extent address }
+    {
+        plain(alloc, 3, 2, address, Key::none(), 0)
+    }
+
+    /// A4: the form of the extent at a logical address: of kind 168 its length in bytes, of kind 169 its level.
+    pub fn extent_form(alloc: Global, address: u64, kind: u8, form: u64) -> Account
+        ensures { result ≡ kinds.extent_form address kind form }
+    {
+        plain(alloc, 4, 2, address, key_by(0, kind, form), 0)
+    }
+
+    /// A5: the sector at a logical address.
+    pub fn sector(alloc: Global, address: u64) -> Account
+        ensures { result ≡ kinds.sector address }
+    {
+        plain(alloc, 5, 0, address, Key::none(), 0)
+    }
+
+    /// A6: the block group, and the chunk, from a logical address on with a length in bytes and a type.
+    pub fn group(alloc: Global, start: u64, length: u64, class: u64) -> Account
+        ensures { result ≡ kinds.group start length class }
+    {
+        plain(alloc, 6, 0, 0, key_by(start, 192, length), class)
+    }
+
+    /// A6: the group of a home.
+    pub fn group_of(alloc: Global, home: &Home) -> Account
+        ensures { result ≡ kinds.group_of home.now }
+    {
+        Account::group(alloc, home.start, home.length, home.class)
+    }
+
+    /// A7: the extent at a logical address, in a group of another class.
+    pub fn group_class(alloc: Global, address: u64) -> Account
+        ensures { result ≡ kinds.group_class address }
+    {
+        plain(alloc, 7, 2, address, Key::none(), 0)
+    }
+
+    /// A8: the extent at a logical address, outside every chunk.
+    pub fn outside(alloc: Global, address: u64) -> Account
+        ensures { result ≡ kinds.outside address }
+    {
+        plain(alloc, 8, 2, address, Key::none(), 0)
+    }
+
+    /// A9: an inode of a tree.
+    pub fn inode(alloc: Global, tree: u64, ino: u64) -> Account
+        ensures { result ≡ kinds.inode tree ino }
+    {
+        plain(alloc, 9, tree, 0, key_by(ino, 1, 0), 0)
+    }
+
+    /// A10: a type of an inode, 1 regular file to 7 symbolic link.
+    pub fn inode_type(alloc: Global, tree: u64, ino: u64, sort: u8) -> Account
+        ensures { result ≡ kinds.inode_type tree ino sort }
+    {
+        plain(alloc, 10, tree, 0, key_by(ino, 1, 0), u64::from(sort))
+    }
+
+    /// A11: a name in a directory, with its hash: where it leads to, and the type of that.
+    pub fn name_entry(
+        alloc: Global,
+        tree: u64,
+        dir: u64,
+        hash: u32,
+        location: Key,
+        name: &[u8],
+        sort: u8,
+    ) -> Result<Account, NoMemory>
+        ensures { IfOk result (λ account.
+            account ≡ kinds.name_entry tree dir hash location name.now sort) }
+    {
+        let mut tail = Vec::new(alloc);
+        let wanted = tail.extend_from_slice(name).is_ok()
+            && tail.push(sort).is_ok()
+            && tail.push(location.kind).is_ok();
+        if !wanted {
+            return Err(NoMemory);
+        }
+        Ok(Account {
+            kind: 11,
+            tree,
+            block: 0,
+            key: key_by(dir, 84, u64::from(hash)),
+            detail: location.objectid,
+            tail: Bytes::from(tail),
+        })
+    }
+
+    /// A12: a name of an inode, at an index of a directory.
+    pub fn link(
+        alloc: Global,
+        tree: u64,
+        ino: u64,
+        dir: u64,
+        index: u64,
+        name: &[u8],
+    ) -> Result<Account, NoMemory>
+        ensures { IfOk result (λ account. account ≡ kinds.link tree ino dir index name.now) }
+    {
+        named(alloc, 12, tree, key_by(ino, 12, dir), index, name)
+    }
+
+    /// A13: the name of the subvolume `child`, at an index of a directory of the tree `parent`.
+    pub fn subvolume_entry(
+        alloc: Global,
+        parent: u64,
+        child: u64,
+        dir: u64,
+        index: u64,
+        name: &[u8],
+    ) -> Result<Account, NoMemory>
+        ensures { IfOk result (λ account.
+            account ≡ kinds.subvolume_entry parent child dir index name.now) }
+    {
+        named(alloc, 13, parent, key_by(child, 156, dir), index, name)
+    }
+
+    /// A14: the same name, from the parent and from the child.
+    pub fn subvolume_pair(
+        alloc: Global,
+        parent: u64,
+        child: u64,
+        dir: u64,
+        index: u64,
+        name: &[u8],
+    ) -> Result<Account, NoMemory>
+        ensures { IfOk result (λ account.
+            account ≡ kinds.subvolume_pair parent child dir index name.now) }
+    {
+        named(alloc, 14, parent, key_by(child, 144, dir), index, name)
+    }
+
+    /// A15: a stripe of the chunk at a logical address, on a device from a physical offset on, of a length in bytes.
+    pub fn stripe(alloc: Global, start: u64, devid: u64, physical: u64, length: u64) -> Account
+        ensures { result ≡ kinds.stripe start devid physical length }
+    {
+        plain(alloc, 15, 4, start, key_by(devid, 204, physical), length)
+    }
+
+    /// A16: the bytes that all groups use.
+    pub fn bytes_used(alloc: Global) -> Account
+        ensures { result ≡ kinds.bytes_used }
+    {
+        plain(alloc, 16, 0, 0, Key::none(), 0)
+    }
+
+    /// A17: the references to a subvolume.
+    pub fn subvolume(alloc: Global, id: u64) -> Account
+        ensures { result ≡ kinds.subvolume id }
+    {
+        plain(alloc, 17, 1, 0, key_by(id, 132, 0), 0)
+    }
+
+    /// A18: the bytes of a device that its ranges take.
+    pub fn device(alloc: Global, devid: u64) -> Account
+        ensures { result ≡ kinds.device devid }
+    {
+        plain(alloc, 18, 3, 0, key_by(1, 216, devid), 0)
+    }
+}

@@ -1,0 +1,13 @@
+//! Accounts: what one item of an image says and another must say too, as sums that have to agree.
+#![tactic(auto)]
+
+mod account;
+mod context;
+mod kinds;
+mod postings;
+mod totals;
+
+pub use account::Account;
+pub use context::{Ctx, Home};
+pub use postings::{Posting, Postings};
+pub use totals::{Totals, broken, finding_of};
