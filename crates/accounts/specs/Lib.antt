@@ -7,3 +7,4 @@ pub mod Context
 pub mod Kinds
 pub mod Taken
 pub mod Posts
+pub mod Tally

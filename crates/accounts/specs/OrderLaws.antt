@@ -1,9 +1,7 @@
 -- The order of accounts is total, and only equal accounts tie.
-use Rattle.std.specs.Prelude.{◌≡◌, refl}
 use Rattle.std.specs.Cmp.{IsTotalOrder, IsEquivalence, IsPartialOrder, IsPartialEquivalence, then_total, on_total, nat_cmp_total, eq_by_cmp_equiv, partial_order_from_total, partial_equiv_from_equiv}
 use Rattle.std.specs.Cmp.Lexicographic.{nat_list_cmp_total}
 use Rattle.std.specs.Ordering.{as_partial_cmp, eq_by_cmp}
-use Rattle.accounts.specs.declared.account.Account.{Account}
 use Rattle.accounts.specs.Order.{account_cmp, by_key}
 
 by_key_total : IsTotalOrder by_key

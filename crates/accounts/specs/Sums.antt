@@ -13,7 +13,7 @@ is_same = eq_by_cmp account_cmp
 -- what a posting adds to one sum of an account; one to a field above 8 adds to none
 unfoldable pub added : Posting → Account → ℕ → ℕ
 added posting account field =
-    if is_same account posting.account && (posting.field == field && nat_lt field 9) then posting.amount else 0
+    if is_same posting.account account && (posting.field == field && nat_lt field 9) then posting.amount else 0
 
 -- the total of one sum of an account: all that was posted there
 unfoldable pub total_of : List Posting → Account → ℕ → ℕ

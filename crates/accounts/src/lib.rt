@@ -4,10 +4,14 @@
 mod account;
 mod context;
 mod kinds;
+mod laws;
 mod postings;
+mod tally;
 mod totals;
 
 pub use account::Account;
 pub use context::{Ctx, Home};
+pub use laws::least_broken_law;
 pub use postings::{Posting, Postings};
+pub use tally::Tally;
 pub use totals::{Totals, broken, finding_of};

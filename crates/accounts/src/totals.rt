@@ -1,17 +1,54 @@
 //! The sums of an account, and the rule that they keep.
 
-ghost use Rattle.std.specs.Prelude.{◌≡◌};
+ghost use Rattle.std.specs.Prelude.{◌≡◌, ℕ, ◌<◌, OnOk};
 ghost use Rattle.accounts.specs.Sums.{sum_in};
+ghost use Rattle.accounts.specs.Tally.{balances, kept, with_amount};
 ghost use Rattle.accounts.specs.Broken.{broken_finding, extent_keeps, group_keeps, inode_keeps, is_broken, sector_keeps};
 
 use crate::Account;
-use verdict::{Family, Finding, Rule};
+use verdict::{Family, Finding, NoMemory, Rule};
 
 /// The nine sums of an account.
 #[derive(Clone, Copy, Debug, PartialEq, Eq)]
 pub struct Totals {
     /// The sums, by the number of the field.
     pub f: [u128; 9],
+}
+
+impl Totals {
+    // No sum.
+    pub fn zero() -> Totals
+        ensures { (n : ℕ) → sum_in result n ≡ 0 }
+    {
+        Totals { f: [0; 9] }
+    }
+
+    // Adds an amount to a sum of an account of a kind. Where the difference of the first two sums decides, that alone
+    // is kept. A sum that would pass 128 bits is want of memory.
+    #[tactic(auto, unfolding(crate::specs::Tally::kept))]
+    pub fn add(&mut self, kind: u8, field: usize, amount: u64) -> Result<(), NoMemory>
+        requires { field < 9 }
+        ensures { OnOk result ((n : ℕ) →
+            kept kind (sum_in self.new) n ≡ kept kind (with_amount (sum_in self.old) field amount) n) }
+    {
+        let Some(sum) = self.f[field].checked_add(u128::from(amount)) else {
+            return Err(NoMemory);
+        };
+        self.f[field] = sum;
+        if balances(kind) {
+            let less = self.f[0].min(self.f[1]);
+            self.f[0] -= less;
+            self.f[1] -= less;
+        }
+        Ok(())
+    }
+}
+
+// Whether the rule on a kind of account is that its first two sums are equal, so that their difference alone decides.
+pub fn balances(kind: u8) -> bool
+    ensures { result ≡ balances kind }
+{
+    matches!(kind, 1 | 2 | 11 | 12 | 14..=18)
 }
 
 /// Whether an account with these sums is broken. The line of its kind decides; a kind without one has no rule.

@@ -1,0 +1,93 @@
+//! The sums of all accounts that are posted to.
+
+ghost use Rattle.std.specs.BTreeMap.{get};
+ghost use Rattle.std.specs.Prelude.{◌≡◌, ℕ, List, [], ◌∷◌, OnOk};
+ghost use Rattle.accounts.specs.declared.postings.Posting.{Posting as APosting};
+ghost use Rattle.std.specs.Option.{option_copied};
+ghost use Rattle.accounts.specs.Least.{least_broken};
+ghost use Rattle.accounts.specs.Order.{account_cmp};
+ghost use Rattle.accounts.specs.Sums.{sum_in};
+ghost use Rattle.accounts.specs.Tally.{no_sums, sums_at, sums_in, with_postings};
+
+use crate::totals::balances;
+use crate::{Account, Posting, Postings, Totals, broken};
+use std::alloc::Global;
+use std::collections::BTreeMap;
+use verdict::NoMemory;
+
+/// The sums of the accounts that are posted to. Of an account whose rule is that two sums are equal it keeps their
+/// difference, and nothing where that is zero.
+#[derive(Debug, Drop)]
+pub struct Tally {
+    entries: BTreeMap<Account, Totals>,
+}
+
+impl Tally {
+    /// One without postings. It takes its memory from this allocator.
+    #[tactic(auto, using(crate::proofs::Entries::empty_sums))]
+    pub fn new(alloc: Global) -> Tally
+        ensures { sums_in result ≡ no_sums }
+    {
+        Tally {
+            entries: BTreeMap::new(alloc),
+        }
+    }
+
+    /// Adds all of a list of postings, which is empty then. Want of memory, also where a sum would pass 128 bits, may
+    /// leave any part of them added.
+    pub fn add_all(&mut self, postings: &mut Postings) -> Result<(), NoMemory>
+        ensures sums { OnOk result (sums_in self.new ≡ with_postings (sums_in self.old) postings.old) }
+        ensures taken { OnOk result (postings.new ≡ []) }
+    {
+        while let Some(posting) = postings.pop() {
+            self.add(posting)?;
+        }
+        Ok(())
+    }
+
+    // Adds a posting.
+    fn add(&mut self, posting: Posting) -> Result<(), NoMemory>
+        ensures { OnOk result
+            (sums_in self.new ≡ with_postings (sums_in self.old) (posting ∷ [])) }
+    {
+        let field = usize::from(posting.field);
+        if field > 8 {
+            return Ok(());
+        }
+        let kind = posting.account.kind;
+        let mut totals = self.totals_of(&posting.account);
+        totals.add(kind, field, posting.amount)?;
+        if balances(kind) && totals.f[0] == totals.f[1] {
+            self.entries.remove(&posting.account);
+            return Ok(());
+        }
+        match self.entries.insert(posting.account, totals) {
+            Ok(_) => Ok(()),
+            Err(_) => Err(NoMemory),
+        }
+    }
+
+    // The sums of an account.
+    fn totals_of(&self, account: &Account) -> Totals
+        ensures { (n : ℕ) →
+            sum_in result n ≡ sums_at (get account_cmp self.now.entries account.now) n }
+    {
+        match self.entries.get(account) {
+            Some(totals) => *totals,
+            None => Totals::zero(),
+        }
+    }
+
+    /// The least account that is broken by what was posted, or `None` exactly where none is.
+    pub fn least_broken(&self) -> Option<&Account>
+        ensures { (postings : List APosting) → sums_in self.now ≡ with_postings no_sums postings →
+            option_copied result ≡ least_broken postings }
+    {
+        for (account, totals) in &self.entries {
+            if broken(account, totals) {
+                return Some(account);
+            }
+        }
+        None
+    }
+}
