@@ -1,4 +1,5 @@
-pub mod Kept
-pub mod Same
 pub mod Entries
 pub mod First
+pub mod Kept
+pub mod Same
+pub mod SoFar

@@ -1,6 +1,7 @@
 //! What one record adds to the sums of accounts.
 
-ghost use Rattle.std.specs.Prelude.{◌≡◌, [], ◌∷◌, ◌++◌, OnOk, OnErr};
+ghost use Rattle.std.specs.Prelude.{◌≡◌, ◌<◌, [], ◌∷◌, ◌++◌, OnOk, OnErr};
+ghost use Rattle.accounts.specs.Posts.{Posts};
 ghost use Rattle.accounts.specs.Taken.{IsLastTaken};
 
 use crate::Account;
@@ -17,6 +18,19 @@ pub struct Posting {
     pub field: u8,
     /// What is added.
     pub amount: u64,
+}
+
+impl Posting {
+    /// An amount to the sum of an account with this number, 0 to 8.
+    pub fn to(account: Account, field: u8, amount: u64) -> Posting
+        ensures { result ≡ record { account = account; field = field; amount = amount } }
+    {
+        Posting {
+            account,
+            field,
+            amount,
+        }
+    }
 }
 
 /// A list of postings.
@@ -60,6 +74,17 @@ impl Postings {
             Ok(()) => Ok(()),
             Err(_) => Err(NoMemory),
         }
+    }
+
+    /// Puts postings at the end, in order. Where memory is wanting the first of them may stand there.
+    pub fn push_all<const N: usize>(&mut self, postings: [Posting; N]) -> Result<(), NoMemory>
+        requires { N < 256 }
+        ensures { Posts self.old self.new result postings.entry }
+    {
+        for posting in postings {
+            self.push(posting)?;
+        }
+        Ok(())
     }
 
     /// Takes the last posting from the list, or gives `None` exactly where the list is empty.

@@ -1,0 +1,8 @@
+//! What a record says of extents and of who refers to them, as postings to accounts.
+#![tactic(auto)]
+
+mod rows;
+#[cfg(test)]
+mod tests;
+
+pub use rows::post;

@@ -1,0 +1,151 @@
+//! The postings of a record to the accounts of extents and of references to them.
+
+ghost use Rattle.std.specs.Prelude.{◌≡◌, [], ◌∷◌};
+ghost use Rattle.extent_items.specs.ExtentItems.{extent_fields_in};
+ghost use Rattle.accounts.specs.Kinds.{block_ref, extent_form};
+ghost use Rattle.accounts.specs.Posts.{Posts};
+ghost use Rattle.records.specs.Post.{to};
+ghost use Rattle.records.specs.Part.{part_of};
+ghost use Rattle.records.specs.ExtentPostings.{extent_item_postings, extent_postings, range_postings, reference_account, reference_postings};
+
+use accounts::{Account, Ctx, Posting, Postings};
+use extent_items::{ExtentItem, Reference};
+use fs_items::FileExtent;
+use records::Rec;
+use std::alloc::Global;
+use verdict::NoMemory;
+
+/// The kind of the item of an extent with file data.
+const EXTENT_ITEM: u8 = 168;
+
+/// The kind of the item of a tree block.
+const METADATA_ITEM: u8 = 169;
+
+/// The kind of a reference to a tree block by a tree.
+const TREE_BLOCK_REF: u8 = 176;
+
+/// The kind of a reference to data by a file. That by a leaf is 184.
+const EXTENT_DATA_REF: u8 = 178;
+
+/// The kind of a reference to a tree block by the node above it.
+const SHARED_BLOCK_REF: u8 = 182;
+
+/// The type of a range of a file whose data stands in its item.
+const INLINE: u8 = 0;
+
+/// Puts behind the postings what a record of a tree, by the tree's id, says of extents and of who refers to them:
+/// of blocks, extents, references that are items of their own, and ranges of files. The accounts take their memory
+/// from this allocator. Where memory is wanting a first part of these postings may stand there.
+#[tactic(auto, unfolding(records::specs::ExtentPostings::extent_postings))]
+pub fn post<C: Ctx>(
+    alloc: Global,
+    _ctx: &C,
+    tree: u64,
+    part: &Rec<'_>,
+    into: &mut Postings,
+) -> Result<(), NoMemory>
+    ensures { Posts into.old into.new result (extent_postings tree (part_of part.now)) }
+{
+    match part {
+        Rec::Block { address, level } => post_block(alloc, tree, *address, *level, into),
+        Rec::ExtentItem(item) => post_extent(alloc, item, into),
+        Rec::KeyedRef(item) => post_reference(alloc, item.key.objectid, &item.reference, into),
+        Rec::FileExtent(range) => post_range(alloc, tree, range, into),
+        _ => Ok(()),
+    }
+}
+
+// A block of a tree.
+fn post_block(
+    alloc: Global,
+    tree: u64,
+    address: u64,
+    level: u8,
+    into: &mut Postings,
+) -> Result<(), NoMemory>
+    ensures { Posts into.old into.new result
+        (to (block_ref tree address) 1 1 ∷ to (extent_form address 169 level) 1 1 ∷ []) }
+{
+    let form = Account::extent_form(alloc, address, METADATA_ITEM, u64::from(level));
+    into.push_all([
+        Posting::to(Account::block_ref(alloc, tree, address), 1, 1),
+        Posting::to(form, 1, 1),
+    ])
+}
+
+// An extent, and the references in its item.
+fn post_extent(alloc: Global, item: &ExtentItem<'_>, into: &mut Postings) -> Result<(), NoMemory>
+    ensures { Posts into.old into.new result (extent_item_postings (extent_fields_in item.now)) }
+{
+    let address = item.key.objectid;
+    let form = Account::extent_form(alloc, address, item.key.kind, item.key.offset);
+    into.push_all([
+        Posting::to(Account::extent(alloc, address), 0, 1),
+        Posting::to(Account::extent(alloc, address), 1, item.refs),
+        Posting::to(form, 0, 1),
+    ])?;
+    for reference in item.references() {
+        post_reference(alloc, address, &reference, into)?;
+    }
+    Ok(())
+}
+
+// A reference to the extent at a logical address, in its item or with an item of its own.
+fn post_reference(
+    alloc: Global,
+    address: u64,
+    reference: &Reference,
+    into: &mut Postings,
+) -> Result<(), NoMemory>
+    ensures { Posts into.old into.new result (reference_postings address reference.now) }
+{
+    let count = u64::from(reference.count);
+    into.push_all([
+        Posting::to(Account::extent(alloc, address), 2, count),
+        Posting::to(reference_account(alloc, address, reference), 0, count),
+    ])
+}
+
+// The account of who refers to the extent at a logical address.
+fn reference_account(alloc: Global, address: u64, reference: &Reference) -> Account
+    ensures { result ≡ reference_account address reference.now }
+{
+    match reference.kind {
+        TREE_BLOCK_REF => Account::block_ref(alloc, reference.root, address),
+        EXTENT_DATA_REF => Account::data_ref(
+            alloc,
+            reference.root,
+            address,
+            reference.objectid,
+            reference.offset,
+        ),
+        SHARED_BLOCK_REF => Account::shared_block_ref(alloc, reference.parent, address),
+        _ => Account::shared_data_ref(alloc, reference.parent, address),
+    }
+}
+
+// A range of a file that has an extent on the disk: it is not inline, and no hole. The extent would begin at the
+// byte `origin` of the file, modulo 2^64.
+fn post_range(
+    alloc: Global,
+    tree: u64,
+    range: &FileExtent,
+    into: &mut Postings,
+) -> Result<(), NoMemory>
+    ensures { Posts into.old into.new result (range_postings tree range.now) }
+{
+    if range.sort == INLINE || range.extent == 0 {
+        return Ok(());
+    }
+    let address = range.extent;
+    let origin = range.key.offset.wrapping_sub(range.offset);
+    let form = Account::extent_form(alloc, address, EXTENT_ITEM, range.extent_length);
+    into.push_all([
+        Posting::to(
+            Account::data_ref(alloc, tree, address, range.key.objectid, origin),
+            1,
+            1,
+        ),
+        Posting::to(form, 1, 1),
+    ])
+}

@@ -1,0 +1,30 @@
+-- The step of the accounts, and what is made of records by one that keeps their sums.
+use Rattle.std.specs.Prelude.{ℕ, List, ◌∷◌, Result}
+use Rattle.verdict.specs.Rules.{and_then, finding_or}
+use Rattle.verdict.specs.declared.finding.Finding.{Finding}
+use Rattle.verdict.specs.declared.place.Chunk.{Chunk}
+use Rattle.super_reader.specs.declared.Super.{Super}
+use Rattle.volume_items.specs.declared.root.RootItem.{RootItem}
+use Rattle.accounts.specs.Context.{Context}
+use Rattle.accounts.specs.Tally.{Sums, with_postings}
+use Rattle.records.specs.Part.{Located}
+use Rattle.records.specs.Contents.{Contents, all_records, super_record}
+use Rattle.records.specs.Context.{context_of}
+use Rattle.records.specs.Postings.{account_fault, postings_of}
+
+-- what an image holds whose trees have these records
+abbrev pub with_records : Super → List Chunk → List RootItem → List Located → Contents
+with_records sup chunks roots records = record { sup = sup; chunks = chunks; roots = roots; records = super_record sup ∷ records }
+
+-- the finding of the accounts of an image, in its context
+abbrev pub accounts_of : Contents → Result (Unit {0}) Finding
+accounts_of held = finding_or (account_fault (context_of held) held.records) (tt {0})
+
+-- the step of the accounts, where the steps before it gave these
+unfoldable pub accounts_in : Super → List Chunk → List Chunk → List RootItem → List ℕ → Result (Unit {0}) Finding
+accounts_in sup array chunks roots image =
+    and_then (all_records sup array chunks roots image) (λ records. accounts_of (with_records sup chunks roots records))
+
+-- the sums with what one record more posts, in a context
+abbrev pub with_record : Context × Sums → Located → Context × Sums
+with_record held one = (held.0, with_postings held.1 (postings_of held.0 one))
