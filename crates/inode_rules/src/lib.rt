@@ -1,0 +1,9 @@
+//! What records say of inodes and their types, as postings to the accounts A9 and A10.
+#![tactic(auto)]
+
+mod rows;
+mod table;
+#[cfg(test)]
+mod tests;
+
+pub use table::post;

@@ -1,0 +1,38 @@
+//! What a record posts.
+
+ghost use Rattle.accounts.specs.Posts.{Posts};
+ghost use Rattle.records.specs.InodePostings.{inode_postings};
+ghost use Rattle.records.specs.Part.{part_of};
+
+use crate::rows::{add, post_entries, post_file_extent, post_inode, post_names};
+use accounts::{Ctx, Postings};
+use records::Rec;
+use std::alloc::Global;
+use verdict::NoMemory;
+
+/// Puts what a record of a tree says of inodes at the end of a list: its postings to the accounts A9 and A10, in the
+/// order of the record's parts. `tree` is the id of the tree that holds the record.
+///
+/// An inode's item, its names, its attributes, its ranges of data and the entries that lead to it say that the inode
+/// is there; a name beside counts as one of its links, and an entry's name in the size of its directory. Where memory
+/// is wanting, a first part of the postings stands behind the old list.
+#[tactic(auto, unfolding(records::specs::InodePostings::inode_postings))]
+pub fn post<C: Ctx>(
+    alloc: Global,
+    _ctx: &C,
+    tree: u64,
+    part: &Rec<'_>,
+    into: &mut Postings,
+) -> Result<(), NoMemory>
+    ensures { Posts into.old into.new result (inode_postings tree (part_of part.now)) }
+{
+    match *part {
+        Rec::FileExtent(range) => post_file_extent(alloc, tree, &range, into),
+        Rec::InodeItem(item) => post_inode(alloc, tree, &item, into),
+        Rec::InodeRef(item) => post_names(alloc, tree, &item, into),
+        Rec::Xattr(item) => add(alloc, tree, item.key.objectid, 1, 1, into),
+        Rec::Orphan(item) => add(alloc, tree, item.key.offset, 4, 1, into),
+        Rec::DirItem(item) => post_entries(alloc, tree, &item, into),
+        _ => Ok(()),
+    }
+}
