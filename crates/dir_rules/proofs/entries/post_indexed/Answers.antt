@@ -1,0 +1,9 @@
+use Rattle.std.proofs.Common.{rules}
+use Rattle.accounts.proofs.Behind.{posts_cut, posts_more}
+use Rattle.dir_rules.proofs.entries.post_indexed.Goals as goal
+
+pub returns-in_err-post_name : goal.returns-in_err-post_name
+returns-in_err-post_name c = posts_cut _ c.post_name.ensures (search rules) c.from_residual.ensures.0
+
+pub returns : goal.returns
+returns c = posts_more c.post_name.ensures (search rules) c.post_target.ensures

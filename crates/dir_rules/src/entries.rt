@@ -1,0 +1,184 @@
+//! What the names of inodes and the entries of directories post.
+
+ghost use Rattle.std.specs.Prelude.{◌≡◌, ◌==◌, [], ◌∷◌, flat_map, if◌then◌else◌};
+ghost use Rattle.accounts.specs.Kinds as kinds;
+ghost use Rattle.accounts.specs.Posts.{Posts};
+ghost use Rattle.fs_items.specs.Lent.{dir_in, entry_fields, inode_ref_in, name_fields};
+ghost use Rattle.records.specs.DirPostings.{dir_entry_postings, entry_posting, indexed_postings, is_root_name, link_postings, names_postings};
+ghost use Rattle.records.specs.Post.{to};
+
+use accounts::{Account, Posting, Postings};
+use fs_items::{DirEntry, DirItem, InodeRef, NameAt};
+use recon_crc::name_hash;
+use std::alloc::Global;
+use verdict::{Key, NoMemory};
+
+// The kind of a DIR_ITEM, which has its entries by their hash. A DIR_INDEX has its entry by its index.
+const DIR_ITEM: u8 = 84;
+
+// The kind of an entry's location that is an inode of the same tree.
+const INODE: u8 = 1;
+
+// The kind of an entry's location that is the root of a subvolume.
+const ROOT: u8 = 132;
+
+// Posts an amount to one sum of an account.
+pub fn add(account: Account, field: u8, amount: u64, into: &mut Postings) -> Result<(), NoMemory>
+    ensures { Posts into.old into.new result (to account field amount ∷ []) }
+{
+    into.push(Posting {
+        account,
+        field,
+        amount,
+    })
+}
+
+// The names of an inode, but for those of a tree's root directory, which no directory of the tree has.
+pub fn post_names(
+    alloc: Global,
+    tree: u64,
+    item: &InodeRef<'_>,
+    into: &mut Postings,
+) -> Result<(), NoMemory>
+    ensures { Posts into.old into.new result (names_postings tree (inode_ref_in item.now)) }
+{
+    if is_root_name(item.key) {
+        return Ok(());
+    }
+    post_links(alloc, tree, item, into)
+}
+
+// Whether this is the key of the names of a tree's root directory.
+fn is_root_name(key: Key) -> bool
+    ensures { result ≡ is_root_name key }
+{
+    key.objectid == 256 && key.kind == 12 && key.offset == 256
+}
+
+// The names of an inode.
+fn post_links(
+    alloc: Global,
+    tree: u64,
+    item: &InodeRef<'_>,
+    into: &mut Postings,
+) -> Result<(), NoMemory>
+    ensures { Posts into.old into.new result
+        (flat_map (link_postings tree item.now.key.objectid) (inode_ref_in item.now).names) }
+{
+    for name in item.names() {
+        post_link(alloc, tree, item.key.objectid, &name, into)?;
+    }
+    Ok(())
+}
+
+// A name of an inode: the inode has it.
+fn post_link(
+    alloc: Global,
+    tree: u64,
+    ino: u64,
+    name: &NameAt<'_>,
+    into: &mut Postings,
+) -> Result<(), NoMemory>
+    ensures { Posts into.old into.new result (link_postings tree ino (name_fields name.now)) }
+{
+    let account = Account::link(alloc, tree, ino, name.parent, name.index, name.name)?;
+    add(account, 1, 1, into)
+}
+
+// The entries of a directory.
+pub fn post_entries(
+    alloc: Global,
+    tree: u64,
+    item: &DirItem<'_>,
+    into: &mut Postings,
+) -> Result<(), NoMemory>
+    ensures { Posts into.old into.new result
+        (flat_map (dir_entry_postings tree item.now.key) (dir_in item.now).entries) }
+{
+    for entry in item.entries() {
+        post_entry(alloc, tree, item.key, &entry, into)?;
+    }
+    Ok(())
+}
+
+// An entry of a directory in the item with this key.
+fn post_entry(
+    alloc: Global,
+    tree: u64,
+    key: Key,
+    entry: &DirEntry<'_>,
+    into: &mut Postings,
+) -> Result<(), NoMemory>
+    ensures { Posts into.old into.new result (dir_entry_postings tree key (entry_fields entry.now)) }
+{
+    if key.kind == DIR_ITEM {
+        post_name(alloc, tree, key.objectid, 0, entry, into)
+    } else {
+        post_indexed(alloc, tree, key, entry, into)
+    }
+}
+
+// The name of an entry of a directory, to the sum of those by their hash, 0, or by their index, 1.
+fn post_name(
+    alloc: Global,
+    tree: u64,
+    dir: u64,
+    field: u8,
+    entry: &DirEntry<'_>,
+    into: &mut Postings,
+) -> Result<(), NoMemory>
+    ensures { Posts into.old into.new result
+        (entry_posting tree dir field (entry_fields entry.now) ∷ []) }
+{
+    let hash = name_hash(entry.name);
+    let (location, sort) = (entry.location, entry.sort);
+    let account = Account::name_entry(alloc, tree, dir, hash, location, entry.name, sort)?;
+    add(account, field, 1, into)
+}
+
+// The entry of a directory by its index.
+fn post_indexed(
+    alloc: Global,
+    tree: u64,
+    key: Key,
+    entry: &DirEntry<'_>,
+    into: &mut Postings,
+) -> Result<(), NoMemory>
+    ensures { Posts into.old into.new result
+        (indexed_postings tree key.objectid key.offset (entry_fields entry.now)) }
+{
+    post_name(alloc, tree, key.objectid, 1, entry, into)?;
+    post_target(alloc, tree, key, entry, into)
+}
+
+// Whose name an entry by its index is: of an inode of the same tree, or of a subvolume.
+fn post_target(
+    alloc: Global,
+    tree: u64,
+    key: Key,
+    entry: &DirEntry<'_>,
+    into: &mut Postings,
+) -> Result<(), NoMemory>
+    ensures { let at = entry.now.location in let name = entry.now.name.now in
+        Posts into.old into.new result
+        (if at.kind == 1 then
+        to (kinds.link tree at.objectid key.objectid key.offset name) 0 1 ∷ []
+        else (if at.kind == 132 then
+        to (kinds.subvolume_entry tree at.objectid key.objectid key.offset name) 1 1 ∷ []
+        else [])) }
+{
+    let (dir, index, target) = (key.objectid, key.offset, entry.location.objectid);
+    match entry.location.kind {
+        INODE => add(
+            Account::link(alloc, tree, target, dir, index, entry.name)?,
+            0,
+            1,
+            into,
+        ),
+        ROOT => {
+            let account = Account::subvolume_entry(alloc, tree, target, dir, index, entry.name)?;
+            add(account, 1, 1, into)
+        }
+        _ => Ok(()),
+    }
+}

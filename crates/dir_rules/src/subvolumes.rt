@@ -1,0 +1,105 @@
+//! What root items and the names of subvolumes post.
+
+ghost use Rattle.std.specs.Prelude.{◌≡◌, [], ◌∷◌};
+ghost use Rattle.accounts.specs.Kinds as kinds;
+ghost use Rattle.accounts.specs.Posts.{Posts};
+ghost use Rattle.records.specs.DirPostings.{root_link_postings, root_postings};
+ghost use Rattle.records.specs.Post.{to};
+ghost use Rattle.volume_items.specs.RootLinkItems.{link_fields_in};
+
+use crate::entries::add;
+use accounts::{Account, Postings};
+use std::alloc::Global;
+use verdict::{NoMemory, is_free_id};
+use volume_items::{RootItem, RootLink};
+
+// The kind of a ROOT_REF, the name of a subvolume from its parent's side. The other kind is ROOT_BACKREF.
+const ROOT_REF: u8 = 156;
+
+// A root item: how often its tree is named, where that is a subvolume.
+pub fn post_root(alloc: Global, item: &RootItem, into: &mut Postings) -> Result<(), NoMemory>
+    ensures { Posts into.old into.new result (root_postings item.now) }
+{
+    let id = item.key.objectid;
+    if !is_free_id(id) {
+        return Ok(());
+    }
+    add(Account::subvolume(alloc, id), 0, u64::from(item.refs), into)
+}
+
+// The name of a subvolume, from one of its two sides: the key has the parent and then the child, or the reverse.
+pub fn post_root_link(
+    alloc: Global,
+    item: &RootLink<'_>,
+    into: &mut Postings,
+) -> Result<(), NoMemory>
+    ensures { Posts into.old into.new result (root_link_postings (link_fields_in item.now)) }
+{
+    let (objectid, offset) = (item.key.objectid, item.key.offset);
+    if item.key.kind == ROOT_REF {
+        post_root_ref(alloc, objectid, offset, item, into)
+    } else {
+        post_pair(alloc, offset, objectid, 1, item, into)
+    }
+}
+
+// The name of a subvolume from its parent's side.
+fn post_root_ref(
+    alloc: Global,
+    parent: u64,
+    child: u64,
+    item: &RootLink<'_>,
+    into: &mut Postings,
+) -> Result<(), NoMemory>
+    ensures { let link = item.now in
+        Posts into.old into.new result
+        (to (kinds.subvolume_entry parent child link.dirid link.sequence link.name.now) 0 1
+        ∷ to (kinds.subvolume_pair parent child link.dirid link.sequence link.name.now) 0 1
+        ∷ to (kinds.subvolume child) 1 1 ∷ []) }
+{
+    post_entry(alloc, parent, child, item, into)?;
+    post_pair(alloc, parent, child, 0, item, into)?;
+    post_child(alloc, child, into)
+}
+
+// The name as an entry of the parent has it.
+fn post_entry(
+    alloc: Global,
+    parent: u64,
+    child: u64,
+    item: &RootLink<'_>,
+    into: &mut Postings,
+) -> Result<(), NoMemory>
+    ensures { let link = item.now in
+        Posts into.old into.new result
+        (to (kinds.subvolume_entry parent child link.dirid link.sequence link.name.now) 0 1 ∷ []) }
+{
+    let (dir, index) = (item.dirid, item.sequence);
+    let account = Account::subvolume_entry(alloc, parent, child, dir, index, item.name)?;
+    add(account, 0, 1, into)
+}
+
+// The name as both sides have it, to the sum of the parent, 0, or of the child, 1.
+fn post_pair(
+    alloc: Global,
+    parent: u64,
+    child: u64,
+    field: u8,
+    item: &RootLink<'_>,
+    into: &mut Postings,
+) -> Result<(), NoMemory>
+    ensures { let link = item.now in
+        Posts into.old into.new result
+        (to (kinds.subvolume_pair parent child link.dirid link.sequence link.name.now) field 1 ∷ []) }
+{
+    let (dir, index) = (item.dirid, item.sequence);
+    let account = Account::subvolume_pair(alloc, parent, child, dir, index, item.name)?;
+    add(account, field, 1, into)
+}
+
+// A subvolume is named once more.
+fn post_child(alloc: Global, child: u64, into: &mut Postings) -> Result<(), NoMemory>
+    ensures { Posts into.old into.new result (to (kinds.subvolume child) 1 1 ∷ []) }
+{
+    add(Account::subvolume(alloc, child), 1, 1, into)
+}

@@ -1,0 +1,38 @@
+//! What a record posts.
+
+ghost use Rattle.accounts.specs.Posts.{Posts};
+ghost use Rattle.records.specs.DirPostings.{dir_postings};
+ghost use Rattle.records.specs.Part.{part_of};
+
+use crate::entries::{post_entries, post_names};
+use crate::subvolumes::{post_root, post_root_link};
+use accounts::{Ctx, Postings};
+use records::Rec;
+use std::alloc::Global;
+use verdict::NoMemory;
+
+/// Puts what a record of a tree says of names in directories and of subvolumes at the end of a list: its postings to
+/// the accounts A11 to A14 and A17, in the order of the record's parts. `tree` is the id of the tree that holds the
+/// record.
+///
+/// The name of an inode and the entry by its index say the same link, and so do the two entries of a name say the same
+/// name; a subvolume is named from the root tree twice, and by an entry of its parent. Where memory is wanting, a
+/// first part of the postings stands behind the old list.
+#[tactic(auto, unfolding(records::specs::DirPostings::dir_postings))]
+pub fn post<C: Ctx>(
+    alloc: Global,
+    _ctx: &C,
+    tree: u64,
+    part: &Rec<'_>,
+    into: &mut Postings,
+) -> Result<(), NoMemory>
+    ensures { Posts into.old into.new result (dir_postings tree (part_of part.now)) }
+{
+    match *part {
+        Rec::InodeRef(item) => post_names(alloc, tree, &item, into),
+        Rec::DirItem(item) => post_entries(alloc, tree, &item, into),
+        Rec::RootItem(item) => post_root(alloc, &item, into),
+        Rec::RootLink(item) => post_root_link(alloc, &item, into),
+        _ => Ok(()),
+    }
+}
