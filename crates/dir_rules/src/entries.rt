@@ -169,12 +169,10 @@ fn post_target(
 {
     let (dir, index, target) = (key.objectid, key.offset, entry.location.objectid);
     match entry.location.kind {
-        INODE => add(
-            Account::link(alloc, tree, target, dir, index, entry.name)?,
-            0,
-            1,
-            into,
-        ),
+        INODE => {
+            let account = Account::link(alloc, tree, target, dir, index, entry.name)?;
+            add(account, 0, 1, into)
+        }
         ROOT => {
             let account = Account::subvolume_entry(alloc, tree, target, dir, index, entry.name)?;
             add(account, 1, 1, into)
