@@ -1,4 +1,5 @@
 pub mod Gives
 pub mod Takes
+pub mod Accounts
 pub mod Judged
 pub mod Private

@@ -5,11 +5,15 @@ ghost use Rattle.verdict.specs.Trees.{is_node_size};
 ghost use Rattle.recon_disk.specs.Keeping.{Kept};
 ghost use Rattle.super_reader.specs.Superblock.{array_place};
 ghost use Rattle.volume_items.specs.SystemArray.{array_chunks};
-ghost use Rattle.records.specs.Contents.{chunk_map_in, root_items_in, tree_records};
+ghost use Rattle.records.specs.Part.{IsLawful, located, part_of};
+ghost use Rattle.records.specs.Contents.{all_records, chunk_map_in, root_items_in, super_record, tree_records};
 ghost use Rattle.records.specs.FullCheck.{checked};
+ghost use Rattle.plain_check.specs.Accounts.{accounts_in};
 ghost use Rattle.plain_check.specs.Gives.{Gives, IsOutcome, is_disk_halt};
 ghost use Rattle.plain_check.specs.Takes.{ReadsInto, handing};
 
+use crate::accounts::Accounts;
+use crate::context::NoContext;
 use crate::halt::Halt;
 use crate::primary::read_superblock;
 use crate::read::Volume;
@@ -18,17 +22,18 @@ use crate::takers::{Chunks, Roots};
 use crate::walk::walk_into;
 use chunk_map::{ChunkMap, Sys};
 use recon_disk::Disk;
-use records::{Nothing, Taker};
+use records::{Rec, RecAt, Taker};
 use std::alloc::Global;
 use super_reader::Super;
+use verdict::Key;
 use volume_items::RootItem;
 use write_cache::WriteCache;
 
 // Checks all that the image holds which the disk's bytes make with the waiting writes over them: its superblock, the
 // chunks of the system array, the chunk tree through these, the rules on the chunk map, the root tree through the whole
-// map, the rules on the list of root items, and then each tree that a root item names, in the order of their ids as
-// unsigned numbers. Gives the generation of the superblock.
-#[tactic(auto, unfolding(records::specs::FullCheck::checked, records::specs::Contents::contents))]
+// map, the rules on the list of root items, then each tree that a root item names, in the order of their ids as
+// unsigned numbers, and last the accounts of all that these say. Gives the generation of the superblock.
+#[tactic(auto, using(crate::proofs::Chain::checked_by))]
 pub fn check<D: Disk>(alloc: Global, disk: &mut D, cache: &WriteCache) -> Result<u64, Halt>
     ensures gives { Gives D.Disk disk.old cache.now result checked }
     ensures room { OnOk result (69632 ≤ D.len disk.old) }
@@ -49,10 +54,8 @@ pub fn check<D: Disk>(alloc: Global, disk: &mut D, cache: &WriteCache) -> Result
         ..base
     };
     let roots = root_items(alloc, disk, &volume)?;
-    match walk_trees(alloc, disk, &volume, &roots, &mut Nothing) {
-        Ok(()) => Ok(sup.generation),
-        Err(halt) => Err(halt),
-    }
+    check_accounts(alloc, disk, &base, &volume, &roots)?;
+    Ok(sup.generation)
 }
 
 // The chunks of the system array.
@@ -105,6 +108,74 @@ fn root_items<D: Disk>(
     walk_into(alloc, disk, volume, &top_root(volume.sup), &mut roots)?;
     check_roots(alloc, &roots.items)?;
     Ok(roots.items)
+}
+
+// The accounts of all that the image says. All its trees are walked, so that the chunk tree and the root tree are read
+// a second time: they are few blocks, and only now is it known what all records are read by.
+#[tactic(auto, unfolding(crate::specs::Accounts::accounts_in))]
+fn check_accounts<D: Disk>(
+    alloc: Global,
+    disk: &mut D,
+    base: &Volume<'_>,
+    volume: &Volume<'_>,
+    roots: &[RootItem],
+) -> Result<(), Halt>
+    requires size { is_node_size volume.now.sup.now.nodesize ≡ true }
+    requires end { volume.now.end ≡ D.len disk.old }
+    requires same { (base.now.sup.now ≡ volume.now.sup.now)
+        × (base.now.end ≡ volume.now.end) × (base.now.cache.now ≡ volume.now.cache.now) }
+    ensures gives { let sup = volume.now.sup.now in
+        Gives D.Disk disk.old volume.now.cache.now result
+        (λ image. accounts_in sup base.now.map.now volume.now.map.now roots.now image) }
+    ensures kept { Kept D.Disk disk.old disk.new (is_disk_halt result) }
+{
+    let mut accounts = Accounts::new(alloc, &NoContext);
+    accounts.take(&record_of_superblock(volume.sup))?;
+    walk_all(alloc, disk, base, volume, roots, &mut accounts)?;
+    match accounts.finding()? {
+        Some(found) => Err(Halt::Found(found)),
+        None => Ok(()),
+    }
+}
+
+// The record of the superblock.
+fn record_of_superblock(sup: &Super) -> RecAt<'static>
+    ensures says { located result ≡ super_record sup.now }
+    ensures lawful { IsLawful (part_of result.part) }
+{
+    RecAt {
+        tree: 0,
+        block: 0,
+        key: Key::none(),
+        part: Rec::Super {
+            bytes_used: sup.bytes_used,
+        },
+    }
+}
+
+// Walks the chunk tree through the chunks of the system array, then the root tree and all trees that root items name
+// through the whole chunk map, and gives their records to a taker.
+#[tactic(auto, unfolding(records::specs::Contents::all_records), using(crate::proofs::Walking::steps))]
+fn walk_all<D: Disk, T: Taker>(
+    alloc: Global,
+    disk: &mut D,
+    base: &Volume<'_>,
+    volume: &Volume<'_>,
+    roots: &[RootItem],
+    into: &mut T,
+) -> Result<(), Halt>
+    requires size { is_node_size volume.now.sup.now.nodesize ≡ true }
+    requires end { volume.now.end ≡ D.len disk.old }
+    requires same { (base.now.sup.now ≡ volume.now.sup.now)
+        × (base.now.end ≡ volume.now.end) × (base.now.cache.now ≡ volume.now.cache.now) }
+    ensures taken { let sup = volume.now.sup.now in
+        ReadsInto D.Disk T.Taker disk.old volume.now.cache.now into.old into.new result
+        (λ image. all_records sup base.now.map.now volume.now.map.now roots.now image) }
+    ensures kept { Kept D.Disk disk.old disk.new (is_disk_halt result) }
+{
+    walk_into(alloc, disk, base, &chunk_root(volume.sup), into)?;
+    walk_into(alloc, disk, volume, &top_root(volume.sup), into)?;
+    walk_trees(alloc, disk, volume, roots, into)
 }
 
 // Walks the trees that root items name, one after the other, and gives their records to a taker.

@@ -1,7 +1,9 @@
 //! The full check of an image, plain and slow: the disk's bytes with the waiting writes over them.
 #![tactic(auto)]
 
+mod accounts;
 mod check;
+mod context;
 mod halt;
 mod items;
 mod judging;
