@@ -3,3 +3,4 @@ pub mod Law
 pub mod Told
 pub mod Steps
 pub mod Nothing
+pub mod Ordered

@@ -3,3 +3,4 @@ pub mod Standing
 pub mod Stops
 pub mod Sent
 pub mod Judged
+pub mod Order

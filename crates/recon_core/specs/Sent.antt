@@ -1,13 +1,16 @@
 -- These words serve private functions alone: what goes out to a disk step by step.
-use Rattle.std.specs.Prelude.{ℕ, ◌≡◌, ◌+◌, ◌-◌, ◌<◌, ◌≤◌, ◌⊎◌, List, length, take, drop, min, Result, OnOk, OnErr, IfSome, option_map, slice_index}
+use Rattle.std.specs.Prelude.{ℕ, ◌≡◌, ◌+◌, ◌-◌, ◌<◌, ◌≤◌, ◌⊎◌, List, length, take, drop, min, Option, Result, OnOk, OnErr, IfSome, option_map, slice_index}
 use Rattle.std.specs.Option.{IsSomeAnd}
 use Rattle.std.specs.Ordering.{nat_cmp}
 use Rattle.std.specs.FinMap.{FinMap}
 use Rattle.verdict.specs.Image.{range, written}
 use Rattle.recon_disk.specs.declared.disk.Disk.{Ghosts}
 use Rattle.recon_disk.specs.Outside.{HasCause}
+use Rattle.recon_disk.specs.Calls.{Sent, and_sent}
 use Rattle.write_cache.specs.Cache.{overlaid}
+use Rattle.write_cache.specs.Pieces.{Piece, ArePiecesOf}
 use Rattle.recon_core.specs.Stops.{IsPartlySent}
+use Rattle.recon_core.specs.Order.{pieces_calls}
 
 -- What a step that writes to a disk gives. Where it answers, the disk's bytes are what this makes of the old ones;
 -- where a call failed, this holds of the old bytes and those that are left. The length stays, and faults have their
@@ -40,3 +43,7 @@ sent_piece image at bytes =
 -- all that waits went out, or a part of it outside the superblock place
 abbrev pub IsAllOrPart : FinMap nat_cmp ℕ → List ℕ → List ℕ → Type 0
 IsAllOrPart waiting old left = (left ≡ overlaid waiting 0 old) ⊎ IsPartlySent waiting old left
+
+-- the runs of all that waits went out, but for the superblock place
+abbrev pub HasSentRuns : FinMap nat_cmp ℕ → Option (List Sent) → Option (List Sent) → Type 0
+HasSentRuns waiting before now = (pieces : List Piece) × ArePiecesOf waiting pieces × (now ≡ and_sent before (pieces_calls pieces))

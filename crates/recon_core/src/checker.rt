@@ -43,6 +43,7 @@ impl Checker {
     ghost use Rattle.recon_core.specs.Standing.{BeginsAt, BeginsOver, IsAfterWant, IsBelow, IsNoRefusal, StandsFor, Takes, is_disk_fault, refusal_of, waits};
     ghost use Rattle.recon_core.specs.Stops.{IsStopImage};
     ghost use Rattle.recon_core.specs.Judged.{Judges};
+    ghost use Rattle.recon_core.specs.Order.{HasSentBy, judged_with};
 
     /// A checker over the disk, where the full check accepts its image. The disk's bytes stay. Its
     /// stops are `DiskFault` and `NoMemory`.
@@ -105,9 +106,14 @@ impl Checker {
             D.bytes disk.old ≡ Some state.image → IsErrOf result Stop.DiskFault →
             IsSomeAnd (D.bytes disk.new) (IsStopImage state ev) }
 
+        // What a passed event sends to the disk, call by call, and that no other answer sends anything.
+        ensures order { IfOk result (λ answer. HasSentBy answer (judged_with self.old.cache ev)
+            (D.bytes disk.old) (D.sent disk.old) (D.sent disk.new)) }
+
         // What the other refusals leave.
         ensures memory { IsErrOf result Stop.NoMemory →
             (D.bytes disk.new ≡ D.bytes disk.old) × IsAfterWant ev self.old self.new }
+        ensures unsent { IsErrOf result Stop.NoMemory → D.sent disk.new ≡ D.sent disk.old }
         ensures fault { IsErrOf result Stop.DiskFault → self.new.closed ≡ true }
         ensures answered { OnOk result (self.new.closed ≡ self.old.closed) }
         ensures held { IsTrue (waits ev) → (disk.new ≡ disk.old) × (result ≢ Err Stop.DiskFault) }
@@ -163,7 +169,10 @@ impl Checker {
         requires below { IsBelow (D.len disk.old) self.old.cache }
         ensures judged { Judges D.Disk disk.old disk.new
             self.old.cache result (is_disk_fault result) }
+        ensures order { IfOk result (λ answer. HasSentBy answer
+            self.old.cache (D.bytes disk.old) (D.sent disk.old) (D.sent disk.new)) }
         ensures memory { IsErrOf result Stop.NoMemory → D.bytes disk.new ≡ D.bytes disk.old }
+        ensures unsent { IsErrOf result Stop.NoMemory → D.sent disk.new ≡ D.sent disk.old }
         ensures ok { OnOk result (self.new ≡ record self.old { cache = map.empty }) }
         ensures err { OnErr result (self.new ≡ record self.old { closed = true }) }
         ensures stops { IsNoRefusal result }
@@ -189,7 +198,11 @@ impl Checker {
         requires inside { write.at + length write.bytes ≤ D.len disk.old }
         ensures judged { Judges D.Disk disk.old disk.new
             (with_bytes self.old.cache write.at write.bytes) result (is_disk_fault result) }
+        ensures order { IfOk result (λ answer. HasSentBy answer
+            (with_bytes self.old.cache write.at write.bytes)
+            (D.bytes disk.old) (D.sent disk.old) (D.sent disk.new)) }
         ensures memory { IsErrOf result Stop.NoMemory → D.bytes disk.new ≡ D.bytes disk.old }
+        ensures unsent { IsErrOf result Stop.NoMemory → D.sent disk.new ≡ D.sent disk.old }
         ensures ok { OnOk result (self.new ≡ record self.old { cache = map.empty }) }
         ensures err { OnErr result
             ((self.new.closed ≡ true) × (self.new.length ≡ self.old.length)) }

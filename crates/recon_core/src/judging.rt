@@ -1,10 +1,11 @@
 //! What is done with all that waits.
 
-ghost use Rattle.std.specs.Prelude.{◌≡◌, ◌^◌, ◌<◌, OnOk, OnErr, IsErrOf};
+ghost use Rattle.std.specs.Prelude.{◌≡◌, ◌^◌, ◌<◌, IfOk, OnOk, OnErr, IsErrOf};
 ghost use Rattle.std.specs.FinMap as map;
 ghost use Rattle.plain_check.specs.Gives.{is_disk_fault};
 ghost use Rattle.recon_core.specs.Standing.{IsBelow};
 ghost use Rattle.recon_core.specs.Judged.{Judges};
+ghost use Rattle.recon_core.specs.Order.{HasSentBy};
 
 use crate::send::let_through;
 use plain_check::{Fault, Verdict, judge};
@@ -24,7 +25,10 @@ pub fn judge_waiting<D: Disk>(
     requires small { D.len disk.old < 2 ^ 64 }
     requires below { IsBelow (D.len disk.old) cache.old }
     ensures judged { Judges D.Disk disk.old disk.new cache.old result (is_disk_fault result) }
+    ensures order { IfOk result (λ answer.
+        HasSentBy answer cache.old (D.bytes disk.old) (D.sent disk.old) (D.sent disk.new)) }
     ensures memory { IsErrOf result Fault.NoMemory → D.bytes disk.new ≡ D.bytes disk.old }
+    ensures unsent { IsErrOf result Fault.NoMemory → D.sent disk.new ≡ D.sent disk.old }
     ensures empty { OnOk result (cache.new ≡ map.empty) }
     ensures waits { OnErr result (cache.new ≡ cache.old) }
 {

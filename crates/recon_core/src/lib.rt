@@ -8,3 +8,6 @@ mod judging;
 mod send;
 
 pub use checker::{Checker, Started};
+
+#[cfg(test)]
+mod tests;

@@ -1,11 +1,13 @@
 //! How what waits goes out to the disk once it is let through.
 
-ghost use Rattle.std.specs.Prelude.{ℕ, ◌≡◌, ◌+◌, ◌^◌, ◌<◌, ◌≤◌, List, length};
+ghost use Rattle.std.specs.Prelude.{ℕ, ◌≡◌, ◌+◌, ◌^◌, ◌<◌, ◌≤◌, List, length, IfSome, OnOk};
 ghost use Rattle.verdict.specs.Image.{written};
+ghost use Rattle.recon_disk.specs.Calls.{and_sent};
 ghost use Rattle.write_cache.specs.Cache.{overlaid};
 ghost use Rattle.recon_core.specs.Standing.{IsBelow};
 ghost use Rattle.recon_core.specs.Stops.{IsPartlySent};
-ghost use Rattle.recon_core.specs.Sent.{IsAllOrPart, Sends, StaysButForPiece, StaysOutside, sent_piece, with_place_of};
+ghost use Rattle.recon_core.specs.Order.{HasSentOut, piece_calls, run_calls};
+ghost use Rattle.recon_core.specs.Sent.{HasSentRuns, IsAllOrPart, Sends, StaysButForPiece, StaysOutside, sent_piece, with_place_of};
 
 use recon_disk::{Disk, Failed};
 use verdict::{SUPERBLOCK_AT, SUPERBLOCK_SIZE};
@@ -18,9 +20,11 @@ const WRITE_MAX: usize = 1_048_576;
 fn write_run<D: Disk>(disk: &mut D, at: u64, bytes: &[u8]) -> Result<(), Failed>
     requires inside { at + length bytes.now ≤ D.len disk.old }
     requires fits { at + length bytes.now < 2 ^ 64 }
-    ensures { Sends D.Disk disk.old disk.new result
+    ensures device { Sends D.Disk disk.old disk.new result
         (λ image. written image at bytes.now)
         (StaysOutside at (length bytes.now)) }
+    ensures order { OnOk result (D.sent disk.new ≡
+        and_sent (D.sent disk.old) (run_calls at bytes.now)) }
 {
     let mut done = 0;
     while done < bytes.len() {
@@ -35,9 +39,11 @@ fn write_run<D: Disk>(disk: &mut D, at: u64, bytes: &[u8]) -> Result<(), Failed>
 fn send_piece<D: Disk>(disk: &mut D, at: u64, bytes: &[u8]) -> Result<(), Failed>
     requires inside { at + length bytes.now ≤ D.len disk.old }
     requires fits { at + length bytes.now < 2 ^ 64 }
-    ensures { Sends D.Disk disk.old disk.new result
+    ensures device { Sends D.Disk disk.old disk.new result
         (λ image. sent_piece image at bytes.now)
         (StaysButForPiece at (length bytes.now)) }
+    ensures order { OnOk result (D.sent disk.new ≡
+        and_sent (D.sent disk.old) (piece_calls at bytes.now)) }
 {
     let len = bytes.len() as u64;
     let before = SUPERBLOCK_AT.saturating_sub(at).min(len);
@@ -53,9 +59,10 @@ fn send_pieces<D: Disk>(disk: &mut D, cache: &WriteCache) -> Result<(), Failed>
     requires place { 69632 ≤ D.len disk.old }
     requires small { D.len disk.old < 2 ^ 64 }
     requires inside { IsBelow (D.len disk.old) cache.now }
-    ensures { Sends D.Disk disk.old disk.new result
+    ensures device { Sends D.Disk disk.old disk.new result
         (λ image. with_place_of image (overlaid cache.now 0 image))
         (IsPartlySent cache.now) }
+    ensures order { OnOk result (HasSentRuns cache.now (D.sent disk.old) (D.sent disk.new)) }
 {
     for (at, bytes) in cache.pieces() {
         send_piece(disk, at, bytes)?;
@@ -70,9 +77,11 @@ pub fn let_through<D: Disk>(disk: &mut D, cache: &WriteCache) -> Result<(), Fail
     requires place { 69632 ≤ D.len disk.old }
     requires small { D.len disk.old < 2 ^ 64 }
     requires inside { IsBelow (D.len disk.old) cache.now }
-    ensures { Sends D.Disk disk.old disk.new result
+    ensures device { Sends D.Disk disk.old disk.new result
         (λ image. overlaid cache.now 0 image)
         (IsAllOrPart cache.now) }
+    ensures order { OnOk result (IfSome (D.bytes disk.old) (λ image.
+        HasSentOut cache.now (overlaid cache.now 0 image) (D.sent disk.old) (D.sent disk.new))) }
 {
     if !cache.touches(SUPERBLOCK_AT, SUPERBLOCK_SIZE) {
         send_pieces(disk, cache)?;

@@ -2,3 +2,4 @@ pub mod Outside
 pub mod Memory
 pub mod Listed
 pub mod Keeping
+pub mod Calls

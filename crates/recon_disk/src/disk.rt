@@ -1,8 +1,9 @@
 //! A block device of fixed length.
 
-ghost use Rattle.std.specs.Prelude.{ℕ, ◌≡◌, ◌+◌, ◌<◌, ◌≤◌, List, length, Option, IfSome, IfOk, OnOk, OnErr, option_map};
+ghost use Rattle.std.specs.Prelude.{ℕ, ◌≡◌, ◌+◌, ◌<◌, ◌≤◌, List, length, Option, IfSome, IfOk, OnOk, OnErr, option_map, [], ◌∷◌};
 ghost use Rattle.verdict.specs.Image.{range, written};
 ghost use Rattle.recon_disk.specs.Outside.{HasCause, MayBeWritten, counted};
+ghost use Rattle.recon_disk.specs.Calls.{Sent, Wrote, Flushed, and_sent};
 
 /// A call on the outside failed.
 #[derive(Clone, Copy, Debug, PartialEq, Eq)]
@@ -11,12 +12,15 @@ pub struct Failed;
 /// A block device of fixed length. Offsets and lengths are in bytes.
 ///
 /// A disk may tell its bytes, as one in memory does, or not, as a real file. What a read gives and a
-/// write changes is said where they are told.
+/// write changes is said where they are told. It may tell the writes and flushes that answered Ok too,
+/// and whether it does never changes.
 pub trait Disk {
     /// The length in bytes, which never changes.
     ghost len: { Self → ℕ };
     /// The bytes as they read, where the disk tells them.
     ghost bytes: { Self → Option (List ℕ) };
+    /// The writes and flushes that answered Ok so far, in their order, where the disk tells them.
+    ghost sent: { Self → Option (List Sent) };
     /// How often `read` was called.
     ghost reads: { Self → ℕ };
     /// How often a call failed.
@@ -27,6 +31,7 @@ pub trait Disk {
         ensures value { IfOk result (λ n. n ≡ len self.old) }
         ensures len { len self.new ≡ len self.old }
         ensures bytes { bytes self.new ≡ bytes self.old }
+        ensures sent { sent self.new ≡ sent self.old }
         ensures reads { reads self.new ≡ reads self.old }
         ensures cause { HasCause (faults self.old) (faults self.new) result };
 
@@ -39,6 +44,7 @@ pub trait Disk {
             (λ image. into.new ≡ range at (length into.old) image)) }
         ensures len { len self.new ≡ len self.old }
         ensures bytes { bytes self.new ≡ bytes self.old }
+        ensures sent { sent self.new ≡ sent self.old }
         ensures reads { reads self.new ≡ counted (reads self.old) }
         ensures cause { HasCause (faults self.old) (faults self.new) result };
 
@@ -51,6 +57,9 @@ pub trait Disk {
         ensures written { OnOk result (bytes self.new ≡ option_map
             (λ image. written image at from.now) (bytes self.old)) }
         ensures partly { OnErr result (MayBeWritten (bytes self.old) at from.now (bytes self.new)) }
+        ensures sent { OnOk result (sent self.new ≡
+            and_sent (sent self.old) (Wrote at from.now ∷ [])) }
+        ensures unsent { OnErr result (sent self.new ≡ sent self.old) }
         ensures len { len self.new ≡ len self.old }
         ensures reads { reads self.new ≡ reads self.old }
         ensures cause { HasCause (faults self.old) (faults self.new) result };
@@ -59,6 +68,8 @@ pub trait Disk {
     fn flush(&mut self) -> Result<(), Failed>
         ensures len { len self.new ≡ len self.old }
         ensures bytes { bytes self.new ≡ bytes self.old }
+        ensures sent { OnOk result (sent self.new ≡ and_sent (sent self.old) (Flushed ∷ [])) }
+        ensures unsent { OnErr result (sent self.new ≡ sent self.old) }
         ensures reads { reads self.new ≡ reads self.old }
         ensures cause { HasCause (faults self.old) (faults self.new) result };
 

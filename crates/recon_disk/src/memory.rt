@@ -31,7 +31,8 @@ pub struct Fail {
     pub keep: u32,
 }
 
-/// A disk in memory, which tells its bytes. The calls that its list names fail, and no other.
+/// A disk in memory, which tells its bytes, and not what was sent to it. The calls that its list
+/// names fail, and no other.
 #[derive(Drop)]
 pub struct MemDisk {
     bytes: Vec<u8>,
@@ -96,7 +97,7 @@ fn listed(fails: &[Fail], op: Op, nth: u64) -> Option<Fail>
 }
 
 impl Disk for MemDisk {
-    ghost use Rattle.std.specs.Prelude.{◌<◌, IfOk, OnOk, OnErr};
+    ghost use Rattle.std.specs.Prelude.{◌<◌, None, IfOk, OnOk, OnErr};
     ghost use Rattle.verdict.specs.Image.{range};
     ghost use Rattle.recon_disk.specs.Outside.{HasCause, MayBeWritten, counted};
     ghost use Rattle.recon_disk.specs.Memory.{bytes_in, reads_of, faults_of, IsCalled, left_by, fail_of_next};
@@ -104,6 +105,8 @@ impl Disk for MemDisk {
     ghost len = { λ d. length d.bytes.items };
 
     ghost bytes = { λ d. Some d.bytes.items };
+
+    ghost sent = { λ d. None };
 
     ghost reads = { λ d. d.reads };
 

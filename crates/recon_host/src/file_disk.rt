@@ -8,8 +8,8 @@ use std::fs::{OpenFile, OpenOptions};
 use std::io::{Read, Seek, SeekFrom, Write};
 use std::rt::Files;
 
-/// A file or a block device as a disk. It tells no bytes. Where the file could not be opened for
-/// reading and writing, or its length could not be learned then, each call fails.
+/// A file or a block device as a disk. It tells no bytes, and not what was sent to it. Where the file
+/// could not be opened for reading and writing, or its length could not be learned then, each call fails.
 #[derive(Drop)]
 pub struct FileDisk<F: Read + Write + Seek + OpenFile + Drop> {
     file: Option<F>,
@@ -110,6 +110,8 @@ impl<F: Read + Write + Seek + OpenFile + Drop> Disk for FileDisk<F> {
     ghost len = { λ d. d.size };
 
     ghost bytes = { λ d. None };
+
+    ghost sent = { λ d. None };
 
     ghost reads = { λ d. d.reads };
 

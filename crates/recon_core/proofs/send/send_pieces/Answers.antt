@@ -5,6 +5,7 @@ use Rattle.write_cache.specs.Lent.{piece_lent, pieces_left}
 use Rattle.recon_core.specs.Stops.{IsPartlySent}
 use Rattle.recon_core.specs.Sent.{with_place_of}
 use Rattle.recon_core.proofs.Told.{IsSending, begin_sending, more_sent, piece_fails, piece_inside, sends_err, sent_whole}
+use Rattle.recon_core.proofs.Ordered.{RunsLeft, runs_begin, runs_more, runs_end}
 use Rattle.recon_core.proofs.send.send_pieces.Goals as goal
 
 pub loop-at-init : goal.loop-at-init
@@ -13,6 +14,8 @@ loop-at-init g c = record {
   so = subst (λ p. IsSending c.args.cache.now (g.D.Disk.bytes c.args.disk.now) (g.D.Disk.bytes c.args.disk.now) (pieces_left p)) (sym c.into_iter-at-iterator.ensures.into_iter_gives)
       (begin_sending c.args.cache.now (g.D.Disk.bytes c.args.disk.now) (g.D.Disk.len c.args.disk.now) (pieces_left c.pieces-at-items.result) (g.met.D.Disk.told_length c.args.disk.now)
       c.requires.place c.requires.inside c.pieces-at-items.ensures.apart c.pieces-at-items.ensures.whole);
+  order = subst (λ p. RunsLeft c.args.cache.now (g.D.Disk.sent c.args.disk.now) (g.D.Disk.sent c.args.disk.now) (pieces_left p)) (sym c.into_iter-at-iterator.ensures.into_iter_gives)
+      (runs_begin c.args.cache.now (g.D.Disk.sent c.args.disk.now) (pieces_left c.pieces-at-items.result) c.pieces-at-items.ensures);
   faults = refl;
 }
 
@@ -30,26 +33,31 @@ send_piece-requires-clause-fits g c =
 
 pub loop-at-preserved : goal.loop-at-preserved
 loop-at-preserved g c = record {
-  size = c.send_piece.ensures.len ∙ c.loop-at.invariant.size;
+  size = c.send_piece.ensures.device.len ∙ c.loop-at.invariant.size;
   so = more_sent c.args.cache.now (g.D.Disk.bytes c.args.disk.now) (g.D.Disk.bytes c.loop-at.disk) (g.D.Disk.bytes c.send_piece.new.disk) (g.D.Disk.len c.args.disk.now) (piece_lent (c.in-Some.at, c.in-Some.bytes)) (pieces_left c.next.new.self)
       (g.met.D.Disk.told_length c.args.disk.now) c.requires.inside
-      (subst (IsSending c.args.cache.now (g.D.Disk.bytes c.args.disk.now) (g.D.Disk.bytes c.loop-at.disk)) c.in-Some.ensures.steps c.loop-at.invariant.so) c.in_ok-send_piece.ensures.made;
-  faults = c.in_ok-send_piece.ensures.cause.fine ∙ c.loop-at.invariant.faults;
+      (subst (IsSending c.args.cache.now (g.D.Disk.bytes c.args.disk.now) (g.D.Disk.bytes c.loop-at.disk)) c.in-Some.ensures.steps c.loop-at.invariant.so) c.in_ok-send_piece.ensures.device.made;
+  order = runs_more c.args.cache.now (g.D.Disk.sent c.args.disk.now) (g.D.Disk.sent c.loop-at.disk) (g.D.Disk.sent c.send_piece.new.disk) (piece_lent (c.in-Some.at, c.in-Some.bytes)) (pieces_left c.next.new.self)
+      (subst (RunsLeft c.args.cache.now (g.D.Disk.sent c.args.disk.now) (g.D.Disk.sent c.loop-at.disk)) c.in-Some.ensures.steps c.loop-at.invariant.order) c.in_ok-send_piece.ensures.order;
+  faults = c.in_ok-send_piece.ensures.device.cause.fine ∙ c.loop-at.invariant.faults;
 }
 
-pub returns-in_err-send_piece : goal.returns-in_err-send_piece
-returns-in_err-send_piece g c =
+pub returns-in_err-send_piece-clause-device : goal.returns-in_err-send_piece-clause-device
+returns-in_err-send_piece-clause-device g c =
     sends_err g.D.Disk c.args.disk.now c.send_piece.new.disk c.from_residual.result (λ image. with_place_of image (overlaid c.args.cache.now 0 image)) (IsPartlySent c.args.cache.now) c.from_residual.ensures.0
     (piece_fails c.args.cache.now (g.D.Disk.bytes c.args.disk.now) (g.D.Disk.bytes c.loop-at.disk) (g.D.Disk.bytes c.send_piece.new.disk) (piece_lent (c.in-Some.at, c.in-Some.bytes)) (pieces_left c.next.new.self)
-    (subst (IsSending c.args.cache.now (g.D.Disk.bytes c.args.disk.now) (g.D.Disk.bytes c.loop-at.disk)) c.in-Some.ensures.steps c.loop-at.invariant.so) c.in_err-send_piece.ensures.left)
-    (c.send_piece.ensures.len ∙ c.loop-at.invariant.size)
-    (subst (λ k. k ≤ g.D.Disk.faults c.send_piece.new.disk) c.loop-at.invariant.faults c.in_err-send_piece.ensures.cause.grows)
-    (subst (λ k. counted k ≤ g.D.Disk.faults c.send_piece.new.disk) c.loop-at.invariant.faults c.in_err-send_piece.ensures.cause.failed)
+    (subst (IsSending c.args.cache.now (g.D.Disk.bytes c.args.disk.now) (g.D.Disk.bytes c.loop-at.disk)) c.in-Some.ensures.steps c.loop-at.invariant.so) c.in_err-send_piece.ensures.device.left)
+    (c.send_piece.ensures.device.len ∙ c.loop-at.invariant.size)
+    (subst (λ k. k ≤ g.D.Disk.faults c.send_piece.new.disk) c.loop-at.invariant.faults c.in_err-send_piece.ensures.device.cause.grows)
+    (subst (λ k. counted k ≤ g.D.Disk.faults c.send_piece.new.disk) c.loop-at.invariant.faults c.in_err-send_piece.ensures.device.cause.failed)
 
-pub returns : goal.returns
-returns g c = record {
+pub returns-clause-device : goal.returns-clause-device
+returns-clause-device g c = record {
   made = sent_whole c.args.cache.now (g.D.Disk.bytes c.args.disk.now) (g.D.Disk.bytes c.loop-at.disk) (pieces_left c.loop-at.at-iterator) c.in-None.ensures.steps.0 c.loop-at.invariant.so;
   left = tt;
   len = c.loop-at.invariant.size;
   cause = record { grows = omega arith; failed = tt; fine = c.loop-at.invariant.faults };
 }
+
+pub returns-clause-order : goal.returns-clause-order
+returns-clause-order g c = runs_end c.args.cache.now (g.D.Disk.sent c.args.disk.now) (g.D.Disk.sent c.loop-at.disk) (pieces_left c.loop-at.at-iterator) c.in-None.ensures.steps.0 c.loop-at.invariant.order

@@ -1,6 +1,7 @@
 use Rattle.std.proofs.Common.{◌≡◌}
 use Rattle.write_cache.specs.Lent.{pieces_left}
 use Rattle.recon_core.proofs.Told.{IsSending}
+use Rattle.recon_core.proofs.Ordered.{RunsLeft}
 use Rattle.recon_core.proofs.send.send_pieces.Given as goal
 
 -- the pieces that the iterator has left are still to go out
@@ -10,5 +11,6 @@ invariant-loop-at g l =
     record {
       size : disk.len l.disk ≡ disk.len l.fn.disk;
       so : IsSending l.cache (disk.bytes l.fn.disk) (disk.bytes l.disk) (pieces_left l.at-iterator);
+      order : RunsLeft l.cache (disk.sent l.fn.disk) (disk.sent l.disk) (pieces_left l.at-iterator);
       faults : disk.faults l.disk ≡ disk.faults l.fn.disk;
     }

@@ -1,0 +1,64 @@
+-- In which calls the bytes of a passed event go out to the device, and in which order.
+use Rattle.std.specs.Prelude.{ℕ, zero, suc, ◌≡◌, ◌+◌, ◌-◌, ◌/◌, ◌<◌, ◌≤◌, ◌↔◌, Bool, true, false, IsTrue, List, [], ◌∷◌, ◌++◌, length, take, drop, max, Option, IfSome, IsSome}
+use Rattle.std.specs.List.{flat_map}
+use Rattle.std.specs.Ordering.{nat_cmp}
+use Rattle.std.specs.FinMap.{FinMap, get}
+use Rattle.verdict.specs.Image.{range}
+use Rattle.verdict.specs.declared.machine.Answer.{Answer}
+use Rattle.verdict.specs.declared.machine.Answer.TheVariants.{Passed}
+use Rattle.verdict.specs.declared.machine.Event.{Event}
+use Rattle.verdict.specs.declared.machine.Event.TheVariants.{Write}
+use Rattle.recon_disk.specs.Calls.{Sent, Wrote, Flushed, and_sent}
+use Rattle.write_cache.specs.Cache.{overlaid, with_bytes}
+use Rattle.write_cache.specs.Pieces.{Piece, ArePiecesOf}
+
+-- so many calls, each with 1,048,576 bytes from the front of those that are left, the last with what is left
+abbrev pub cut_calls : ℕ → ℕ → List ℕ → List Sent
+cut_calls zero at bytes = []
+cut_calls (suc n) at bytes = Wrote at (take 1048576 bytes) ∷ cut_calls n (at + 1048576) (drop 1048576 bytes)
+
+-- a run of bytes from an offset on, cut from its front into calls of 1,048,576 bytes and a shorter last one
+unfoldable pub run_calls : ℕ → List ℕ → List Sent
+run_calls at bytes = cut_calls ((length bytes + 1048575) / 1048576) at bytes
+
+-- the runs of a piece outside the superblock place, bytes 65536 to 69631: the one before it, and the one behind it
+unfoldable pub piece_calls : ℕ → List ℕ → List Sent
+piece_calls at bytes = run_calls at (take (65536 - at) bytes) ++ run_calls (max 69632 at) (drop (69632 - at) bytes)
+
+-- those of all pieces, one piece after the other
+abbrev pub pieces_calls : List Piece → List Sent
+pieces_calls pieces = flat_map (λ piece. piece_calls piece.at piece.bytes) pieces
+
+-- what follows the runs: a flush, and on a commit the whole place in one call and a flush again
+abbrev pub closing_calls : Bool → List ℕ → List Sent
+closing_calls false place = Flushed ∷ []
+closing_calls true place = Flushed ∷ Wrote 65536 place ∷ Flushed ∷ []
+
+-- a byte of the superblock place waits
+abbrev pub WaitsInPlace : FinMap nat_cmp ℕ → Type 0
+WaitsInPlace waiting = (i : ℕ) × (65536 ≤ i) × (i < 69632) × IsSome (get waiting i)
+
+-- The calls that send out what waits: its maximal runs outside the superblock place in rising order, and what follows
+-- them. It is a commit where a byte of the place waits, and the place's bytes are those of the judged image.
+pub record AreCallsOf (waiting : FinMap nat_cmp ℕ) (judged : List ℕ) (calls : List Sent) : Type 0 where
+  pub pieces : List Piece
+  pub runs : ArePiecesOf waiting pieces
+  pub commit : Bool
+  pub place : IsTrue commit ↔ WaitsInPlace waiting
+  pub order : calls ≡ pieces_calls pieces ++ closing_calls commit (range 65536 4096 judged)
+
+-- exactly these calls were sent, in their order
+abbrev pub HasSentOut : FinMap nat_cmp ℕ → List ℕ → Option (List Sent) → Option (List Sent) → Type 0
+HasSentOut waiting judged before now = (calls : List Sent) × AreCallsOf waiting judged calls × (now ≡ and_sent before calls)
+
+-- all that waits when an event is judged: a commit's own bytes lie over the others
+abbrev pub judged_with : FinMap nat_cmp ℕ → Event → FinMap nat_cmp ℕ
+judged_with waiting (Write submitter at bytes) = with_bytes waiting at bytes
+judged_with waiting _ = waiting
+
+-- what an answer sent to a disk that held these bytes, where it tells them: with `Passed` what waits went out, and with
+-- any other answer nothing
+abbrev pub HasSentBy : Answer → FinMap nat_cmp ℕ → Option (List ℕ) → Option (List Sent) → Option (List Sent) → Type 0
+HasSentBy (Passed generation blocks hot) waiting bytes before now =
+    IfSome bytes (λ image. HasSentOut waiting (overlaid waiting 0 image) before now)
+HasSentBy _ waiting bytes before now = now ≡ before
