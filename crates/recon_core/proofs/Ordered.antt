@@ -1,17 +1,16 @@
 -- The calls that went out so far, with those that are left, are all of them.
-use Rattle.std.proofs.Common.{◌≡◌, ℕ, zero, suc, ◌+◌, ◌-◌, ◌/◌, ◌<◌, ◌≤◌, ◌↔◌, inl, inr, min, max, Bool, true, false, IsTrue, List, [], ◌∷◌, ◌++◌, length, take, drop, IsSome, Option, Some, None, IfSome, Result, Ok, Err, OnOk, refl, sym, ap, ◌∙◌, arith, subst, add-one, add-zero}
-use Rattle.std.specs.List.{flat_map}
+use Rattle.std.proofs.Common.{◌≡◌, ℕ, suc, ◌+◌, ◌-◌, ◌/◌, ◌<◌, ◌≤◌, ◌↔◌, inl, inr, min, max, Bool, true, false, IsTrue, List, [], ◌∷◌, ◌++◌, length, take, drop, Option, Some, None, IfSome, refl, sym, ap, ◌∙◌, arith, subst, add-one, add-zero}
 use Rattle.std.specs.Ordering.{nat_cmp}
-use Rattle.std.specs.FinMap.{FinMap, get}
+use Rattle.std.specs.FinMap.{FinMap}
 use Rattle.std.proofs.Math.Nat.{add-div_right, div-eq_of_lt}
 use Rattle.std.proofs.lemmas.Bool.{cases_lt}
-use Rattle.std.proofs.lemmas.List.{append-nil, append_assoc, drop-drop, drop_all, take_all, length-drop, length-take}
+use Rattle.std.proofs.lemmas.List.{append-nil, append_assoc, drop-drop, take_all, length-drop}
 use Rattle.verdict.specs.Image.{range}
 use Rattle.recon_disk.specs.Calls.{Sent, Wrote, Flushed, and_sent}
 use Rattle.write_cache.specs.Cache.{overlaid}
 use Rattle.write_cache.proofs.CacheLaws.{range-overlaid_image}
 use Rattle.write_cache.specs.Pieces.{Piece, ArePiecesOf}
-use Rattle.recon_core.specs.Order.{cut_calls, run_calls, piece_calls, closing_calls, AreCallsOf, HasSentOut, WaitsInPlace, pieces_calls}
+use Rattle.recon_core.specs.Order.{cut_calls, run_calls, piece_calls, closing_calls, HasSentOut, WaitsInPlace, pieces_calls}
 use Rattle.recon_core.specs.Sent.{HasSentRuns}
 
 -- nothing more, and one thing after the other
@@ -133,10 +132,11 @@ pub settled_out : (bytes : Option (List ℕ)) (m : FinMap nat_cmp ℕ) (first mi
     → HasSentRuns m first mid → last ≡ and_sent mid (Flushed ∷ [])
     → IfSome bytes (λ image. HasSentOut m (overlaid m 0 image) first last)
 settled_out None m first mid last b e says runs h = tt
-settled_out (Some image) m first mid last b e says runs h =
-    (pieces_calls runs.0 ++ closing_calls false [],
-    record { pieces = runs.0; runs = runs.1; commit = false; place = is_false b e (WaitsInPlace m) says; order = refl },
-    h ∙ ap (λ o. and_sent o (Flushed ∷ [])) runs.2 ∙ sent_then first (pieces_calls runs.0) (Flushed ∷ []))
+settled_out (Some image) m first mid last b e says runs h = (
+  pieces_calls runs.0 ++ closing_calls false [],
+  record { pieces = runs.0; runs = runs.1; commit = false; place = is_false b e (WaitsInPlace m) says; order = refl },
+  h ∙ ap (λ o. and_sent o (Flushed ∷ [])) runs.2 ∙ sent_then first (pieces_calls runs.0) (Flushed ∷ []),
+)
 
 -- a commit's calls: the runs, a flush, the place and a flush
 pub committed_out : (bytes : Option (List ℕ)) (m : FinMap nat_cmp ℕ) (begun first mid flushed placed last : Option (List Sent)) (place read : List ℕ) (b : Bool) → b ≡ true → IsTrue b ↔ WaitsInPlace m
@@ -146,13 +146,14 @@ pub committed_out : (bytes : Option (List ℕ)) (m : FinMap nat_cmp ℕ) (begun 
 committed_out None m begun first mid flushed placed last place read b e says r p same runs f w h = tt
 committed_out (Some image) m begun first mid flushed placed last place read b e says r p same runs f w h =
     let q : place ≡ range 65536 4096 (overlaid m 0 image) = p ∙ ap (overlaid m 65536) r ∙ sym (range-overlaid_image m image 65536 4096) in
-    let calls : List Sent = pieces_calls runs.0 in
-    (calls ++ closing_calls true (range 65536 4096 (overlaid m 0 image)),
-    record { pieces = runs.0; runs = runs.1; commit = true; place = subst (λ x. IsTrue x ↔ WaitsInPlace m) e says; order = refl },
-    h ∙ ap (λ o. and_sent o (Flushed ∷ [])) w
-    ∙ sent_then flushed (Wrote 65536 place ∷ []) (Flushed ∷ [])
-    ∙ ap (λ o. and_sent o (Wrote 65536 place ∷ Flushed ∷ [])) f
-    ∙ sent_then mid (Flushed ∷ []) (Wrote 65536 place ∷ Flushed ∷ [])
-    ∙ ap (λ o. and_sent o (Flushed ∷ Wrote 65536 place ∷ Flushed ∷ [])) (runs.2 ∙ ap (λ o. and_sent o calls) same)
-    ∙ sent_then first calls (Flushed ∷ Wrote 65536 place ∷ Flushed ∷ [])
-    ∙ ap (λ x. and_sent first (calls ++ (Flushed ∷ Wrote 65536 x ∷ Flushed ∷ []))) q)
+    let calls : List Sent = pieces_calls runs.0 in (
+      calls ++ closing_calls true (range 65536 4096 (overlaid m 0 image)),
+      record { pieces = runs.0; runs = runs.1; commit = true; place = subst (λ x. IsTrue x ↔ WaitsInPlace m) e says; order = refl },
+      h ∙ ap (λ o. and_sent o (Flushed ∷ [])) w
+          ∙ sent_then flushed (Wrote 65536 place ∷ []) (Flushed ∷ [])
+          ∙ ap (λ o. and_sent o (Wrote 65536 place ∷ Flushed ∷ [])) f
+          ∙ sent_then mid (Flushed ∷ []) (Wrote 65536 place ∷ Flushed ∷ [])
+          ∙ ap (λ o. and_sent o (Flushed ∷ Wrote 65536 place ∷ Flushed ∷ [])) (runs.2 ∙ ap (λ o. and_sent o calls) same)
+          ∙ sent_then first calls (Flushed ∷ Wrote 65536 place ∷ Flushed ∷ [])
+          ∙ ap (λ x. and_sent first (calls ++ (Flushed ∷ Wrote 65536 x ∷ Flushed ∷ []))) q,
+    )

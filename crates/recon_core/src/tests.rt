@@ -1,4 +1,5 @@
 ghost use Rattle.std.specs.Prelude.{◌≡◌, ◌+◌, ◌≤◌, IfOk, OnOk, length};
+ghost use Rattle.verdict.specs.Image.{written};
 ghost use Rattle.recon_core.specs.Standing.{IsBelow};
 
 use crate::send::let_through;
@@ -18,16 +19,15 @@ struct Recorder {
 }
 
 impl Disk for Recorder {
-    ghost use Rattle.std.specs.Prelude.{Some, map, option_map_or, refl};
+    ghost use Rattle.std.specs.Prelude.{Some, map, refl};
+    ghost use Rattle.std.specs.Option.{option_map_or};
     ghost use Rattle.recon_disk.specs.Calls.{Wrote, Flushed};
 
     ghost len = { λ d. length d.bytes.items };
 
     ghost bytes = { λ d. Some d.bytes.items };
 
-    ghost sent = {
-        λ d. Some (map (λ call. option_map_or (λ w. Wrote w.at w.bytes) call Flushed) d.calls.items)
-    };
+    ghost sent = { λ d. Some (map (λ call. option_map_or (λ w. Wrote w.at w.bytes) call Flushed) d.calls.items) };
 
     ghost reads = { λ d. d.reads };
 
@@ -55,8 +55,7 @@ impl Disk for Recorder {
             self.faults = self.faults.saturating_add(1);
             return Err(Failed);
         }
-        let begin = at as usize;
-        self.bytes[begin..begin + from.len()].copy_from_slice(from);
+        overwrite(&mut self.bytes, at as usize, from);
         Ok(())
     }
 
@@ -69,8 +68,18 @@ impl Disk for Recorder {
     }
 }
 
+// Puts these bytes over the range that begins at a place.
+#[tactic(auto, unfolding(verdict::specs::Image::written))]
+fn overwrite(bytes: &mut Vec<u8>, at: usize, from: &[u8])
+    requires { at + length from.now ≤ length bytes.old.items }
+    ensures bytes { bytes.new.items ≡ written bytes.old.items at from.now }
+    ensures len { length bytes.new.items ≡ length bytes.old.items }
+{
+    bytes[at..at + from.len()].copy_from_slice(from);
+}
+
 // A disk of zeros.
-fn recorder(alloc: Global, len: usize) -> Result<Recorder, NoMemory>
+fn disk_of_zeros(alloc: Global, len: usize) -> Result<Recorder, NoMemory>
     ensures { IfOk result (λ disk. length disk.bytes.items ≡ len) }
 {
     let Ok(bytes) = vec![in alloc; 0u8; len] else {
@@ -94,6 +103,21 @@ fn put(cache: &mut WriteCache, end: u64, at: u64, bytes: &[u8]) -> Result<(), No
     cache.put(at, bytes)
 }
 
+// Sends what waits out to a disk of zeros: a run that spans the superblock place, and two short ones.
+fn sent_out(alloc: Global, end: u64, long: &[u8]) -> Result<Recorder, NoMemory>
+    requires room { 70000 + length long.now ≤ end }
+{
+    let mut disk = disk_of_zeros(alloc, end as usize)?;
+    let mut cache = WriteCache::new(alloc);
+    put(&mut cache, end, end - 1, &[5])?;
+    put(&mut cache, end, 65_530, long)?;
+    put(&mut cache, end, 10, &[1, 2])?;
+    match let_through(&mut disk, &cache) {
+        Ok(()) => Ok(disk),
+        Err(_) => Err(NoMemory),
+    }
+}
+
 // Where a call writes, its first byte and how many bytes; none of a flush.
 fn seen(call: &Option<HeldWrite>) -> Option<(u64, u8, usize)> {
     let write = call.as_ref()?;
@@ -103,23 +127,16 @@ fn seen(call: &Option<HeldWrite>) -> Option<(u64, u8, usize)> {
 
 #[test]
 fn a_commit_goes_out_in_rising_runs_and_the_place_last(rt: HostRuntime) -> Result<(), NoMemory> {
-    let alloc = rt.alloc();
-    let end = 1_200_000;
-    let mut disk = recorder(alloc, end as usize)?;
-    let mut cache = WriteCache::new(alloc);
-    let Ok(long) = vec![in alloc; 4u8; 1_048_577 + 4102] else {
+    let Ok(long) = vec![in rt.alloc(); 4u8; 1_048_577 + 4102] else {
         return Err(NoMemory);
     };
-    put(&mut cache, end, 1_190_000, &[5])?;
-    put(&mut cache, end, 65_530, long.as_slice())?;
-    put(&mut cache, end, 10, &[1, 2])?;
-    assert!(rt; let_through(&mut disk, &cache).is_ok());
+    let disk = sent_out(rt.alloc(), 1_200_000, long.as_slice())?;
     let wanted = [
         Some((10, 1, 2)),
         Some((65_530, 4, 6)),
         Some((69_632, 4, 1_048_576)),
         Some((69_632 + 1_048_576, 4, 1)),
-        Some((1_190_000, 5, 1)),
+        Some((1_199_999, 5, 1)),
         None,
         Some((65_536, 4, 4096)),
         None,
