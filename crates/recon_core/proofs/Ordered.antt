@@ -10,8 +10,8 @@ use Rattle.recon_disk.specs.Calls.{Sent, Wrote, Flushed, and_sent}
 use Rattle.write_cache.specs.Cache.{overlaid}
 use Rattle.write_cache.proofs.CacheLaws.{range-overlaid_image}
 use Rattle.write_cache.specs.Pieces.{Piece, ArePiecesOf}
-use Rattle.recon_core.specs.Order.{cut_calls, run_calls, piece_calls, closing_calls, HasSentOut, WaitsInPlace, pieces_calls}
-use Rattle.recon_core.specs.Sent.{HasSentRuns}
+use Rattle.recon_core.specs.Order.{cut_calls, run_calls, piece_calls, closing_calls, HasSentFront, HasSentOut, HasSentPart, WaitsInPlace, pieces_calls}
+use Rattle.recon_core.specs.Sent.{HasSentRuns, HasSentSomeRuns}
 
 -- nothing more, and one thing after the other
 pub sent_none : (o : Option (List Sent)) → and_sent o [] ≡ o
@@ -54,29 +54,65 @@ next_call at n rest some is = elim (cases_lt (length rest) 1048576) [
       subst (λ k. run_calls at rest ≡ Wrote at (take k rest) ∷ run_calls (at + k) (drop k rest)) all (run_first at rest some)
 ]
 
--- all of a run is left
-pub run_begins : (first : Option (List Sent)) (at : ℕ) (bytes : List ℕ) → and_sent first (run_calls (at + 0) (drop 0 bytes)) ≡ and_sent first (run_calls at bytes)
-run_begins first at bytes = ap (λ k. and_sent first (run_calls k bytes)) (add-zero at)
+-- a front of calls of which others follow, and of those that follow them
+front_first : (first last : Option (List Sent)) (a b all : List Sent) → all ≡ a ++ b → HasSentFront a first last → HasSentFront all first last
+front_first first last a b all e h = (h.0, h.1 ++ b, e ∙ ap (λ calls. calls ++ b) h.2 ∙ append_assoc h.0 h.1 b, h.3)
 
--- one more call of a run is out
-pub run_more : (now last : Option (List Sent)) (at done n : ℕ) (bytes part : List ℕ) → done < length bytes → n ≡ min 1048576 (length bytes - done) → part ≡ take n (drop done bytes)
-    → last ≡ and_sent now (Wrote (at + done) part ∷ [])
-    → and_sent last (run_calls (at + (done + n)) (drop (done + n) bytes)) ≡ and_sent now (run_calls (at + done) (drop done bytes))
-run_more now last at done n bytes part more is part_is h =
+front_second : (first mid last : Option (List Sent)) (a b all : List Sent) → all ≡ a ++ b → mid ≡ and_sent first a → HasSentFront b mid last → HasSentFront all first last
+front_second first mid last a b all e m h =
+    (a ++ h.0, h.1, e ∙ ap (λ calls. a ++ calls) h.2 ∙ sym (append_assoc a h.0 h.1), h.3 ∙ ap (λ o. and_sent o h.0) m ∙ sent_then first a h.0)
+
+-- of all calls a front was sent, and these are left
+pub record SentSoFar (first now : Option (List Sent)) (all left : List Sent) : Type 0 where
+  pub front : List Sent
+  pub whole : all ≡ front ++ left
+  pub out : now ≡ and_sent first front
+
+pub none_sent : (first : Option (List Sent)) (all left : List Sent) → left ≡ all → SentSoFar first first all left
+none_sent first all left e = record { front = []; whole = sym e; out = sym (sent_none first) }
+
+pub some_sent : (first now last : Option (List Sent)) (all more left : List Sent) → SentSoFar first now all (more ++ left) → last ≡ and_sent now more → SentSoFar first last all left
+some_sent first now last all more left so h = record {
+  front = so.front ++ more;
+  whole = so.whole ∙ sym (append_assoc so.front more left);
+  out = h ∙ ap (λ o. and_sent o more) so.out ∙ sent_then first so.front more;
+}
+
+pub each_sent : (first now : Option (List Sent)) (all left : List Sent) → left ≡ [] → SentSoFar first now all left → now ≡ and_sent first all
+each_sent first now all left none so = so.out ∙ ap (and_sent first) (sym (so.whole ∙ ap (λ calls. so.front ++ calls) none ∙ append-nil so.front))
+
+-- a further call failed, or those of a part
+pub part_sent : (first now last : Option (List Sent)) (all left : List Sent) → SentSoFar first now all left → last ≡ now → HasSentFront all first last
+part_sent first now last all left so same = (so.front, left, so.whole, same ∙ so.out)
+
+pub part_more : (first now last : Option (List Sent)) (all more left : List Sent) → SentSoFar first now all (more ++ left) → HasSentFront more now last → HasSentFront all first last
+part_more first now last all more left so h = front_second first now last so.front (more ++ left) all so.whole so.out (front_first now last more left (more ++ left) refl h)
+
+-- the calls of a run that are left
+pub run_begins : (first : Option (List Sent)) (at : ℕ) (bytes : List ℕ) → SentSoFar first first (run_calls at bytes) (run_calls (at + 0) (drop 0 bytes))
+run_begins first at bytes = none_sent first (run_calls at bytes) (run_calls (at + 0) (drop 0 bytes)) (ap (λ k. run_calls k bytes) (add-zero at))
+
+next_left : (at done n : ℕ) (bytes part : List ℕ) → done < length bytes → n ≡ min 1048576 (length bytes - done) → part ≡ take n (drop done bytes)
+    → run_calls (at + done) (drop done bytes) ≡ Wrote (at + done) part ∷ run_calls (at + (done + n)) (drop (done + n) bytes)
+next_left at done n bytes part more is part_is =
     let rest : List ℕ = drop done bytes in
     let left : length rest ≡ length bytes - done = length-drop done bytes in
-    ap (λ o. and_sent o (run_calls (at + (done + n)) (drop (done + n) bytes))) h
-    ∙ sent_then now (Wrote (at + done) part ∷ []) (run_calls (at + (done + n)) (drop (done + n) bytes))
-    ∙ ap (λ p. and_sent now (Wrote (at + done) p ∷ run_calls (at + (done + n)) (drop (done + n) bytes))) part_is
-    ∙ ap (λ k. and_sent now (Wrote (at + done) (take n rest) ∷ run_calls k (drop (done + n) bytes))) (omega arith)
-    ∙ ap (λ l. and_sent now (Wrote (at + done) (take n rest) ∷ run_calls (at + done + n) l)) (sym (drop-drop n done bytes))
-    ∙ ap (and_sent now) (sym (next_call (at + done) n rest (omega arith) (is ∙ ap (min 1048576) (sym left))))
+    next_call (at + done) n rest (omega arith) (is ∙ ap (min 1048576) (sym left))
+    ∙ ap (λ l. Wrote (at + done) (take n rest) ∷ run_calls (at + done + n) l) (drop-drop n done bytes)
+    ∙ ap (λ k. Wrote (at + done) (take n rest) ∷ run_calls k (drop (done + n) bytes)) (omega arith)
+    ∙ ap (λ p. Wrote (at + done) p ∷ run_calls (at + (done + n)) (drop (done + n) bytes)) (sym part_is)
 
--- none is left
+pub run_more : (first now last : Option (List Sent)) (at done n : ℕ) (bytes part : List ℕ) → done < length bytes → n ≡ min 1048576 (length bytes - done) → part ≡ take n (drop done bytes)
+    → SentSoFar first now (run_calls at bytes) (run_calls (at + done) (drop done bytes)) → last ≡ and_sent now (Wrote (at + done) part ∷ [])
+    → SentSoFar first last (run_calls at bytes) (run_calls (at + (done + n)) (drop (done + n) bytes))
+run_more first now last at done n bytes part more is part_is so h =
+    some_sent first now last (run_calls at bytes) (Wrote (at + done) part ∷ []) (run_calls (at + (done + n)) (drop (done + n) bytes))
+    (subst (SentSoFar first now (run_calls at bytes)) (next_left at done n bytes part more is part_is) so) h
+
 pub run_ends : (first now : Option (List Sent)) (at done : ℕ) (bytes : List ℕ) → length bytes ≤ done
-    → and_sent now (run_calls (at + done) (drop done bytes)) ≡ and_sent first (run_calls at bytes) → now ≡ and_sent first (run_calls at bytes)
-run_ends first now at done bytes past h =
-    sym (sent_none now) ∙ ap (and_sent now) (sym (no_run (at + done) (drop done bytes) (length-drop done bytes ∙ omega arith))) ∙ h
+    → SentSoFar first now (run_calls at bytes) (run_calls (at + done) (drop done bytes)) → now ≡ and_sent first (run_calls at bytes)
+run_ends first now at done bytes past so =
+    each_sent first now (run_calls at bytes) (run_calls (at + done) (drop done bytes)) (no_run (at + done) (drop done bytes) (length-drop done bytes ∙ omega arith)) so
 
 -- the two runs of a piece
 take_few : (n : ℕ) (bytes : List ℕ) → take (min n (length bytes)) bytes ≡ take n bytes
@@ -91,38 +127,64 @@ run_behind at bytes = elim (cases_lt (69632 - at) (length bytes)) [
   | inr few ↦ no_run _ _ (length-drop (min (69632 - at) (length bytes)) bytes ∙ omega arith) ∙ sym (no_run _ _ (length-drop (69632 - at) bytes ∙ omega arith))
 ]
 
+-- a piece's calls are those of its two runs
+piece_is : (at spot : ℕ) (bytes front rest : List ℕ) → front ≡ take (min (65536 - at) (length bytes)) bytes → rest ≡ drop (min (69632 - at) (length bytes)) bytes
+    → spot ≡ at + min (69632 - at) (length bytes) → piece_calls at bytes ≡ run_calls at front ++ run_calls spot rest
+unfolding piece_calls
+piece_is at spot bytes front rest f r s =
+    ap (λ calls. run_calls at (take (65536 - at) bytes) ++ calls) (sym (run_behind at bytes))
+    ∙ ap (λ k. run_calls at (take (65536 - at) bytes) ++ run_calls k (drop (min (69632 - at) (length bytes)) bytes)) (sym s)
+    ∙ ap (λ p. run_calls at (take (65536 - at) bytes) ++ run_calls spot p) (sym r)
+    ∙ ap (λ p. run_calls at p ++ run_calls spot rest) (sym (f ∙ take_few (65536 - at) bytes))
+
 pub piece_out : (first mid last : Option (List Sent)) (at spot : ℕ) (bytes front rest : List ℕ)
     → front ≡ take (min (65536 - at) (length bytes)) bytes → rest ≡ drop (min (69632 - at) (length bytes)) bytes → spot ≡ at + min (69632 - at) (length bytes)
     → mid ≡ and_sent first (run_calls at front) → last ≡ and_sent mid (run_calls spot rest)
     → last ≡ and_sent first (piece_calls at bytes)
-unfolding piece_calls
 piece_out first mid last at spot bytes front rest f r s m l =
     l ∙ ap (λ o. and_sent o (run_calls spot rest)) m
     ∙ sent_then first (run_calls at front) (run_calls spot rest)
-    ∙ ap (λ p. and_sent first (run_calls at p ++ run_calls spot rest)) (f ∙ take_few (65536 - at) bytes)
-    ∙ ap (λ k. and_sent first (run_calls at (take (65536 - at) bytes) ++ run_calls k rest)) s
-    ∙ ap (λ p. and_sent first (run_calls at (take (65536 - at) bytes) ++ run_calls (at + min (69632 - at) (length bytes)) p)) r
-    ∙ ap (λ calls. and_sent first (run_calls at (take (65536 - at) bytes) ++ calls)) (run_behind at bytes)
+    ∙ ap (and_sent first) (sym (piece_is at spot bytes front rest f r s))
 
--- the pieces that are left, behind what was sent, are all pieces of a map
+-- one of its runs went out in part
+pub front_in_part : (first last : Option (List Sent)) (at : ℕ) (bytes front : List ℕ) → front ≡ take (min (65536 - at) (length bytes)) bytes
+    → HasSentFront (run_calls at front) first last → HasSentFront (piece_calls at bytes) first last
+front_in_part first last at bytes front f h =
+    let rest : List ℕ = drop (min (69632 - at) (length bytes)) bytes in
+    let spot : ℕ = at + min (69632 - at) (length bytes) in
+    front_first first last (run_calls at front) (run_calls spot rest) (piece_calls at bytes) (piece_is at spot bytes front rest f refl refl) h
+
+pub rest_in_part : (first mid last : Option (List Sent)) (at spot : ℕ) (bytes front rest : List ℕ)
+    → front ≡ take (min (65536 - at) (length bytes)) bytes → rest ≡ drop (min (69632 - at) (length bytes)) bytes → spot ≡ at + min (69632 - at) (length bytes)
+    → mid ≡ and_sent first (run_calls at front) → HasSentFront (run_calls spot rest) mid last
+    → HasSentFront (piece_calls at bytes) first last
+rest_in_part first mid last at spot bytes front rest f r s m h =
+    front_second first mid last (run_calls at front) (run_calls spot rest) (piece_calls at bytes) (piece_is at spot bytes front rest f r s) m h
+
+-- of the calls of a map's pieces a front was sent, and those of these pieces are left
 pub record RunsLeft (m : FinMap nat_cmp ℕ) (first now : Option (List Sent)) (left : List Piece) : Type 0 where
   pub all : List Piece
   pub of_map : ArePiecesOf m all
-  pub same : and_sent now (pieces_calls left) ≡ and_sent first (pieces_calls all)
+  pub so : SentSoFar first now (pieces_calls all) (pieces_calls left)
 
 pub runs_begin : (m : FinMap nat_cmp ℕ) (first : Option (List Sent)) (pieces : List Piece) → ArePiecesOf m pieces → RunsLeft m first first pieces
-runs_begin m first pieces are = record { all = pieces; of_map = are; same = refl }
+runs_begin m first pieces are = record { all = pieces; of_map = are; so = none_sent first (pieces_calls pieces) (pieces_calls pieces) refl }
 
 pub runs_more : (m : FinMap nat_cmp ℕ) (first now last : Option (List Sent)) (p : Piece) (left : List Piece) → RunsLeft m first now (p ∷ left)
     → last ≡ and_sent now (piece_calls p.at p.bytes) → RunsLeft m first last left
-runs_more m first now last p left so h = record {
-  all = so.all;
-  of_map = so.of_map;
-  same = ap (λ o. and_sent o (pieces_calls left)) h ∙ sent_then now (piece_calls p.at p.bytes) (pieces_calls left) ∙ so.same;
+runs_more m first now last p left runs h = record {
+  all = runs.all;
+  of_map = runs.of_map;
+  so = some_sent first now last (pieces_calls runs.all) (piece_calls p.at p.bytes) (pieces_calls left) runs.so h;
 }
 
 pub runs_end : (m : FinMap nat_cmp ℕ) (first now : Option (List Sent)) (left : List Piece) → left ≡ [] → RunsLeft m first now left → HasSentRuns m first now
-runs_end m first now left none so = (so.all, so.of_map, sym (sent_none now) ∙ ap (λ l. and_sent now (pieces_calls l)) (sym none) ∙ so.same)
+runs_end m first now left none runs = (runs.all, runs.of_map, each_sent first now (pieces_calls runs.all) (pieces_calls left) (ap pieces_calls none) runs.so)
+
+pub runs_in_part : (m : FinMap nat_cmp ℕ) (first now last : Option (List Sent)) (p : Piece) (left : List Piece) → RunsLeft m first now (p ∷ left)
+    → HasSentFront (piece_calls p.at p.bytes) now last → HasSentSomeRuns m first last
+runs_in_part m first now last p left runs h =
+    (runs.all, runs.of_map, part_more first now last (pieces_calls runs.all) (piece_calls p.at p.bytes) (pieces_calls left) runs.so h)
 
 pub is_false : (b : Bool) → b ≡ false → (P : Type 0) → IsTrue b ↔ P → IsTrue false ↔ P
 is_false b e P says = subst (λ x. IsTrue x ↔ P) e says
@@ -156,4 +218,60 @@ committed_out (Some image) m begun first mid flushed placed last place read b e 
           ∙ ap (λ o. and_sent o (Flushed ∷ Wrote 65536 place ∷ Flushed ∷ [])) (runs.2 ∙ ap (λ o. and_sent o calls) same)
           ∙ sent_then first calls (Flushed ∷ Wrote 65536 place ∷ Flushed ∷ [])
           ∙ ap (λ x. and_sent first (calls ++ (Flushed ∷ Wrote 65536 x ∷ Flushed ∷ []))) q,
+    )
+
+-- where a call failed: at the runs, or behind them with these sent and the others left
+pub out_in_part : (bytes : Option (List ℕ)) (m : FinMap nat_cmp ℕ) (begun first last : Option (List Sent)) (b : Bool) → IsTrue b ↔ WaitsInPlace m
+    → begun ≡ first → HasSentSomeRuns m begun last → HasSentPart m bytes first last
+out_in_part None m begun first last b says same runs = inr tt
+out_in_part (Some image) m begun first last b says same runs =
+    let after : List Sent = closing_calls b (range 65536 4096 (overlaid m 0 image)) in
+    inr (
+      pieces_calls runs.0 ++ after,
+      record { pieces = runs.0; runs = runs.1; commit = b; place = says; order = refl },
+      front_first first last (pieces_calls runs.0) after (pieces_calls runs.0 ++ after) refl (subst (λ o. HasSentFront (pieces_calls runs.0) o last) same runs.2),
+    )
+
+closing_part : (bytes : Option (List ℕ)) (m : FinMap nat_cmp ℕ) (begun first mid last : Option (List Sent)) (b : Bool) → IsTrue b ↔ WaitsInPlace m
+    → begun ≡ first → HasSentRuns m begun mid
+    → IfSome bytes (λ image. HasSentFront (closing_calls b (range 65536 4096 (overlaid m 0 image))) mid last) → HasSentPart m bytes first last
+closing_part None m begun first mid last b says same runs h = inr tt
+closing_part (Some image) m begun first mid last b says same runs h =
+    let after : List Sent = closing_calls b (range 65536 4096 (overlaid m 0 image)) in
+    inr (
+      pieces_calls runs.0 ++ after,
+      record { pieces = runs.0; runs = runs.1; commit = b; place = says; order = refl },
+      front_second first mid last (pieces_calls runs.0) after (pieces_calls runs.0 ++ after) refl (runs.2 ∙ ap (λ o. and_sent o (pieces_calls runs.0)) same) h,
+    )
+
+if_each : {P : List ℕ → Type 0} (o : Option (List ℕ)) → ((x : List ℕ) → P x) → IfSome o P
+if_each None f = tt
+if_each (Some x) f = f x
+
+-- the flush behind the runs failed
+pub flush_fails : (bytes : Option (List ℕ)) (m : FinMap nat_cmp ℕ) (begun first mid last : Option (List Sent)) (b : Bool) → IsTrue b ↔ WaitsInPlace m
+    → begun ≡ first → HasSentRuns m begun mid → last ≡ mid → HasSentPart m bytes first last
+flush_fails bytes m begun first mid last b says same runs h =
+    closing_part bytes m begun first mid last b says same runs (if_each bytes (λ image. ([], closing_calls b (range 65536 4096 (overlaid m 0 image)), refl, h ∙ sym (sent_none mid))))
+
+-- the write of the place failed, or the last flush
+pub place_write_fails : (bytes : Option (List ℕ)) (m : FinMap nat_cmp ℕ) (begun first mid flushed last : Option (List Sent)) (b : Bool) → b ≡ true → IsTrue b ↔ WaitsInPlace m
+    → begun ≡ first → HasSentRuns m begun mid → flushed ≡ and_sent mid (Flushed ∷ []) → last ≡ flushed → HasSentPart m bytes first last
+place_write_fails bytes m begun first mid flushed last b e says same runs f h =
+    closing_part bytes m begun first mid last b says same runs (if_each bytes (λ image.
+    (Flushed ∷ [], Wrote 65536 (range 65536 4096 (overlaid m 0 image)) ∷ Flushed ∷ [], ap (λ x. closing_calls x (range 65536 4096 (overlaid m 0 image))) e, h ∙ f)))
+
+pub last_flush_fails : (bytes : Option (List ℕ)) (m : FinMap nat_cmp ℕ) (begun first mid flushed placed last : Option (List Sent)) (place read : List ℕ) (b : Bool) → b ≡ true → IsTrue b ↔ WaitsInPlace m
+    → IfSome bytes (λ image. read ≡ range 65536 4096 image) → place ≡ overlaid m 65536 read
+    → begun ≡ first → HasSentRuns m begun mid → flushed ≡ and_sent mid (Flushed ∷ []) → placed ≡ and_sent flushed (Wrote 65536 place ∷ []) → last ≡ placed
+    → HasSentPart m bytes first last
+last_flush_fails None m begun first mid flushed placed last place read b e says r p same runs f w h = inr tt
+last_flush_fails (Some image) m begun first mid flushed placed last place read b e says r p same runs f w h =
+    let q : place ≡ range 65536 4096 (overlaid m 0 image) = p ∙ ap (overlaid m 65536) r ∙ sym (range-overlaid_image m image 65536 4096) in
+    closing_part (Some image) m begun first mid last b says same runs (
+      Flushed ∷ Wrote 65536 (range 65536 4096 (overlaid m 0 image)) ∷ [],
+      Flushed ∷ [],
+      ap (λ x. closing_calls x (range 65536 4096 (overlaid m 0 image))) e,
+      h ∙ w ∙ ap (λ o. and_sent o (Wrote 65536 place ∷ [])) f ∙ sent_then mid (Flushed ∷ []) (Wrote 65536 place ∷ [])
+          ∙ ap (λ x. and_sent mid (Flushed ∷ Wrote 65536 x ∷ [])) q,
     )

@@ -1,5 +1,5 @@
 -- In which calls the bytes of a passed event go out to the device, and in which order.
-use Rattle.std.specs.Prelude.{ℕ, zero, suc, ◌≡◌, ◌+◌, ◌-◌, ◌/◌, ◌<◌, ◌≤◌, ◌↔◌, Bool, true, false, IsTrue, List, [], ◌∷◌, ◌++◌, length, take, drop, max, Option, IfSome, IsSome}
+use Rattle.std.specs.Prelude.{ℕ, zero, suc, ◌≡◌, ◌+◌, ◌-◌, ◌/◌, ◌<◌, ◌≤◌, ◌↔◌, ◌⊎◌, Bool, true, false, IsTrue, List, [], ◌∷◌, ◌++◌, length, take, drop, max, Option, IfSome, IsSome}
 use Rattle.std.specs.List.{flat_map}
 use Rattle.std.specs.Ordering.{nat_cmp}
 use Rattle.std.specs.FinMap.{FinMap, get}
@@ -50,6 +50,16 @@ pub record AreCallsOf (waiting : FinMap nat_cmp ℕ) (judged : List ℕ) (calls 
 -- exactly these calls were sent, in their order
 abbrev pub HasSentOut : FinMap nat_cmp ℕ → List ℕ → Option (List Sent) → Option (List Sent) → Type 0
 HasSentOut waiting judged before now = (calls : List Sent) × AreCallsOf waiting judged calls × (now ≡ and_sent before calls)
+
+-- of these calls those in front were sent, in their order
+abbrev pub HasSentFront : List Sent → Option (List Sent) → Option (List Sent) → Type 0
+HasSentFront calls before now = (front : List Sent) × (rest : List Sent) × (calls ≡ front ++ rest) × (now ≡ and_sent before front)
+
+-- what was sent where a call failed: nothing, or a front of the calls that send out what waits
+abbrev pub HasSentPart : FinMap nat_cmp ℕ → Option (List ℕ) → Option (List Sent) → Option (List Sent) → Type 0
+HasSentPart waiting bytes before now =
+    (now ≡ before)
+    ⊎ IfSome bytes (λ image. (calls : List Sent) × AreCallsOf waiting (overlaid waiting 0 image) calls × HasSentFront calls before now)
 
 -- all that waits when an event is judged: a commit's own bytes lie over the others
 abbrev pub judged_with : FinMap nat_cmp ℕ → Event → FinMap nat_cmp ℕ

@@ -10,7 +10,7 @@ use Rattle.recon_disk.specs.Calls.{Sent, and_sent}
 use Rattle.write_cache.specs.Cache.{overlaid}
 use Rattle.write_cache.specs.Pieces.{Piece, ArePiecesOf}
 use Rattle.recon_core.specs.Stops.{IsPartlySent}
-use Rattle.recon_core.specs.Order.{pieces_calls}
+use Rattle.recon_core.specs.Order.{HasSentFront, pieces_calls}
 
 -- What a step that writes to a disk gives. Where it answers, the disk's bytes are what this makes of the old ones;
 -- where a call failed, this holds of the old bytes and those that are left. The length stays, and faults have their
@@ -47,3 +47,7 @@ IsAllOrPart waiting old left = (left ≡ overlaid waiting 0 old) ⊎ IsPartlySen
 -- the runs of all that waits went out, but for the superblock place
 abbrev pub HasSentRuns : FinMap nat_cmp ℕ → Option (List Sent) → Option (List Sent) → Type 0
 HasSentRuns waiting before now = (pieces : List Piece) × ArePiecesOf waiting pieces × (now ≡ and_sent before (pieces_calls pieces))
+
+-- a front of them did
+abbrev pub HasSentSomeRuns : FinMap nat_cmp ℕ → Option (List Sent) → Option (List Sent) → Type 0
+HasSentSomeRuns waiting before now = (pieces : List Piece) × ArePiecesOf waiting pieces × HasSentFront (pieces_calls pieces) before now

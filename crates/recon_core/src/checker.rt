@@ -43,7 +43,7 @@ impl Checker {
     ghost use Rattle.recon_core.specs.Standing.{BeginsAt, BeginsOver, IsAfterWant, IsBelow, IsNoRefusal, StandsFor, Takes, is_disk_fault, refusal_of, waits};
     ghost use Rattle.recon_core.specs.Stops.{IsStopImage};
     ghost use Rattle.recon_core.specs.Judged.{Judges};
-    ghost use Rattle.recon_core.specs.Order.{HasSentBy, judged_with};
+    ghost use Rattle.recon_core.specs.Order.{HasSentBy, HasSentPart, judged_with};
 
     /// A checker over the disk, where the full check accepts its image. The disk's bytes stay. Its
     /// stops are `DiskFault` and `NoMemory`.
@@ -82,6 +82,11 @@ impl Checker {
     /// write that waits, and it closes the checker. After it the disk holds a stop image of the event: the
     /// old image, and where the full check accepts the judged image, that one, or the old one to which the
     /// waiting writes went out in part outside the superblock place.
+    ///
+    /// A passed event sends its bytes to the disk in this order, and nothing else: the maximal runs of what
+    /// waits outside the superblock place in rising order, each cut from its front into calls of 1,048,576
+    /// bytes and a shorter last one; a flush; and on a commit the whole place in one call and a flush.
+    /// Where a call fails, those before it were sent. Any other answer, and `NoMemory`, sends nothing.
     pub fn event<D: Disk, L>(
         &mut self,
         alloc: Global,
@@ -106,8 +111,11 @@ impl Checker {
             D.bytes disk.old ≡ Some state.image → IsErrOf result Stop.DiskFault →
             IsSomeAnd (D.bytes disk.new) (IsStopImage state ev) }
 
-        // What a passed event sends to the disk, call by call, and that no other answer sends anything.
+        // What a passed event sends to the disk, call by call, that no other answer sends anything, and
+        // what an event sends that has no answer.
         ensures order { IfOk result (λ answer. HasSentBy answer (judged_with self.old.cache ev)
+            (D.bytes disk.old) (D.sent disk.old) (D.sent disk.new)) }
+        ensures part { OnErr result (HasSentPart (judged_with self.old.cache ev)
             (D.bytes disk.old) (D.sent disk.old) (D.sent disk.new)) }
 
         // What the other refusals leave.
@@ -171,6 +179,8 @@ impl Checker {
             self.old.cache result (is_disk_fault result) }
         ensures order { IfOk result (λ answer. HasSentBy answer
             self.old.cache (D.bytes disk.old) (D.sent disk.old) (D.sent disk.new)) }
+        ensures part { OnErr result (HasSentPart
+            self.old.cache (D.bytes disk.old) (D.sent disk.old) (D.sent disk.new)) }
         ensures memory { IsErrOf result Stop.NoMemory → D.bytes disk.new ≡ D.bytes disk.old }
         ensures unsent { IsErrOf result Stop.NoMemory → D.sent disk.new ≡ D.sent disk.old }
         ensures ok { OnOk result (self.new ≡ record self.old { cache = map.empty }) }
@@ -199,6 +209,9 @@ impl Checker {
         ensures judged { Judges D.Disk disk.old disk.new
             (with_bytes self.old.cache write.at write.bytes) result (is_disk_fault result) }
         ensures order { IfOk result (λ answer. HasSentBy answer
+            (with_bytes self.old.cache write.at write.bytes)
+            (D.bytes disk.old) (D.sent disk.old) (D.sent disk.new)) }
+        ensures part { OnErr result (HasSentPart
             (with_bytes self.old.cache write.at write.bytes)
             (D.bytes disk.old) (D.sent disk.old) (D.sent disk.new)) }
         ensures memory { IsErrOf result Stop.NoMemory → D.bytes disk.new ≡ D.bytes disk.old }

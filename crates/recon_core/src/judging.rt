@@ -5,7 +5,7 @@ ghost use Rattle.std.specs.FinMap as map;
 ghost use Rattle.plain_check.specs.Gives.{is_disk_fault};
 ghost use Rattle.recon_core.specs.Standing.{IsBelow};
 ghost use Rattle.recon_core.specs.Judged.{Judges};
-ghost use Rattle.recon_core.specs.Order.{HasSentBy};
+ghost use Rattle.recon_core.specs.Order.{HasSentBy, HasSentPart};
 
 use crate::send::let_through;
 use plain_check::{Fault, Verdict, judge};
@@ -28,6 +28,8 @@ pub fn judge_waiting<D: Disk>(
     ensures order { IfOk result (λ answer.
         HasSentBy answer cache.old (D.bytes disk.old) (D.sent disk.old) (D.sent disk.new)) }
     ensures memory { IsErrOf result Fault.NoMemory → D.bytes disk.new ≡ D.bytes disk.old }
+    ensures part { OnErr result
+        (HasSentPart cache.old (D.bytes disk.old) (D.sent disk.old) (D.sent disk.new)) }
     ensures unsent { IsErrOf result Fault.NoMemory → D.sent disk.new ≡ D.sent disk.old }
     ensures empty { OnOk result (cache.new ≡ map.empty) }
     ensures waits { OnErr result (cache.new ≡ cache.old) }

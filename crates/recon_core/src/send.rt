@@ -1,13 +1,13 @@
 //! How what waits goes out to the disk once it is let through.
 
-ghost use Rattle.std.specs.Prelude.{ℕ, ◌≡◌, ◌+◌, ◌^◌, ◌<◌, ◌≤◌, List, length, IfSome, OnOk};
+ghost use Rattle.std.specs.Prelude.{ℕ, ◌≡◌, ◌+◌, ◌^◌, ◌<◌, ◌≤◌, List, length, IfSome, OnOk, OnErr};
 ghost use Rattle.verdict.specs.Image.{written};
 ghost use Rattle.recon_disk.specs.Calls.{and_sent};
 ghost use Rattle.write_cache.specs.Cache.{overlaid};
 ghost use Rattle.recon_core.specs.Standing.{IsBelow};
 ghost use Rattle.recon_core.specs.Stops.{IsPartlySent};
-ghost use Rattle.recon_core.specs.Order.{HasSentOut, piece_calls, run_calls};
-ghost use Rattle.recon_core.specs.Sent.{HasSentRuns, IsAllOrPart, Sends, StaysButForPiece, StaysOutside, sent_piece, with_place_of};
+ghost use Rattle.recon_core.specs.Order.{HasSentFront, HasSentOut, HasSentPart, piece_calls, run_calls};
+ghost use Rattle.recon_core.specs.Sent.{HasSentRuns, HasSentSomeRuns, IsAllOrPart, Sends, StaysButForPiece, StaysOutside, sent_piece, with_place_of};
 
 use recon_disk::{Disk, Failed};
 use verdict::{SUPERBLOCK_AT, SUPERBLOCK_SIZE};
@@ -25,6 +25,8 @@ fn write_run<D: Disk>(disk: &mut D, at: u64, bytes: &[u8]) -> Result<(), Failed>
         (StaysOutside at (length bytes.now)) }
     ensures order { OnOk result (D.sent disk.new ≡
         and_sent (D.sent disk.old) (run_calls at bytes.now)) }
+    ensures part { OnErr result
+        (HasSentFront (run_calls at bytes.now) (D.sent disk.old) (D.sent disk.new)) }
 {
     let mut done = 0;
     while done < bytes.len() {
@@ -44,6 +46,8 @@ fn send_piece<D: Disk>(disk: &mut D, at: u64, bytes: &[u8]) -> Result<(), Failed
         (StaysButForPiece at (length bytes.now)) }
     ensures order { OnOk result (D.sent disk.new ≡
         and_sent (D.sent disk.old) (piece_calls at bytes.now)) }
+    ensures part { OnErr result
+        (HasSentFront (piece_calls at bytes.now) (D.sent disk.old) (D.sent disk.new)) }
 {
     let len = bytes.len() as u64;
     let before = SUPERBLOCK_AT.saturating_sub(at).min(len);
@@ -63,6 +67,7 @@ fn send_pieces<D: Disk>(disk: &mut D, cache: &WriteCache) -> Result<(), Failed>
         (λ image. with_place_of image (overlaid cache.now 0 image))
         (IsPartlySent cache.now) }
     ensures order { OnOk result (HasSentRuns cache.now (D.sent disk.old) (D.sent disk.new)) }
+    ensures part { OnErr result (HasSentSomeRuns cache.now (D.sent disk.old) (D.sent disk.new)) }
 {
     for (at, bytes) in cache.pieces() {
         send_piece(disk, at, bytes)?;
@@ -82,6 +87,8 @@ pub fn let_through<D: Disk>(disk: &mut D, cache: &WriteCache) -> Result<(), Fail
         (IsAllOrPart cache.now) }
     ensures order { OnOk result (IfSome (D.bytes disk.old) (λ image.
         HasSentOut cache.now (overlaid cache.now 0 image) (D.sent disk.old) (D.sent disk.new))) }
+    ensures part { OnErr result
+        (HasSentPart cache.now (D.bytes disk.old) (D.sent disk.old) (D.sent disk.new)) }
 {
     if !cache.touches(SUPERBLOCK_AT, SUPERBLOCK_SIZE) {
         send_pieces(disk, cache)?;

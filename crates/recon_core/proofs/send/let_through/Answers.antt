@@ -1,10 +1,10 @@
-use Rattle.std.proofs.Common.{◌≡◌, ◌≤◌, length, ◌∙◌, arith, subst}
-use Rattle.std.proofs.lemmas.Result.{on_ok_weaker}
+use Rattle.std.proofs.Common.{◌≡◌, ◌≤◌, refl, length, ◌∙◌, arith, subst}
+use Rattle.std.proofs.lemmas.Result.{on_err_weaker, on_ok_weaker}
 use Rattle.recon_disk.specs.Outside.{HasCause, counted}
 use Rattle.write_cache.specs.Cache.{overlaid}
 use Rattle.recon_core.specs.Sent.{IsAllOrPart}
 use Rattle.recon_core.proofs.Told.{if_err, if_ok, left_all, left_but_place, none_at, place_fails, read_first, sends_err, told_commit, told_settled}
-use Rattle.recon_core.proofs.Ordered.{settled_out, committed_out}
+use Rattle.recon_core.proofs.Ordered.{settled_out, committed_out, flush_fails, last_flush_fails, out_in_part, place_write_fails}
 use Rattle.recon_core.proofs.send.let_through.Goals as goal
 
 pub returns-then-not-touches-clause-device : goal.returns-then-not-touches-clause-device
@@ -71,3 +71,37 @@ returns-clause-order g c =
     (g.D.Disk.sent c.flush-2.new.self) (g.D.Disk.sent c.write.new.self) (g.D.Disk.sent c.flush-3.new.self) c.overlay.new.into c.read.new.into c.touches.result c.if-not-touches.false c.touches.ensures
     c.in_ok-read.ensures.told c.overlay.ensures c.in_ok-read.ensures.sent c.in_ok-send_pieces-2.ensures.order c.in_ok-flush.ensures.sent c.in_ok-write.ensures.sent)
     c.flush-3.ensures.sent
+
+pub returns-then-not-touches-clause-part : goal.returns-then-not-touches-clause-part
+returns-then-not-touches-clause-part g c =
+    on_err_weaker c.flush.result (flush_fails (g.D.Disk.bytes c.args.disk.now) c.args.cache.now (g.D.Disk.sent c.args.disk.now) (g.D.Disk.sent c.args.disk.now) (g.D.Disk.sent c.send_pieces.new.disk) (g.D.Disk.sent c.flush.new.self)
+    c.touches.result c.touches.ensures refl c.in_ok-send_pieces.ensures.order)
+    c.flush.ensures.unsent
+
+pub returns-in_err-flush-clause-part : goal.returns-in_err-flush-clause-part
+returns-in_err-flush-clause-part g c =
+    if_err c.from_residual-in_err-flush.result (flush_fails (g.D.Disk.bytes c.args.disk.now) c.args.cache.now (g.D.Disk.sent c.read.new.self) (g.D.Disk.sent c.args.disk.now) (g.D.Disk.sent c.send_pieces-2.new.disk) (g.D.Disk.sent c.flush-2.new.self)
+    c.touches.result c.touches.ensures c.in_ok-read.ensures.sent c.in_ok-send_pieces-2.ensures.order c.in_err-flush.ensures.unsent)
+
+pub returns-in_err-write-clause-part : goal.returns-in_err-write-clause-part
+returns-in_err-write-clause-part g c =
+    if_err c.from_residual-in_err-write.result (place_write_fails (g.D.Disk.bytes c.args.disk.now) c.args.cache.now (g.D.Disk.sent c.read.new.self) (g.D.Disk.sent c.args.disk.now) (g.D.Disk.sent c.send_pieces-2.new.disk)
+    (g.D.Disk.sent c.flush-2.new.self) (g.D.Disk.sent c.write.new.self) c.touches.result c.if-not-touches.false c.touches.ensures c.in_ok-read.ensures.sent c.in_ok-send_pieces-2.ensures.order
+    c.in_ok-flush.ensures.sent c.in_err-write.ensures.unsent)
+
+pub returns-clause-part : goal.returns-clause-part
+returns-clause-part g c =
+    on_err_weaker c.flush-3.result (last_flush_fails (g.D.Disk.bytes c.args.disk.now) c.args.cache.now (g.D.Disk.sent c.read.new.self) (g.D.Disk.sent c.args.disk.now) (g.D.Disk.sent c.send_pieces-2.new.disk)
+    (g.D.Disk.sent c.flush-2.new.self) (g.D.Disk.sent c.write.new.self) (g.D.Disk.sent c.flush-3.new.self) c.overlay.new.into c.read.new.into c.touches.result c.if-not-touches.false c.touches.ensures
+    c.in_ok-read.ensures.told c.overlay.ensures c.in_ok-read.ensures.sent c.in_ok-send_pieces-2.ensures.order c.in_ok-flush.ensures.sent c.in_ok-write.ensures.sent)
+    c.flush-3.ensures.unsent
+
+pub returns-in_err-send_pieces-clause-part : goal.returns-in_err-send_pieces-clause-part
+returns-in_err-send_pieces-clause-part g c =
+    if_err c.from_residual.result (out_in_part (g.D.Disk.bytes c.args.disk.now) c.args.cache.now (g.D.Disk.sent c.args.disk.now) (g.D.Disk.sent c.args.disk.now) (g.D.Disk.sent c.send_pieces.new.disk)
+    c.touches.result c.touches.ensures refl c.in_err-send_pieces.ensures.part)
+
+pub returns-in_err-send_pieces-2-clause-part : goal.returns-in_err-send_pieces-2-clause-part
+returns-in_err-send_pieces-2-clause-part g c =
+    if_err c.from_residual-in_err-send_pieces-2.result (out_in_part (g.D.Disk.bytes c.args.disk.now) c.args.cache.now (g.D.Disk.sent c.read.new.self) (g.D.Disk.sent c.args.disk.now) (g.D.Disk.sent c.send_pieces-2.new.disk)
+    c.touches.result c.touches.ensures c.in_ok-read.ensures.sent c.in_err-send_pieces-2.ensures.part)

@@ -3,8 +3,8 @@ use Rattle.std.proofs.lemmas.List.{take_rest}
 use Rattle.std.proofs.lemmas.Result.{on_err_weaker, on_ok_weaker}
 use Rattle.recon_disk.specs.Outside.{HasCause}
 use Rattle.recon_core.specs.Sent.{StaysButForPiece, sent_piece}
-use Rattle.recon_core.proofs.Told.{front_fails, piece_sent, rest_fails, sends_err}
-use Rattle.recon_core.proofs.Ordered.{piece_out}
+use Rattle.recon_core.proofs.Told.{front_fails, if_err, piece_sent, rest_fails, sends_err}
+use Rattle.recon_core.proofs.Ordered.{front_in_part, piece_out, rest_in_part}
 use Rattle.recon_core.proofs.send.send_piece.Goals as goal
 
 pub returns-in_err-write_run-clause-device : goal.returns-in_err-write_run-clause-device
@@ -36,3 +36,16 @@ returns-clause-order g c =
     (take c.min-before.result bytes) (take (length bytes - c.min-behind.result) (drop c.min-behind.result bytes))
     (ap (λ k. take k bytes) (omega arith)) (take_rest bytes c.min-behind.result ∙ ap (λ k. drop k bytes) (omega arith)) (omega arith) c.in_ok-write_run.ensures.order l)
     c.write_run-2.ensures.order
+
+pub returns-in_err-write_run-clause-part : goal.returns-in_err-write_run-clause-part
+returns-in_err-write_run-clause-part g c =
+    if_err c.from_residual.result (front_in_part (g.D.Disk.sent c.args.disk.now) (g.D.Disk.sent c.write_run.new.disk) c.args.at c.args.bytes.now (take c.min-before.result c.args.bytes.now)
+    (ap (λ k. take k c.args.bytes.now) (omega arith)) c.in_err-write_run.ensures.part)
+
+pub returns-clause-part : goal.returns-clause-part
+returns-clause-part g c =
+    let bytes = c.args.bytes.now in
+    on_err_weaker c.write_run-2.result (λ h. rest_in_part (g.D.Disk.sent c.args.disk.now) (g.D.Disk.sent c.write_run.new.disk) (g.D.Disk.sent c.write_run-2.new.disk) c.args.at (c.args.at + c.min-behind.result) bytes
+    (take c.min-before.result bytes) (take (length bytes - c.min-behind.result) (drop c.min-behind.result bytes))
+    (ap (λ k. take k bytes) (omega arith)) (take_rest bytes c.min-behind.result ∙ ap (λ k. drop k bytes) (omega arith)) (omega arith) c.in_ok-write_run.ensures.order h)
+    c.write_run-2.ensures.part

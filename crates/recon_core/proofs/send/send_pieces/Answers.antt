@@ -4,8 +4,8 @@ use Rattle.write_cache.specs.Cache.{overlaid}
 use Rattle.write_cache.specs.Lent.{piece_lent, pieces_left}
 use Rattle.recon_core.specs.Stops.{IsPartlySent}
 use Rattle.recon_core.specs.Sent.{with_place_of}
-use Rattle.recon_core.proofs.Told.{IsSending, begin_sending, more_sent, piece_fails, piece_inside, sends_err, sent_whole}
-use Rattle.recon_core.proofs.Ordered.{RunsLeft, runs_begin, runs_more, runs_end}
+use Rattle.recon_core.proofs.Told.{IsSending, begin_sending, if_err, more_sent, piece_fails, piece_inside, sends_err, sent_whole}
+use Rattle.recon_core.proofs.Ordered.{RunsLeft, runs_in_part, runs_begin, runs_more, runs_end}
 use Rattle.recon_core.proofs.send.send_pieces.Goals as goal
 
 pub loop-at-init : goal.loop-at-init
@@ -61,3 +61,8 @@ returns-clause-device g c = record {
 
 pub returns-clause-order : goal.returns-clause-order
 returns-clause-order g c = runs_end c.args.cache.now (g.D.Disk.sent c.args.disk.now) (g.D.Disk.sent c.loop-at.disk) (pieces_left c.loop-at.at-iterator) c.in-None.ensures.steps.0 c.loop-at.invariant.order
+
+pub returns-in_err-send_piece-clause-part : goal.returns-in_err-send_piece-clause-part
+returns-in_err-send_piece-clause-part g c =
+    if_err c.from_residual.result (runs_in_part c.args.cache.now (g.D.Disk.sent c.args.disk.now) (g.D.Disk.sent c.loop-at.disk) (g.D.Disk.sent c.send_piece.new.disk) (piece_lent (c.in-Some.at, c.in-Some.bytes)) (pieces_left c.next.new.self)
+    (subst (RunsLeft c.args.cache.now (g.D.Disk.sent c.args.disk.now) (g.D.Disk.sent c.loop-at.disk)) c.in-Some.ensures.steps c.loop-at.invariant.order) c.in_err-send_piece.ensures.part)

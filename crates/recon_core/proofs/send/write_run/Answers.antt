@@ -2,9 +2,10 @@ use Rattle.std.proofs.Common.{◌≡◌, ◌+◌, ◌-◌, ◌≤◌, length, ta
 use Rattle.std.proofs.lemmas.List.{length-take-le, length-drop}
 use Rattle.verdict.specs.Image.{written}
 use Rattle.recon_disk.specs.Outside.{counted}
+use Rattle.recon_core.specs.Order.{run_calls}
 use Rattle.recon_core.specs.Sent.{StaysOutside}
-use Rattle.recon_core.proofs.Told.{told_none, told_more, run_fails, sends_err}
-use Rattle.recon_core.proofs.Ordered.{run_begins, run_more, run_ends}
+use Rattle.recon_core.proofs.Told.{if_err, told_none, told_more, run_fails, sends_err}
+use Rattle.recon_core.proofs.Ordered.{part_sent, run_begins, run_more, run_ends}
 use Rattle.recon_core.proofs.send.write_run.Goals as goal
 
 pub loop-done-init : goal.loop-done-init
@@ -19,8 +20,8 @@ loop-done-preserved g c =
       few = omega arith;
       size = c.write.ensures.len ∙ c.loop-done.invariant.size;
       front = told_more (g.D.Disk.bytes c.args.disk.now) (g.D.Disk.bytes c.loop-done.disk) _ (g.D.Disk.len c.args.disk.now) c.args.at c.loop-done.done c.min-n.result c.args.bytes.now _ (g.met.D.Disk.told_length c.args.disk.now) c.requires.inside (omega arith) (ap (λ k. take k (drop c.loop-done.done c.args.bytes.now)) (omega arith)) c.loop-done.invariant.front c.in_ok-write.ensures.written;
-      order = run_more (g.D.Disk.sent c.loop-done.disk) (g.D.Disk.sent c.write.new.self) c.args.at c.loop-done.done c.min-n.result c.args.bytes.now _ (omega arith) (omega arith) (ap (λ k. take k (drop c.loop-done.done c.args.bytes.now)) (omega arith)) c.in_ok-write.ensures.sent
-          ∙ c.loop-done.invariant.order;
+      order = run_more (g.D.Disk.sent c.args.disk.now) (g.D.Disk.sent c.loop-done.disk) (g.D.Disk.sent c.write.new.self) c.args.at c.loop-done.done c.min-n.result c.args.bytes.now _ (omega arith) (omega arith)
+          (ap (λ k. take k (drop c.loop-done.done c.args.bytes.now)) (omega arith)) c.loop-done.invariant.order c.in_ok-write.ensures.sent;
       faults = c.in_ok-write.ensures.cause.fine ∙ c.loop-done.invariant.faults;
     }
 
@@ -40,3 +41,8 @@ returns-in_err-write-clause-device g c =
 pub returns-clause-order : goal.returns-clause-order
 returns-clause-order g c =
     run_ends (g.D.Disk.sent c.args.disk.now) (g.D.Disk.sent c.loop-done.disk) c.args.at c.loop-done.done c.args.bytes.now (omega arith) c.loop-done.invariant.order
+
+pub returns-in_err-write-clause-part : goal.returns-in_err-write-clause-part
+returns-in_err-write-clause-part g c =
+    if_err c.from_residual.result (part_sent (g.D.Disk.sent c.args.disk.now) (g.D.Disk.sent c.loop-done.disk) (g.D.Disk.sent c.write.new.self) (run_calls c.args.at c.args.bytes.now)
+    (run_calls (c.args.at + c.loop-done.done) (drop c.loop-done.done c.args.bytes.now)) c.loop-done.invariant.order c.in_err-write.ensures.unsent)

@@ -1,7 +1,7 @@
 use Rattle.std.proofs.Common.{◌≡◌, ◌+◌, ◌-◌, ◌≤◌, length, take, drop, option_map}
-use Rattle.recon_disk.specs.Calls.{and_sent}
 use Rattle.recon_core.specs.Order.{run_calls}
 use Rattle.verdict.specs.Image.{written}
+use Rattle.recon_core.proofs.Ordered.{SentSoFar}
 use Rattle.recon_core.proofs.send.write_run.Given as goal
 
 -- a front is written so far
@@ -12,7 +12,7 @@ invariant-loop-done g l =
       few : l.done ≤ length l.bytes;
       size : disk.len l.disk ≡ disk.len l.fn.disk;
       front : disk.bytes l.disk ≡ option_map (λ image. written image l.at (take l.done l.bytes)) (disk.bytes l.fn.disk);
-      order : and_sent (disk.sent l.disk) (run_calls (l.at + l.done) (drop l.done l.bytes)) ≡ and_sent (disk.sent l.fn.disk) (run_calls l.at l.bytes);
+      order : SentSoFar (disk.sent l.fn.disk) (disk.sent l.disk) (run_calls l.at l.bytes) (run_calls (l.at + l.done) (drop l.done l.bytes));
       faults : disk.faults l.disk ≡ disk.faults l.fn.disk;
     }
 
