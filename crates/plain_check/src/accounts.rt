@@ -79,5 +79,7 @@ fn post<C: Ctx>(
     ensures { OnOk result
         (into.new ≡ into.old ++ postings_of (C.context context.now) (located one.now)) }
 {
-    extent_rules::post(alloc, context, one.tree, &one.part, into)
+    extent_rules::post(alloc, context, one.tree, &one.part, into)?;
+    inode_rules::post(alloc, context, one.tree, &one.part, into)?;
+    dir_rules::post(alloc, context, one.tree, &one.part, into)
 }
