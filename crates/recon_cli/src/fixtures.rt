@@ -164,6 +164,9 @@ pub enum Item {
     Zeros((u64, u8, u64), usize, usize, u8),
     /// An item with this key and these bytes.
     Bytes((u64, u8, u64), &'static [u8]),
+    /// An item with this key, of so many bytes, which are 0 but for these numbers: each begins at a byte, and has so
+    /// many.
+    Numbers((u64, u8, u64), usize, &'static [(usize, usize, u64)]),
 }
 
 /// A change of an image. The checksum of what is changed is right, and the second copy is changed as the
@@ -215,6 +218,19 @@ fn with_number(
     Ok(Bytes::from(block))
 }
 
+// So many bytes, which are 0 but for these numbers.
+fn bytes_with(
+    alloc: Global,
+    size: usize,
+    numbers: &[(usize, usize, u64)],
+) -> Result<Bytes, AllocError> {
+    let mut bytes = vec![in alloc; 0u8; size]?;
+    for (at, width, number) in numbers {
+        put(&mut bytes, *at, &number.to_le_bytes()[..(*width).min(8)]);
+    }
+    Ok(Bytes::from(bytes))
+}
+
 // The key and the bytes of an item.
 fn item_of(alloc: Global, item: Item) -> Result<LeafItem, Fail> {
     let (key, bytes) = match item {
@@ -225,6 +241,7 @@ fn item_of(alloc: Global, item: Item) -> Result<LeafItem, Fail> {
             (key, Bytes::from(bytes))
         }
         Item::Bytes(key, bytes) => (key, Bytes::of(alloc, bytes)?),
+        Item::Numbers(key, size, numbers) => (key, bytes_with(alloc, size, numbers)?),
     };
     Ok(LeafItem {
         key: key_of(key),
@@ -306,6 +323,43 @@ pub fn make_changes(alloc: Global, disk: &mut MemDisk, changes: &[Change]) -> Re
         write_copies(disk, place_of(*change), block.as_slice())?;
     }
     Ok(())
+}
+
+/// Appends to a trace the writes of all copies that changes of an image make, and that of its superblock, which is a
+/// commit; and makes the changes.
+pub fn put_commit(
+    alloc: Global,
+    disk: &mut MemDisk,
+    trace: &mut Vec<u8>,
+    changes: &[Change],
+) -> Result<(), Fail> {
+    make_changes(alloc, disk, changes)?;
+    for change in changes {
+        let at = place_of(*change);
+        if at != SUPER {
+            put_range(alloc, disk, trace, at, 16384)?;
+        }
+        if at >= ROOTS {
+            put_range(alloc, disk, trace, at.saturating_add(SECOND), 16384)?;
+        }
+    }
+    put_range(alloc, disk, trace, SUPER, 4096)
+}
+
+// Appends to a trace the write of a range of the disk's bytes.
+fn put_range(
+    alloc: Global,
+    disk: &MemDisk,
+    trace: &mut Vec<u8>,
+    at: u64,
+    len: usize,
+) -> Result<(), Fail> {
+    let event = Event::Write {
+        submitter: 0,
+        at,
+        bytes: Bytes::of(alloc, part(disk.bytes(), at, len))?,
+    };
+    Ok(put_write(trace, &event)?)
 }
 
 // Takes changes of an image back.

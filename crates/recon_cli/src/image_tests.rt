@@ -13,13 +13,13 @@ use std::test::Fail;
 const MOVED: u64 = 18_446_744_073_709_551_607;
 
 // The root items of the base image.
-const R2: Item = Root(2, 0, 5_259_264);
+const EXTENT_ROOT: Item = Root(2, 0, 5_259_264);
 
-const R4: Item = Root(4, 0, 5_275_648);
+const DEVICE_ROOT: Item = Root(4, 0, 5_275_648);
 
-const R5: Item = Root(5, 0, FILES);
+const FILES_ROOT: Item = Root(5, 0, FILES);
 
-const R7: Item = Root(7, 0, 5_308_416);
+const SUMS_ROOT: Item = Root(7, 0, 5_308_416);
 
 // An item of a kind that only a tree of files lists, and two of these: a file extent of type 1 that ends in its
 // first number, and an inode whose key has an offset.
@@ -84,11 +84,11 @@ const ROOT_TREE: [(&[Change], &str); 13] = [
         "I3 tree 1 block 5242880 key 5 132 0 detail 160",
     ),
     (
-        &[Leaf(ROOTS, 1, &[R2, Zeros((5, 24, 0), 1, 0, 0)])],
+        &[Leaf(ROOTS, 1, &[EXTENT_ROOT, Zeros((5, 24, 0), 1, 0, 0)])],
         "U9 tree 1 block 5242880 key 5 24 0 detail 24",
     ),
     (
-        &[Leaf(ROOTS, 1, &[R2, Root(3, 0, CHUNKS)])],
+        &[Leaf(ROOTS, 1, &[EXTENT_ROOT, Root(3, 0, CHUNKS)])],
         "U7 tree 1 block 5242880 key 3 132 0 detail 3",
     ),
     (
@@ -101,7 +101,11 @@ const ROOT_TREE: [(&[Change], &str); 13] = [
     ),
     // Two of one id come before a missing one, and of those the least.
     (
-        &[Leaf(ROOTS, 1, &[R2, R5, Root(5, 9, FILES), R7])],
+        &[Leaf(
+            ROOTS,
+            1,
+            &[EXTENT_ROOT, FILES_ROOT, Root(5, 9, FILES), SUMS_ROOT],
+        )],
         "X1 tree 1 block 0 key 5 132 9 detail 0",
     ),
     (
@@ -109,7 +113,7 @@ const ROOT_TREE: [(&[Change], &str); 13] = [
         "X2 tree 1 block 0 key 2 132 0 detail 0",
     ),
     (
-        &[Leaf(ROOTS, 1, &[R2, R4, R5])],
+        &[Leaf(ROOTS, 1, &[EXTENT_ROOT, DEVICE_ROOT, FILES_ROOT])],
         "X2 tree 1 block 0 key 7 132 0 detail 0",
     ),
     // Of two broken trees the one with the lower id as an unsigned number.
@@ -117,12 +121,29 @@ const ROOT_TREE: [(&[Change], &str); 13] = [
         &[Leaf(
             ROOTS,
             1,
-            &[R2, R4, R5, R7, Root(300, 0, 1), Root(MOVED, 0, 2)],
+            &[
+                EXTENT_ROOT,
+                DEVICE_ROOT,
+                FILES_ROOT,
+                SUMS_ROOT,
+                Root(300, 0, 1),
+                Root(MOVED, 0, 2),
+            ],
         )],
         "N1 tree 300 block 1 key 0 0 0 detail 0",
     ),
     (
-        &[Leaf(ROOTS, 1, &[R2, R4, R5, R7, Root(MOVED, 0, FILES)])],
+        &[Leaf(
+            ROOTS,
+            1,
+            &[
+                EXTENT_ROOT,
+                DEVICE_ROOT,
+                FILES_ROOT,
+                SUMS_ROOT,
+                Root(MOVED, 0, FILES),
+            ],
+        )],
         "N6 tree 18446744073709551607 block 5292032 key 0 0 0 detail 5",
     ),
 ];
@@ -136,10 +157,10 @@ const ITEMS: [(&[Change], &str); 10] = [
         &[Leaf(FILES, 5, &[Bytes((256, 84, 5), DEFAULT)])],
         "I4 tree 5 block 5292032 key 256 84 5 detail 2378154706",
     ),
-    // The right hash.
+    // The right hash, in a directory without an inode.
     (
         &[Leaf(FILES, 5, &[Bytes((256, 84, 2_378_154_706), DEFAULT)])],
-        "",
+        "A9 tree 5 block 0 key 256 1 0 detail 0",
     ),
     (
         &[Leaf(FILES, 5, &[SHORT])],
@@ -171,13 +192,23 @@ const ITEMS: [(&[Change], &str); 10] = [
         &[Leaf(5_308_416, 7, &[XATTR])],
         "U9 tree 7 block 5308416 key 1 24 0 detail 24",
     ),
-    // The items of the tree 9 stay unread.
+    // The items of the tree 9 stay unread. Its block has no extent.
     (
         &[
-            Leaf(ROOTS, 1, &[R2, R4, R5, R7, Root(9, 0, LEFT)]),
+            Leaf(
+                ROOTS,
+                1,
+                &[
+                    EXTENT_ROOT,
+                    DEVICE_ROOT,
+                    FILES_ROOT,
+                    SUMS_ROOT,
+                    Root(9, 0, LEFT),
+                ],
+            ),
             Leaf(LEFT, 9, &[XATTR]),
         ],
-        "",
+        "A1 tree 9 block 5324800 key 5324800 176 9 detail 0",
     ),
 ];
 
@@ -210,7 +241,8 @@ const TWO_LEAVES: [Change; 4] = [
 ];
 
 const WALKS: [(&[Change], &str); 11] = [
-    (&[], ""),
+    // The blocks are right, but have no extents.
+    (&[], "A1 tree 5 block 5324800 key 5324800 176 5 detail 0"),
     // The item of the left leaf comes before the header of the right one, and a header before its items.
     (
         &[Leaf(LEFT, 5, &[A, BAD]), Number(RIGHT, 0x50, 8, 2)],

@@ -15,6 +15,8 @@ mod words;
 pub use run::recon_run;
 
 #[cfg(test)]
+mod account_tests;
+#[cfg(test)]
 mod commit_tests;
 #[cfg(test)]
 mod fixtures;
