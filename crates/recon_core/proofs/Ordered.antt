@@ -223,6 +223,7 @@ committed_out (Some image) m begun first mid flushed placed last place read b e 
 -- where a call failed: at the runs, or behind them with these sent and the others left
 pub out_in_part : (bytes : Option (List ℕ)) (m : FinMap nat_cmp ℕ) (begun first last : Option (List Sent)) (b : Bool) → IsTrue b ↔ WaitsInPlace m
     → begun ≡ first → HasSentSomeRuns m begun last → HasSentPart m bytes first last
+unfolding HasSentPart
 out_in_part None m begun first last b says same runs = inr tt
 out_in_part (Some image) m begun first last b says same runs =
     let after : List Sent = closing_calls b (range 65536 4096 (overlaid m 0 image)) in
@@ -235,6 +236,7 @@ out_in_part (Some image) m begun first last b says same runs =
 closing_part : (bytes : Option (List ℕ)) (m : FinMap nat_cmp ℕ) (begun first mid last : Option (List Sent)) (b : Bool) → IsTrue b ↔ WaitsInPlace m
     → begun ≡ first → HasSentRuns m begun mid
     → IfSome bytes (λ image. HasSentFront (closing_calls b (range 65536 4096 (overlaid m 0 image))) mid last) → HasSentPart m bytes first last
+unfolding HasSentPart
 closing_part None m begun first mid last b says same runs h = inr tt
 closing_part (Some image) m begun first mid last b says same runs h =
     let after : List Sent = closing_calls b (range 65536 4096 (overlaid m 0 image)) in
@@ -265,6 +267,7 @@ pub last_flush_fails : (bytes : Option (List ℕ)) (m : FinMap nat_cmp ℕ) (beg
     → IfSome bytes (λ image. read ≡ range 65536 4096 image) → place ≡ overlaid m 65536 read
     → begun ≡ first → HasSentRuns m begun mid → flushed ≡ and_sent mid (Flushed ∷ []) → placed ≡ and_sent flushed (Wrote 65536 place ∷ []) → last ≡ placed
     → HasSentPart m bytes first last
+unfolding HasSentPart
 last_flush_fails None m begun first mid flushed placed last place read b e says r p same runs f w h = inr tt
 last_flush_fails (Some image) m begun first mid flushed placed last place read b e says r p same runs f w h =
     let q : place ≡ range 65536 4096 (overlaid m 0 image) = p ∙ ap (overlaid m 65536) r ∙ sym (range-overlaid_image m image 65536 4096) in

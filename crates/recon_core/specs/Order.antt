@@ -56,7 +56,7 @@ abbrev pub HasSentFront : List Sent → Option (List Sent) → Option (List Sent
 HasSentFront calls before now = (front : List Sent) × (rest : List Sent) × (calls ≡ front ++ rest) × (now ≡ and_sent before front)
 
 -- what was sent where a call failed: nothing, or a front of the calls that send out what waits
-abbrev pub HasSentPart : FinMap nat_cmp ℕ → Option (List ℕ) → Option (List Sent) → Option (List Sent) → Type 0
+unfoldable pub HasSentPart : FinMap nat_cmp ℕ → Option (List ℕ) → Option (List Sent) → Option (List Sent) → Type 0
 HasSentPart waiting bytes before now =
     (now ≡ before)
     ⊎ IfSome bytes (λ image. (calls : List Sent) × AreCallsOf waiting (overlaid waiting 0 image) calls × HasSentFront calls before now)
@@ -68,7 +68,7 @@ judged_with waiting _ = waiting
 
 -- what an answer sent to a disk that held these bytes, where it tells them: with `Passed` what waits went out, and with
 -- any other answer nothing
-abbrev pub HasSentBy : Answer → FinMap nat_cmp ℕ → Option (List ℕ) → Option (List Sent) → Option (List Sent) → Type 0
+unfoldable pub HasSentBy : Answer → FinMap nat_cmp ℕ → Option (List ℕ) → Option (List Sent) → Option (List Sent) → Type 0
 HasSentBy (Passed generation blocks hot) waiting bytes before now =
     IfSome bytes (λ image. HasSentOut waiting (overlaid waiting 0 image) before now)
 HasSentBy _ waiting bytes before now = now ≡ before

@@ -87,6 +87,7 @@ impl Checker {
     /// waits outside the superblock place in rising order, each cut from its front into calls of 1,048,576
     /// bytes and a shorter last one; a flush; and on a commit the whole place in one call and a flush.
     /// Where a call fails, those before it were sent. Any other answer, and `NoMemory`, sends nothing.
+    #[tactic(auto, unfolding(crate::specs::Order::HasSentBy, crate::specs::Order::HasSentPart))]
     pub fn event<D: Disk, L>(
         &mut self,
         alloc: Global,
@@ -197,6 +198,7 @@ impl Checker {
     }
 
     // A write that meets the superblock place is judged with all that waits, its own bytes last.
+    #[tactic(auto, unfolding(crate::specs::Order::HasSentBy, crate::specs::Order::HasSentPart))]
     fn commit<D: Disk>(
         &mut self,
         alloc: Global,

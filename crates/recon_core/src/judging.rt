@@ -17,6 +17,7 @@ use write_cache::WriteCache;
 /// Judges the image that all that waits would make. Where the full check accepts, it goes out to the
 /// disk; then nothing waits any more. After a fault all waits as before. All memory is taken before the
 /// first write.
+#[tactic(auto, unfolding(crate::specs::Order::HasSentBy, crate::specs::Order::HasSentPart))]
 pub fn judge_waiting<D: Disk>(
     alloc: Global,
     disk: &mut D,

@@ -78,6 +78,7 @@ fn send_pieces<D: Disk>(disk: &mut D, cache: &WriteCache) -> Result<(), Failed>
 /// Sends out what waits: first all bytes outside the superblock place in rising order, which are then
 /// flushed, and where what waits meets the superblock place, then the whole place in one call, flushed too.
 /// It takes no memory. Where a call fails, what waits is on the disk whole, or in part outside the place.
+#[tactic(auto, unfolding(crate::specs::Order::HasSentPart))]
 pub fn let_through<D: Disk>(disk: &mut D, cache: &WriteCache) -> Result<(), Failed>
     requires place { 69632 ≤ D.len disk.old }
     requires small { D.len disk.old < 2 ^ 64 }
