@@ -18,14 +18,14 @@ use Rattle.std.specs.BTreeMap.{get}
 use Rattle.accounts.specs.Order.{account_cmp}
 use Rattle.accounts.specs.declared.tally.Tally.{Tally}
 use Rattle.accounts.specs.Tally.{Sums, no_sums, sums_in, with_postings}
-use Rattle.accounts.proofs.Kept.{with_more, with_none}
+use Rattle.accounts.proofs.Kept.{with_more}
 use Rattle.accounts.proofs.Entries.{none_kept}
 use Rattle.records.specs.Part.{Located}
 use Rattle.records.specs.Contents.{all_records, super_record}
 use Rattle.records.specs.Postings.{all_postings, postings_of}
 use Rattle.records.specs.Takes.{held_after}
-use Rattle.records.specs.Walk.{Records}
-use Rattle.plain_check.specs.Accounts.{accounts_in, accounts_of, with_record, with_records}
+use Rattle.records.specs.Walk.{Records, just, then_records}
+use Rattle.plain_check.specs.Accounts.{accounts_in, accounts_of, records_in, with_record, with_records}
 
 -- the sums after all records are taken
 all_summed : (context : Context) (sums : Sums) (ps : List Posting) (records : List Located)
@@ -37,20 +37,14 @@ all_summed context sums ps (one ∷ records) =
     ∙ ap (λ qs. (context, with_postings sums qs)) (append_assoc ps (postings_of context one) (all_postings context records))
 
 -- all records were taken, and this was found of their sums
-pub decided : (context : Context) (sup : Super) (chunks : List Chunk) (roots : List RootItem) (records : Records) (final : Context × Sums) (found : Option Finding)
-    → held_after with_record (context, with_postings no_sums (postings_of context (super_record sup))) records ≡ Ok final
+decided : (context : Context) (sup : Super) (chunks : List Chunk) (roots : List RootItem) (records : Records) (final : Context × Sums) (found : Option Finding)
+    → held_after with_record (context, with_postings no_sums []) (then_records (just (Ok (super_record sup))) records) ≡ Ok final
     → ((postings : List Posting) → final.1 ≡ with_postings no_sums postings → found ≡ option_map broken_finding (least_broken postings))
     → and_then {A = List Located} {B = Unit {0}} records (λ rs. accounts_of (with_records sup chunks roots rs)) ≡ finding_or found (tt {0})
 decided context sup chunks roots (Err finding) final found held is = absurd (cc held)
 decided context sup chunks roots (Ok rs) final found held is =
-    let whole : (context, with_postings no_sums (postings_of context (super_record sup) ++ all_postings context rs)) ≡ final = sym (all_summed context no_sums (postings_of context (super_record sup)) rs) ∙ cc held in
+    let whole : (context, with_postings no_sums (all_postings context (super_record sup ∷ rs))) ≡ final = sym (all_summed context no_sums [] (super_record sup ∷ rs)) ∙ cc held in
     ap (λ f. finding_or f (tt {0})) (sym (is (all_postings context (super_record sup ∷ rs)) (sym (ap (λ h. h.1) whole))))
-
--- a finding stopped the records
-pub stopped : {H B : Type 0} (with : H → Located → H) (held : H) (records : Records) (finding : Finding) (next : List Located → Result B Finding)
-    → held_after with held records ≡ Err finding → and_then records next ≡ Err finding
-stopped with held (Err other) finding next is = cc
-stopped with held (Ok rs) finding next is = absurd (cc is)
 
 -- a record's postings were put behind those that wait, and all were added
 pub taken : (tally after : Tally) (waiting left posted : List Posting) → sums_in after ≡ with_postings (sums_in tally) (waiting ++ posted) → left ≡ []
@@ -66,18 +60,15 @@ pub on_both : {T E A B C : Type 0} (r : Result T E) → OnOk r A → OnOk r B �
 on_both (Ok x) a b gives = gives a b
 on_both (Err e) a b gives = tt
 
--- the sums of the superblock's record alone
-pub first_sums : (context : Context) (start : Sums) (first : Located) (one : Located) → start ≡ no_sums → one ≡ first
-    → with_record (context, with_postings start []) one ≡ (context, with_postings no_sums (postings_of context first))
-first_sums context start first one none same =
-    ap (λ s. with_record (context, with_postings s []) one) none
-    ∙ ap (λ s. (context, with_postings s (postings_of context one))) with_none
-    ∙ ap (λ o. (context, with_postings no_sums (postings_of context o))) same
+-- the sums of no records
+pub first_sums : (context : Context) (start : Sums) (waiting : List Posting) → start ≡ no_sums → waiting ≡ []
+    → ◌≡◌ {A = Context × Sums} (context, with_postings start waiting) (context, with_postings no_sums [])
+first_sums context start waiting none nothing = ap (λ s. (context, with_postings s waiting)) none ∙ ap (λ w. (context, with_postings no_sums w)) nothing
 
 -- what was found of the sums of all records is what the accounts of the image give, where the disk tells its bytes
 pub told_decided : (told : Option (List ℕ)) (m : FinMap nat_cmp ℕ) (context : Context) (sup : Super) (array chunks : List Chunk) (roots : List RootItem) (start final : Context × Sums) (found other : Option Finding)
-    → start ≡ (context, with_postings no_sums (postings_of context (super_record sup)))
-    → IfSome told (λ image. held_after with_record start (all_records sup array chunks roots (overlaid m 0 image)) ≡ Ok final)
+    → start ≡ (context, with_postings no_sums [])
+    → IfSome told (λ image. held_after with_record start (records_in sup array chunks roots (overlaid m 0 image)) ≡ Ok final)
     → ((postings : List Posting) → final.1 ≡ with_postings no_sums postings → found ≡ option_map broken_finding (least_broken postings))
     → found ≡ other
     → IfSome told (λ image. accounts_in sup array chunks roots (overlaid m 0 image) ≡ finding_or other (tt {0}))
@@ -85,5 +76,5 @@ unfolding accounts_in
 told_decided None m context sup array chunks roots start final found other begins held is same = tt
 told_decided (Some image) m context sup array chunks roots start final found other begins held is same =
     decided context sup chunks roots (all_records sup array chunks roots (overlaid m 0 image)) final found
-      (ap (λ s. held_after with_record s (all_records sup array chunks roots (overlaid m 0 image))) (sym begins) ∙ held) is
+      (ap (λ s. held_after with_record s (records_in sup array chunks roots (overlaid m 0 image))) (sym begins) ∙ held) is
     ∙ ap (λ f. finding_or f (tt {0})) same

@@ -1,5 +1,5 @@
 -- The step of the accounts, and what is made of records by one that keeps their sums.
-use Rattle.std.specs.Prelude.{ℕ, List, ◌∷◌, Result}
+use Rattle.std.specs.Prelude.{ℕ, List, ◌∷◌, Result, Ok}
 use Rattle.verdict.specs.Rules.{and_then, finding_or}
 use Rattle.verdict.specs.declared.finding.Finding.{Finding}
 use Rattle.verdict.specs.declared.place.Chunk.{Chunk}
@@ -8,6 +8,7 @@ use Rattle.volume_items.specs.declared.root.RootItem.{RootItem}
 use Rattle.accounts.specs.Context.{Context}
 use Rattle.accounts.specs.Tally.{Sums, with_postings}
 use Rattle.records.specs.Part.{Located}
+use Rattle.records.specs.Walk.{Records, just, then_records}
 use Rattle.records.specs.Contents.{Contents, all_records, super_record}
 use Rattle.records.specs.Context.{context_of}
 use Rattle.records.specs.Postings.{account_fault, postings_of}
@@ -15,6 +16,10 @@ use Rattle.records.specs.Postings.{account_fault, postings_of}
 -- what an image holds whose trees have these records
 abbrev pub with_records : Super → List Chunk → List RootItem → List Located → Contents
 with_records sup chunks roots records = record { sup = sup; chunks = chunks; roots = roots; records = super_record sup ∷ records }
+
+-- the records of the superblock and of all trees
+abbrev pub records_in : Super → List Chunk → List Chunk → List RootItem → List ℕ → Records
+records_in sup array chunks roots image = then_records (just (Ok (super_record sup))) (all_records sup array chunks roots image)
 
 -- the finding of the accounts of an image, in its context
 abbrev pub accounts_of : Contents → Result (Unit {0}) Finding

@@ -6,9 +6,9 @@ ghost use Rattle.recon_disk.specs.Keeping.{Kept};
 ghost use Rattle.super_reader.specs.Superblock.{array_place};
 ghost use Rattle.volume_items.specs.SystemArray.{array_chunks};
 ghost use Rattle.records.specs.Part.{IsLawful, located, part_of};
-ghost use Rattle.records.specs.Contents.{all_records, chunk_map_in, root_items_in, super_record, tree_records};
+ghost use Rattle.records.specs.Contents.{chunk_map_in, root_items_in, super_record, tree_records};
 ghost use Rattle.records.specs.FullCheck.{checked};
-ghost use Rattle.plain_check.specs.Accounts.{accounts_in};
+ghost use Rattle.plain_check.specs.Accounts.{accounts_in, records_in};
 ghost use Rattle.plain_check.specs.Gives.{Gives, IsOutcome, is_disk_halt};
 ghost use Rattle.plain_check.specs.Takes.{ReadsInto, handing};
 
@@ -130,8 +130,7 @@ fn check_accounts<D: Disk>(
     ensures kept { Kept D.Disk disk.old disk.new (is_disk_halt result) }
 {
     let mut accounts = Accounts::new(alloc, &NoContext);
-    accounts.take(&record_of_superblock(volume.sup))?;
-    walk_all(alloc, disk, base, volume, roots, &mut accounts)?;
+    read_all(alloc, disk, base, volume, roots, &mut accounts)?;
     match accounts.finding()? {
         Some(found) => Err(Halt::Found(found)),
         None => Ok(()),
@@ -153,10 +152,11 @@ fn record_of_superblock(sup: &Super) -> RecAt<'static>
     }
 }
 
-// Walks the chunk tree through the chunks of the system array, then the root tree and all trees that root items name
-// through the whole chunk map, and gives their records to a taker.
+// Gives all records of the image to a taker: that of the superblock, then those of the chunk tree, which is walked
+// through the chunks of the system array, of the root tree, and of all trees that root items name, which are walked
+// through the whole chunk map. The pairs of the system array are no records.
 #[tactic(auto, unfolding(records::specs::Contents::all_records), using(crate::proofs::Walking::steps))]
-fn walk_all<D: Disk, T: Taker>(
+fn read_all<D: Disk, T: Taker>(
     alloc: Global,
     disk: &mut D,
     base: &Volume<'_>,
@@ -170,9 +170,10 @@ fn walk_all<D: Disk, T: Taker>(
         × (base.now.end ≡ volume.now.end) × (base.now.cache.now ≡ volume.now.cache.now) }
     ensures taken { let sup = volume.now.sup.now in
         ReadsInto D.Disk T.Taker disk.old volume.now.cache.now into.old into.new result
-        (λ image. all_records sup base.now.map.now volume.now.map.now roots.now image) }
+        (λ image. records_in sup base.now.map.now volume.now.map.now roots.now image) }
     ensures kept { Kept D.Disk disk.old disk.new (is_disk_halt result) }
 {
+    into.take(&record_of_superblock(volume.sup))?;
     walk_into(alloc, disk, base, &chunk_root(volume.sup), into)?;
     walk_into(alloc, disk, volume, &top_root(volume.sup), into)?;
     walk_trees(alloc, disk, volume, roots, into)
