@@ -6,3 +6,12 @@ use Rattle.accounts.specs.declared.postings.Posting.{Posting}
 pub record Posts {T E : Type 0} (old new : List Posting) (result : Result T E) (postings : List Posting) : Type 0 where
   pub all : OnOk result (new ≡ old ++ postings)
   pub some : OnErr result ((n : ℕ) × (new ≡ old ++ take n postings))
+
+-- The old list stands in front of the new one.
+abbrev pub StandsInFront : List Posting → List Posting → Type 0
+StandsInFront old new = (rest : List Posting) × (new ≡ old ++ rest)
+
+-- Where something holds, these postings stand behind the old list as above; the old list stands in front also where it does not hold.
+pub record PostsWhere {T E : Type 0} (holds : Type 0) (old new : List Posting) (result : Result T E) (postings : List Posting) : Type 0 where
+  pub posts : holds → Posts old new result postings
+  pub front : StandsInFront old new

@@ -1,0 +1,10 @@
+//! What a record says of the space of the volume and of the device, as postings to accounts.
+#![tactic(auto)]
+
+mod place;
+mod rows;
+mod sectors;
+#[cfg(test)]
+mod tests;
+
+pub use rows::post;
