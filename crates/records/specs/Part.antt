@@ -1,5 +1,5 @@
 -- What a record says, as a plain value, and where it stands.
-use Rattle.std.specs.Prelude.{ℕ, ◌+◌, ◌^◌, ◌<◌, List}
+use Rattle.std.specs.Prelude.{◌≡◌, ℕ, ◌+◌, ◌*◌, ◌/◌, ◌^◌, ◌<◌, List, length}
 use Rattle.verdict.specs.declared.key.Key.{Key}
 use Rattle.volume_items.specs.declared.root.RootItem.{RootItem}
 use Rattle.volume_items.specs.RootLinkRow.{RootLinkFields}
@@ -78,7 +78,22 @@ part_of (Block address level) = BlockPart address level
 abbrev pub located : RecAt → Located
 located one = record { tree = one.tree; block = one.block; key = one.key; part = part_of one.part }
 
--- what the readers see to of a record by itself: a chunk ends at an address of 64 bits
+-- an extent with file data ends at an address of 64 bits
+abbrev pub DataFits : ExtentFields → Type 0
+DataFits item = item.key.kind ≡ 168 → item.key.objectid + item.key.offset < 2 ^ 64
+
+-- the part of an extent that a range of a file shows does, where it has one
+abbrev pub RangeFits : FileExtent → Type 0
+RangeFits range = 0 < range.extent → range.extent + range.offset + range.length < 2 ^ 64
+
+-- the sectors of checksums, four bytes a sector, do
+abbrev pub SumsFit : SumFields → Type 0
+SumsFit item = item.key.offset + 4096 * (length item.sums / 4) < 2 ^ 64
+
+-- what the readers see to of a record by itself: its range ends at an address of 64 bits, that of a chunk too
 abbrev pub IsLawful : Part → Type 0
 IsLawful (ChunkPart fields) = fields.key.offset + fields.length < 2 ^ 64
+IsLawful (ExtentPart item) = DataFits item
+IsLawful (FileExtentPart range) = RangeFits range
+IsLawful (SumsPart item) = SumsFit item
 IsLawful other = Unit {0}

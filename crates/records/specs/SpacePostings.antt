@@ -1,5 +1,5 @@
 -- What a record says of the space of the volume and of the device: the accounts A5 to A8, A15, A16 and A18.
-use Rattle.std.specs.Prelude.{◌≡◌, ℕ, zero, suc, ◌+◌, ◌*◌, ◌/◌, ◌^◌, ◌<◌, Bool, true, not, ◌&&◌, ◌==◌, bit_and, List, [], ◌∷◌, ◌++◌, length, map, flat_map, Option, Some, None, IfSome, if◌then◌else◌}
+use Rattle.std.specs.Prelude.{ℕ, zero, suc, ◌+◌, ◌/◌, ◌^◌, ◌<◌, Bool, not, ◌&&◌, ◌==◌, bit_and, List, [], ◌∷◌, ◌++◌, length, map, flat_map, Option, Some, None, IfSome, if◌then◌else◌}
 use Rattle.verdict.specs.declared.key.Key.{Key}
 use Rattle.volume_items.specs.declared.chunk.Stripe.{Stripe}
 use Rattle.volume_items.specs.ChunkRow.{ChunkFields}
@@ -14,8 +14,7 @@ use Rattle.accounts.specs.declared.context.Home.{Home}
 use Rattle.accounts.specs.Context.{Context, home_of, is_sum_free}
 use Rattle.accounts.specs.Kinds.{sector, group, group_of, group_class, outside, stripe, bytes_used, device}
 use Rattle.records.specs.Post.{to}
-use Rattle.records.specs.Part.{Part}
-use Rattle.records.specs.ExtentPostings.{has_extent}
+use Rattle.records.specs.Part.{Part, RangeFits, SumsFit}
 use Rattle.records.specs.Part.Part.{SuperPart, ChunkPart, DevicePart, DevExtentPart, GroupPart, ExtentPart, FileExtentPart, SumsPart}
 
 -- the size of a sector in bytes
@@ -114,15 +113,7 @@ space_postings context tree (FileExtentPart range) = range_sector_postings conte
 space_postings context tree (SumsPart item) = sum_postings item
 space_postings context tree other = []
 
--- the sectors of checksums end at addresses of 64 bits
-abbrev pub SumsFit : SumFields → Type 0
-SumsFit item = item.key.offset + sector_size * (length item.sums / 4) < 2 ^ 64
-
--- the sectors that a file shows of an extent do
-abbrev pub RangeFits : FileExtent → Type 0
-RangeFits range = has_extent range ≡ true → range.extent + range.offset + range.length < 2 ^ 64
-
--- the sectors of an extent that a chunk holds do
+-- the sectors of an extent that a chunk holds end at addresses of 64 bits
 abbrev pub PlaceFits : Context → ExtentFields → Type 0
 PlaceFits context item =
     IfSome (home_of context item.key.objectid (extent_length context item)) (λ _. item.key.objectid + extent_length context item < 2 ^ 64)

@@ -4,11 +4,9 @@ ghost use Rattle.std.specs.Prelude.{◌≡◌};
 ghost use Rattle.accounts.specs.Posts.{Posts, PostsWhere};
 ghost use Rattle.fs_items.specs.Lent.{sums_in};
 ghost use Rattle.volume_items.specs.ChunkItems.{fields_in};
-ghost use Rattle.records.specs.Part.{part_of};
+ghost use Rattle.records.specs.Part.{RangeFits, SumsFit, part_of};
 ghost use Rattle.records.specs.SpacePostings.{
-  RangeFits,
   SectorsFit,
-  SumsFit,
   chunk_postings,
   dev_extent_postings,
   group_postings,
