@@ -1,9 +1,6 @@
 -- What a record says of the space of the volume and of the device: the accounts A5 to A8, A15, A16 and A18.
 use Rattle.std.specs.Prelude.{ℕ, zero, suc, ◌+◌, ◌/◌, ◌^◌, ◌<◌, Bool, not, ◌&&◌, ◌==◌, bit_and, List, [], ◌∷◌, ◌++◌, length, map, flat_map, Option, Some, None, IfSome, if◌then◌else◌}
-use Rattle.verdict.specs.declared.key.Key.{Key}
-use Rattle.volume_items.specs.declared.chunk.Stripe.{Stripe}
 use Rattle.volume_items.specs.ChunkRow.{ChunkFields}
-use Rattle.volume_items.specs.declared.device.DeviceItem.{DeviceItem}
 use Rattle.volume_items.specs.declared.dev_extent.DevExtent.{DevExtent}
 use Rattle.extent_items.specs.ExtentRow.{ExtentFields}
 use Rattle.extent_items.specs.declared.group.GroupItem.{GroupItem}
