@@ -181,7 +181,8 @@ pub enum Change {
     Node(u64, u64, &'static [((u64, u8, u64), u64)]),
 }
 
-fn key_of(numbers: (u64, u8, u64)) -> Key {
+/// The key of these numbers.
+pub fn key_of(numbers: (u64, u8, u64)) -> Key {
     Key {
         objectid: numbers.0,
         kind: numbers.1,
@@ -202,8 +203,8 @@ pub fn part(bytes: &[u8], at: u64, len: usize) -> &[u8] {
     &bytes[at..at + len.min(bytes.len() - at)]
 }
 
-// The block with another number at a place, and its checksum.
-fn with_number(
+/// The block with another number of so many bytes at a place, and its checksum.
+pub fn with_number(
     alloc: Global,
     block: &[u8],
     at: usize,

@@ -25,4 +25,6 @@ mod image_tests;
 #[cfg(test)]
 mod machine_tests;
 #[cfg(test)]
+mod name_tests;
+#[cfg(test)]
 mod tests;
