@@ -1,8 +1,8 @@
 -- A call that took the header, where there was one, and then failed in a record.
-use Rattle.std.proofs.Common.{◌≡◌, ℕ, ◌+◌, inr, List, ◌++◌, Option, Some, None, Err, IfSome, refl, sym, ap, ◌∙◌, subst, append_assoc, arith}
+use Rattle.std.proofs.Common.{◌≡◌, ℕ, ◌+◌, inl, inr, List, ◌++◌, Option, Some, None, Err, IfSome, refl, sym, ap, ◌∙◌, subst, append_assoc, arith}
 use Rattle.trace_reader.specs.declared.fault.TraceFault.{TraceFault}
 use Rattle.trace_reader.specs.declared.fault.TraceFault.TheVariants.{BadHeader, BadTag, BadLength, Truncated, ReadFault, NoMemory, TooMany}
-use Rattle.trace_reader.specs.Trace.{Fault, EndsAs, IsCutWrite}
+use Rattle.trace_reader.specs.Trace.{Fault, EndsAs, IsCut}
 use Rattle.trace_reader.specs.Reader.{ReaderState}
 use Rattle.trace_reader.specs.Reading.{front_of, Tells, MeetsEnding, TakesLess}
 use Rattle.trace_reader.specs.Pieces.{Takes, TakesAllBut, ReadsRecord}
@@ -24,11 +24,11 @@ took_less s bytes rest taken k after parts e t cut = record {
   cut = behind_front s (front_of s ++ taken) taken Truncated k refl e cut;
 }
 
-cut_before : (rest : List ℕ) (after : Option (List ℕ)) (t : TakesAllBut rest after) → IsCutWrite t.taken
+cut_before : (rest : List ℕ) (after : Option (List ℕ)) (t : TakesAllBut rest after) → IsCut t.taken
 cut_before rest after t =
     let size = t.size in
     let some = t.good.0 in
-    (t.tag, inr (t.good, omega arith))
+    inl (t.tag, inr (t.good, omega arith))
 
 fails : (s new : ReaderState) (bytes rest : List ℕ) (after : Option (List ℕ)) (f : TraceFault) → new.number ≡ s.whole + 1
     → bytes ≡ front_of s ++ rest → ReadsRecord s.limit s.whole rest (Err f) after → Tells s bytes (Err f) new after
@@ -45,6 +45,7 @@ fails s new bytes rest after NoMemory e parts told =
         rest = t.takes.rest;
         taken = parts ∙ ap (λ (r : List ℕ). front_of s ++ r) t.takes.parts;
         size = t.size;
+        tag = t.tag;
         good = t.good;
       },
     )

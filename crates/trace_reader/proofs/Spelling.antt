@@ -9,8 +9,8 @@ use Rattle.std.specs.Int.{byte_at, bytes_low_first}
 use Rattle.byteorder.specs.Endian.{little_from, little_number, little_bytes}
 use Rattle.byteorder.specs.Numbers.{little_from-cons, little_from-append, little_from-lt, little_number-reads_back}
 use Rattle.recon_bytes.specs.Field.{field}
-use Rattle.verdict.specs.declared.machine.Event.TheVariants.{Write}
-use Rattle.trace_reader.specs.Trace.{IsBytes, BeginsWith, IsSpelled, IsWriteLength, spelling_of}
+use Rattle.verdict.specs.declared.machine.Event.TheVariants.{Write, Settle, Fetch}
+use Rattle.trace_reader.specs.Trace.{IsBytes, HasTag, IsSpelled, IsWriteLength, IsFetchLength, spelling_of}
 
 byte_at-pow : (k x : ℕ) → byte_at k x ≡ x / 256 ^ k % 256
 byte_at-pow zero x = ap (λ (y : ℕ). y % 256) (sym (div-one x))
@@ -95,27 +95,27 @@ front_parts front e =
     ∙ ap (λ (r : List ℕ). take 1 front ++ r) b
     ∙ grouped (take 1 front) (take 2 (drop 1 front)) (take 8 (drop 3 front)) (take 4 (drop 11 front))
 
-first_one : (front : List ℕ) → BeginsWith (λ tag. tag ≡ 1) front → 1 ∷ [] ≡ take 1 front
-first_one [] h = absurd h
-first_one (x ∷ xs) h = ap (λ (b : ℕ). b ∷ []) (sym h)
+first_tag : (tag : ℕ) (front : List ℕ) → HasTag tag front → tag ∷ [] ≡ take 1 front
+first_tag tag [] h = absurd h
+first_tag tag (x ∷ xs) h = ap (λ (b : ℕ). b ∷ []) (sym h)
 
 joined : (a b c d x y z w : List ℕ) → a ≡ x → b ≡ y → c ≡ z → d ≡ w → a ++ b ++ c ++ d ≡ x ++ y ++ z ++ w
 joined a b c d x y z w p q r s = cc
 
 -- the 15 bytes in front of a write's own are spelled by its numbers
-pub write_front : (front : List ℕ) → length front ≡ 15 → IsBytes front → BeginsWith (λ tag. tag ≡ 1) front
+pub write_front : (front : List ℕ) → length front ≡ 15 → IsBytes front → HasTag 1 front
     → 1 ∷ little_bytes 2 (field 2 front 1) ++ little_bytes 8 (field 8 front 3) ++ little_bytes 4 (field 4 front 11) ≡ front
 write_front front e h tag =
     joined (1 ∷ []) (little_bytes 2 (field 2 front 1)) (little_bytes 8 (field 8 front 3)) (little_bytes 4 (field 4 front 11))
     (take 1 front) (take 2 (drop 1 front)) (take 8 (drop 3 front)) (take 4 (drop 11 front))
-    (first_one front tag)
+    (first_tag 1 front tag)
     (bytes_of_field 2 front 1 h (omega arith))
     (bytes_of_field 8 front 3 h (omega arith))
     (bytes_of_field 4 front 11 h (omega arith))
     ∙ sym (front_parts front e)
 
 -- a write's record is these 15 bytes and its own
-pub write_spelled : (front bytes : List ℕ) → length front ≡ 15 → IsBytes front → BeginsWith (λ tag. tag ≡ 1) front
+pub write_spelled : (front bytes : List ℕ) → length front ≡ 15 → IsBytes front → HasTag 1 front
     → length bytes ≡ field 4 front 11
     → spelling_of (Write (field 2 front 1) (field 8 front 3) bytes) ≡ front ++ bytes
 unfolding spelling_of
@@ -136,7 +136,7 @@ pub record Fields (submitter at : ℕ) (bytes left : List ℕ) (rest : List ℕ)
   pub front : List ℕ
   pub size : length front ≡ 15
   pub parts : left ≡ front ++ (bytes ++ rest)
-  pub tag : BeginsWith (λ tag. tag ≡ 1) left
+  pub tag : HasTag 1 left
   pub submitter_is : field 2 left 1 ≡ submitter
   pub at_is : field 8 left 3 ≡ at
   pub len_is : field 4 left 11 ≡ length bytes
@@ -154,4 +154,58 @@ spelled_fields submitter at bytes rest h =
       submitter_is = field-written 2 submitter (1 ∷ []) (little_bytes 8 at ++ (little_bytes 4 (length bytes) ++ (bytes ++ rest))) 1 refl (let s = h.0 in omega arith);
       at_is = field-written 8 at (1 ∷ little_bytes 2 submitter) (little_bytes 4 (length bytes) ++ (bytes ++ rest)) 3 refl (let s = h.1 in omega arith);
       len_is = field-written 4 (length bytes) (1 ∷ little_bytes 2 submitter ++ little_bytes 8 at) (bytes ++ rest) 11 refl (omega arith);
+    }
+
+-- a settle's record is its tag
+pub settle_spelled : spelling_of Settle ≡ 2 ∷ []
+unfolding spelling_of
+settle_spelled = refl
+
+fetch_parts : (front : List ℕ) → length front ≡ 13 → front ≡ take 1 front ++ take 8 (drop 1 front) ++ take 4 (drop 9 front)
+fetch_parts front e =
+    let none : drop 13 front ≡ [] = grind (arith, common_steps) in
+    let c : drop 9 front ≡ take 4 (drop 9 front) = cut 9 4 13 front (omega arith) ∙ ap (λ (r : List ℕ). take 4 (drop 9 front) ++ r) none ∙ append-nil (take 4 (drop 9 front)) in
+    let b : drop 1 front ≡ take 8 (drop 1 front) ++ take 4 (drop 9 front) =
+    cut 1 8 9 front (omega arith) ∙ ap (λ (r : List ℕ). take 8 (drop 1 front) ++ r) c in
+    sym (take-append-drop 1 front)
+    ∙ ap (λ (r : List ℕ). take 1 front ++ r) b
+    ∙ sym (append_assoc (take 1 front) (take 8 (drop 1 front)) (take 4 (drop 9 front)))
+
+joined_three : (a b c x y z : List ℕ) → a ≡ x → b ≡ y → c ≡ z → a ++ b ++ c ≡ x ++ y ++ z
+joined_three a b c x y z p q r = cc
+
+-- a fetch's record is these 13 bytes
+pub fetch_spelled : (front : List ℕ) → length front ≡ 13 → IsBytes front → HasTag 3 front
+    → spelling_of (Fetch (field 8 front 1) (field 4 front 9)) ≡ front
+unfolding spelling_of
+fetch_spelled front e h tag =
+    joined_three (3 ∷ []) (little_bytes 8 (field 8 front 1)) (little_bytes 4 (field 4 front 9))
+    (take 1 front) (take 8 (drop 1 front)) (take 4 (drop 9 front))
+    (first_tag 3 front tag)
+    (bytes_of_field 8 front 1 h (omega arith))
+    (bytes_of_field 4 front 9 h (omega arith))
+    ∙ sym (fetch_parts front e)
+
+-- and it is one that a trace may hold
+pub fetch_lawful : (front : List ℕ) → IsBytes front → IsFetchLength (field 4 front 9) → IsSpelled (Fetch (field 8 front 1) (field 4 front 9))
+fetch_lawful front h len = let at = field-lt 8 front 1 h in (omega arith, len)
+
+-- what the fields of a spelled fetch read
+pub record FetchFields (at len : ℕ) (left rest : List ℕ) : Type 0 where
+  pub tag : HasTag 3 left
+  pub at_is : field 8 left 1 ≡ at
+  pub len_is : field 4 left 9 ≡ len
+  pub behind : drop 13 left ≡ rest
+  pub long : 13 ≤ length left
+
+pub spelled_fetch : (at len : ℕ) (rest : List ℕ) → IsSpelled (Fetch at len) → FetchFields at len (spelling_of (Fetch at len) ++ rest) rest
+unfolding spelling_of
+spelled_fetch at len rest h =
+    let most = h.1.1 in
+    record {
+      tag = refl;
+      at_is = field-written 8 at (3 ∷ []) (little_bytes 4 len ++ rest) 1 refl (let s = h.0 in omega arith);
+      len_is = field-written 4 len (3 ∷ little_bytes 8 at) rest 9 refl (omega arith);
+      behind = refl;
+      long = omega arith;
     }

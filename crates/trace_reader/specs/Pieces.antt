@@ -5,7 +5,7 @@ use Rattle.trace_reader.specs.declared.reader.Item.{Item}
 use Rattle.trace_reader.specs.declared.reader.Item.TheVariants.{Event as an_event, End as the_end}
 use Rattle.trace_reader.specs.declared.fault.TraceFault.{TraceFault}
 use Rattle.trace_reader.specs.declared.fault.TraceFault.TheVariants.{BadLength, Truncated, ReadFault, NoMemory}
-use Rattle.trace_reader.specs.Trace.{header_bytes, spelling_of, IsSpelled, IsBytes, IsWriteLength, write_length, BeginsWith, IsCutWrite, HasBadLength, Fault, HeaderEnds, EndsAs}
+use Rattle.trace_reader.specs.Trace.{header_bytes, spelling_of, IsSpelled, IsBytes, IsWriteLength, write_length, HasTag, IsCut, HasBadLength, Fault, HeaderEnds, EndsAs}
 
 -- fewer than n of the bytes were taken
 pub record TakesFewer (n : ℕ) (bytes : List ℕ) (after : Option (List ℕ)) : Type 0 where
@@ -47,33 +47,33 @@ ReadsFront at_header bytes (Ok _) after = Takes (if at_header then header_bytes 
 ReadsFront at_header bytes (Err ReadFault) after = TakesFewer 16 bytes after
 ReadsFront at_header bytes (Err f) after = HeaderEnds bytes (Fault f 0)
 
--- a write's record was taken, of which the tag is the first byte
-pub record TakesWrite (e : Event) (bytes : List ℕ) (after : Option (List ℕ)) : Type 0 where
+-- an event's record was taken, of which the tag is the first byte
+pub record TakesRecord (e : Event) (bytes : List ℕ) (after : Option (List ℕ)) : Type 0 where
   pub lawful : IsSpelled e
   pub takes : Takes (spelling_of e) bytes after
 
--- of a write's record only a part was taken
+-- of a record only a part was taken
 pub record TakesPart (bytes : List ℕ) (after : Option (List ℕ)) : Type 0 where
   pub taken : List ℕ
   pub takes : Takes taken bytes after
-  pub cut : IsCutWrite taken
+  pub cut : IsCut taken
 
 -- of a write's record all was taken but the bytes to be written
 pub record TakesAllBut (bytes : List ℕ) (after : Option (List ℕ)) : Type 0 where
   pub taken : List ℕ
   pub takes : Takes taken bytes after
   pub size : length taken ≡ 15
-  pub tag : BeginsWith (λ tag. tag ≡ 1) taken
+  pub tag : HasTag 1 taken
   pub good : IsWriteLength (write_length taken)
 
--- a write was read, of which the tag is the first byte
-abbrev pub ReadsWrite : List ℕ → Result Event TraceFault → Option (List ℕ) → Type 0
-ReadsWrite bytes (Ok e) after = TakesWrite e bytes after
-ReadsWrite bytes (Err ReadFault) after = TakesPart bytes after
-ReadsWrite bytes (Err NoMemory) after = TakesAllBut bytes after
-ReadsWrite bytes (Err BadLength) after = HasBadLength bytes
-ReadsWrite bytes (Err Truncated) after = IsCutWrite bytes
-ReadsWrite bytes (Err _) after = ⊥
+-- a write or a fetch was read, of which the tag is the first byte
+abbrev pub ReadsEvent : List ℕ → Result Event TraceFault → Option (List ℕ) → Type 0
+ReadsEvent bytes (Ok e) after = TakesRecord e bytes after
+ReadsEvent bytes (Err ReadFault) after = TakesPart bytes after
+ReadsEvent bytes (Err NoMemory) after = TakesAllBut bytes after
+ReadsEvent bytes (Err BadLength) after = HasBadLength bytes
+ReadsEvent bytes (Err Truncated) after = IsCut bytes
+ReadsEvent bytes (Err _) after = ⊥
 
 -- a front was taken that is no whole record
 pub record TakesCut (limit n : ℕ) (bytes : List ℕ) (after : Option (List ℕ)) : Type 0 where
@@ -89,7 +89,7 @@ HasRoom limit n (Err f) = Unit {0}
 
 -- one record was read, or the end tag
 abbrev pub ReadsRecord : ℕ → ℕ → List ℕ → Result Item TraceFault → Option (List ℕ) → Type 0
-ReadsRecord limit n bytes (Ok (an_event e)) after = (n < limit) × TakesWrite e bytes after
+ReadsRecord limit n bytes (Ok (an_event e)) after = (n < limit) × TakesRecord e bytes after
 ReadsRecord limit n bytes (Ok the_end) after = Takes (255 ∷ []) bytes after
 ReadsRecord limit n bytes (Err ReadFault) after = TakesCut limit n bytes after
 ReadsRecord limit n bytes (Err NoMemory) after = (n < limit) × TakesAllBut bytes after

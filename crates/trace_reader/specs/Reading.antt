@@ -2,11 +2,12 @@
 use Rattle.std.specs.Prelude.{ℕ, ◌≡◌, ◌+◌, ◌≤◌, ◌<◌, ◌⊎◌, true, false, List, [], ◌∷◌, ◌++◌, length, Option, Some, Result, Ok, Err, if◌then◌else◌}
 use Rattle.recon_disk.specs.Outside.{counted}
 use Rattle.verdict.specs.declared.machine.Event.{Event}
+use Rattle.verdict.specs.Events.{IsSized}
 use Rattle.trace_reader.specs.declared.reader.Item.{Item}
 use Rattle.trace_reader.specs.declared.reader.Item.TheVariants.{Event as an_event, End as the_end}
 use Rattle.trace_reader.specs.declared.fault.TraceFault.{TraceFault}
 use Rattle.trace_reader.specs.declared.fault.TraceFault.TheVariants.{Truncated, ReadFault, NoMemory}
-use Rattle.trace_reader.specs.Trace.{header_bytes, spelling_of, HasLength, IsSpelled, IsWriteLength, write_length, Ending, Fault, HeaderEnds, EndsAs}
+use Rattle.trace_reader.specs.Trace.{header_bytes, spelling_of, HasTag, IsSpelled, IsWriteLength, write_length, Ending, Fault, HeaderEnds, EndsAs}
 use Rattle.trace_reader.specs.Reader.{ReaderState}
 
 -- what stands in front of the next record: the header, where it is still to be read
@@ -77,6 +78,7 @@ pub record TakesLength (s : ReaderState) (bytes : List ℕ) : Type 0 where
   pub rest : List ℕ
   pub taken : bytes ≡ front_of s ++ (record_front ++ rest)
   pub size : length record_front ≡ 15
+  pub tag : HasTag 1 record_front
   pub good : IsWriteLength (write_length record_front)
 
 -- What a call answers at a source that has these bytes left, and how many it leaves. A fault of the
@@ -96,5 +98,5 @@ HasReadCause before now _ = now ≡ before
 
 -- an event that was read has such a size, whether or not the source tells its bytes
 abbrev pub IsSizedItem : Item → Type 0
-IsSizedItem (an_event e) = HasLength e
+IsSizedItem (an_event e) = IsSized e
 IsSizedItem the_end = Unit {0}

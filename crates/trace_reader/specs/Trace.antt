@@ -17,7 +17,8 @@ IsBytes = All (λ b. b < 256)
 abbrev pub header_bytes : List ℕ
 header_bytes = codes "RECONTRC" ++ 1 ∷ 0 ∷ 0 ∷ 0 ∷ 0 ∷ 0 ∷ 0 ∷ 0 ∷ []
 
--- the record of an event. A write: its tag, the submitter, where it begins, its length, its bytes.
+-- The record of an event. A write: the tag 1, the submitter, where it begins, its length, its bytes.
+-- A settle: the tag 2. A fetch: the tag 3, where its range begins, the length of the range.
 unfoldable pub spelling_of : Event → List ℕ
 spelling_of (Write submitter at bytes) =
     1 ∷ little_bytes 2 submitter ++ little_bytes 8 at ++ little_bytes 4 (length bytes) ++ bytes
@@ -33,18 +34,16 @@ spelling_of_all (e ∷ es) = spelling_of e ++ spelling_of_all es
 abbrev pub IsWriteLength : ℕ → Type 0
 IsWriteLength len = (1 ≤ len) × (len ≤ 1048576)
 
--- the events that a trace may hold: for now writes alone, each number within its field
+-- a length that a fetch may ask for, in bytes
+abbrev pub IsFetchLength : ℕ → Type 0
+IsFetchLength len = (1 ≤ len) × (len ≤ 65536)
+
+-- the events that a trace may hold: each number within its field, and each length in its range
 abbrev pub IsSpelled : Event → Type 0
 IsSpelled (Write submitter at bytes) =
     (submitter < 2 ^ 16) × (at < 2 ^ 64) × IsWriteLength (length bytes) × IsBytes bytes
-IsSpelled Settle = ⊥
-IsSpelled (Fetch at len) = ⊥
-
--- the sizes of the events that a trace may hold
-abbrev pub HasLength : Event → Type 0
-HasLength (Write submitter at bytes) = IsWriteLength (length bytes)
-HasLength Settle = ⊥
-HasLength (Fetch at len) = ⊥
+IsSpelled Settle = Unit {0}
+IsSpelled (Fetch at len) = (at < 2 ^ 64) × IsFetchLength len
 
 -- how a trace ends: with its end tag, or with a fault at a record, the header being record 0
 pub data Ending : Type 0 where
@@ -61,25 +60,47 @@ BeginsWith is_such (tag ∷ rest) = is_such tag
 abbrev pub write_length : List ℕ → ℕ
 write_length left = field 4 left 11
 
+-- The length field of a fetch's record: four bytes at byte 9, behind the tag and the place. They are
+-- whole where the record has its 13 bytes.
+abbrev pub fetch_length : List ℕ → ℕ
+fetch_length left = field 4 left 9
+
+-- a record with this tag stands here
+abbrev pub HasTag : ℕ → List ℕ → Type 0
+HasTag expected = BeginsWith (λ tag. tag ≡ expected)
+
 -- a write's record of which bytes are wanting: of the 15 in front, or of those to be written
 abbrev pub IsCutWrite : List ℕ → Type 0
 IsCutWrite left =
-    BeginsWith (λ tag. tag ≡ 1) left
+    HasTag 1 left
     × ((length left < 15) ⊎ (IsWriteLength (write_length left) × (length left < 15 + write_length left)))
 
--- a write's record whose length no write may have
+-- a fetch's record of which bytes are wanting
+abbrev pub IsCutFetch : List ℕ → Type 0
+IsCutFetch left = HasTag 3 left × (length left < 13)
+
+-- a record of which bytes are wanting behind its tag
+abbrev pub IsCut : List ℕ → Type 0
+IsCut left = IsCutWrite left ⊎ IsCutFetch left
+
+-- a record whose length is out of its range: a write's, or a fetch's
 abbrev pub HasBadLength : List ℕ → Type 0
-HasBadLength left = BeginsWith (λ tag. tag ≡ 1) left × (15 ≤ length left) × (¬ IsWriteLength (write_length left))
+HasBadLength left =
+    (HasTag 1 left × (15 ≤ length left) × (¬ IsWriteLength (write_length left)))
+    ⊎ (HasTag 3 left × (13 ≤ length left) × (¬ IsFetchLength (fetch_length left)))
+
+-- a tag that no record has, and that is not the end tag
+abbrev pub IsOtherTag : ℕ → Type 0
+IsOtherTag tag = (¬ (tag ≡ 1)) × (¬ (tag ≡ 2)) × (¬ (tag ≡ 3)) × (¬ (tag ≡ 255))
 
 -- How a trace ends of which these bytes are left after n whole records, and which may have `limit`
 -- records. The record at fault is the next one.
 abbrev pub EndsAs : ℕ → ℕ → List ℕ → Ending → Type 0
-EndsAs limit n left End = BeginsWith (λ tag. tag ≡ 255) left
+EndsAs limit n left End = HasTag 255 left
 EndsAs limit n left (Fault TooMany k) = (k ≡ n + 1) × (n ≡ limit) × BeginsWith (λ tag. ¬ (tag ≡ 255)) left
-EndsAs limit n left (Fault BadTag k) =
-    (k ≡ n + 1) × (n < limit) × BeginsWith (λ tag. (¬ (tag ≡ 1)) × (¬ (tag ≡ 255))) left
+EndsAs limit n left (Fault BadTag k) = (k ≡ n + 1) × (n < limit) × BeginsWith IsOtherTag left
 EndsAs limit n left (Fault BadLength k) = (k ≡ n + 1) × (n < limit) × HasBadLength left
-EndsAs limit n left (Fault Truncated k) = (k ≡ n + 1) × ((left ≡ []) ⊎ ((n < limit) × IsCutWrite left))
+EndsAs limit n left (Fault Truncated k) = (k ≡ n + 1) × ((left ≡ []) ⊎ ((n < limit) × IsCut left))
 EndsAs limit n left (Fault BadHeader k) = ⊥
 EndsAs limit n left (Fault ReadFault k) = ⊥
 EndsAs limit n left (Fault NoMemory k) = ⊥

@@ -5,7 +5,7 @@ ghost use Rattle.trace_reader.specs.Reading.{first_state, IsAfter, IsSizedItem, 
 ghost use Rattle.trace_reader.specs.Pieces.{ReadsFront, ReadsRecord, HasRoom};
 
 use crate::TraceFault;
-use crate::pieces::{fill, read_write};
+use crate::pieces::{fill, read_fetch, read_write};
 use recon_disk::Source;
 use std::alloc::Global;
 use std::marker::Model;
@@ -24,6 +24,10 @@ pub enum Item {
 const HEADER: &[u8; 16] = b"RECONTRC\x01\0\0\0\0\0\0\0";
 /// The tag of a write.
 const WRITE_TAG: u8 = 1;
+/// The tag of a settle.
+const SETTLE_TAG: u8 = 2;
+/// The tag of a fetch.
+const FETCH_TAG: u8 = 3;
 /// The tag that ends a trace.
 const END_TAG: u8 = 255;
 
@@ -139,6 +143,7 @@ fn read_front<S: Source>(at_header: bool, source: &mut S) -> Result<(), TraceFau
 }
 
 // Takes one record or the end tag.
+#[tactic(auto, unfolding(crate::specs::Trace::spelling_of))]
 fn read_record<S: Source>(
     alloc: Global,
     whole: u64,
@@ -159,6 +164,8 @@ fn read_record<S: Source>(
         END_TAG => Ok(Item::End),
         _ if whole == limit => Err(TraceFault::TooMany),
         WRITE_TAG => Ok(Item::Event(read_write(alloc, source)?)),
+        SETTLE_TAG => Ok(Item::Event(Event::Settle)),
+        FETCH_TAG => Ok(Item::Event(read_fetch(source)?)),
         _ => Err(TraceFault::BadTag),
     }
 }
