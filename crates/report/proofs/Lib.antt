@@ -1,1 +1,3 @@
 mod Said
+pub mod Plain
+mod Objects

@@ -4,6 +4,7 @@ use Rattle.std.specs.Fmt.{decimal}
 use Rattle.hex.specs.Hex.{encode_lower}
 use Rattle.verdict.specs.Letter.{letter_of}
 use Rattle.verdict.specs.declared.finding.Finding.{Finding}
+use Rattle.verdict.specs.declared.finding.Rule.{Rule}
 use Rattle.report.specs.declared.line.Line.{Line}
 use Rattle.report.specs.declared.line.Line.TheVariants.{Image, Refused, Passed, Rejected, Fetched, End, BadTrace, Past}
 
@@ -26,10 +27,14 @@ fault_name number =
     else if number == 6 then codes "NoMemory"
     else codes "TooMany"
 
--- a finding: its rule as the family's letter and the number, then where it is
+-- a rule: the family's letter and the number
+abbrev pub rule_text : Rule → List ℕ
+rule_text rule = letter_of rule.family ∷ decimal rule.number
+
+-- a finding: its rule, then where it is
 abbrev pub finding_text : Finding → List ℕ
 finding_text f =
-    letter_of f.rule.family ∷ decimal f.rule.number
+    rule_text f.rule
     ++ codes " tree " ++ decimal f.tree
     ++ codes " block " ++ decimal f.block
     ++ codes " key " ++ decimal f.key.objectid ++ codes " " ++ decimal f.key.kind ++ codes " " ++ decimal f.key.offset

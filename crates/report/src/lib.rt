@@ -1,10 +1,12 @@
 //! The lines that Recon prints.
 #![tactic(auto)]
 
+mod json_text;
 mod line;
 #[cfg(test)]
 mod tests;
 mod text;
 
+pub use json_text::json_of;
 pub use line::Line;
 pub use text::text_of;

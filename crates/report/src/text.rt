@@ -1,11 +1,13 @@
 //! A line as text.
 
 ghost use Rattle.std.specs.Prelude.{◌≡◌, ◌≤◌, IfOk, string_bytes};
-ghost use Rattle.report.specs.Lines.{event_word, fault_name, finding_text, text_line, IsPrintable};
+ghost use Rattle.hex.specs.Hex.{encode_lower};
+ghost use Rattle.json.specs.Print.{escape};
+ghost use Rattle.report.specs.Lines.{event_word, fault_name, finding_text, rule_text, text_line, IsPrintable};
 
 use crate::Line;
 use std::alloc::{AllocError, Global};
-use verdict::{Bytes, Finding, NoMemory};
+use verdict::{Bytes, Finding, NoMemory, Rule};
 
 /// The text of a line, with the line feed that ends it. The number of a trace's fault must be from 1
 /// to 7.
@@ -56,7 +58,7 @@ fn printed(alloc: Global, line: &Line) -> Result<String, AllocError>
         }
         Line::Fetched { at, bytes } => {
             let len = bytes.as_slice().len();
-            let digits = hex::encode(alloc, bytes.as_slice())?;
+            let digits = digits_of(alloc, bytes.as_slice())?;
             format!(in alloc; "fetch {at} {len} {digits}\n")
         }
         Line::End { passed, rejected } => {
@@ -75,14 +77,31 @@ fn printed(alloc: Global, line: &Line) -> Result<String, AllocError>
     }
 }
 
+// Two hexadecimal digits a byte. A JSON text has no escape for them.
+pub fn digits_of(alloc: Global, bytes: &[u8]) -> Result<String, AllocError>
+    ensures digits { IfOk result (λ text. string_bytes text ≡ encode_lower bytes.now) }
+    ensures plain { escape (encode_lower bytes.now) ≡ encode_lower bytes.now }
+{
+    hex::encode(alloc, bytes)
+}
+
+// The letter of the rule's family, and the number. A JSON text has no escape for it.
+pub fn rule_of(alloc: Global, rule: &Rule) -> Result<String, AllocError>
+    ensures text { IfOk result (λ text. string_bytes text ≡ rule_text rule.now) }
+    ensures plain { IfOk result (λ _. escape (rule_text rule.now) ≡ rule_text rule.now) }
+{
+    let letter = char::from(rule.family.letter());
+    let number = rule.number;
+    format!(in alloc; "{letter}{number}")
+}
+
 // The rule, and where it fails.
 fn finding_of(alloc: Global, finding: &Finding) -> Result<String, AllocError>
     ensures { IfOk result (λ text. string_bytes text ≡ finding_text finding.now) }
 {
-    let letter = char::from(finding.rule.family.letter());
+    let rule = rule_of(alloc, &finding.rule)?;
     format!(in alloc;
-        "{letter}{} tree {} block {} key {} {} {} detail {}",
-        finding.rule.number,
+        "{rule} tree {} block {} key {} {} {} detail {}",
         finding.tree,
         finding.block,
         finding.key.objectid,
@@ -93,14 +112,14 @@ fn finding_of(alloc: Global, finding: &Finding) -> Result<String, AllocError>
 }
 
 // What a judged event is called.
-fn event_of(settle: bool) -> &'static str
+pub fn event_of(settle: bool) -> &'static str
     ensures { result.now ≡ event_word settle }
 {
     if settle { "settle" } else { "commit" }
 }
 
 // The name of a trace's fault.
-fn name_of(number: u8) -> &'static str
+pub fn name_of(number: u8) -> &'static str
     requires least { 1 ≤ number }
     requires greatest { number ≤ 7 }
     ensures { result.now ≡ fault_name number }

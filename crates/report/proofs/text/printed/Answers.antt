@@ -24,7 +24,7 @@ returns-in_ok-finding-in-Rejected c =
 pub returns-in_ok-digits-in-Fetched : goal.returns-in_ok-digits-in-Fetched
 unfolding text_line
 returns-in_ok-digits-in-Fetched c =
-    rw c.in-Fetched.is (said string_bytes _ _ _ c.format-in-Fetched.ensures.ok (simp (c.in_ok-digits-in-Fetched.ensures, c.as_slice.ensures, c.as_slice-in-Fetched.ensures, append_assoc)))
+    rw c.in-Fetched.is (said string_bytes _ _ _ c.format-in-Fetched.ensures.ok (simp (c.in_ok-digits-in-Fetched.ensures.digits, c.as_slice.ensures, c.as_slice-in-Fetched.ensures, append_assoc)))
 
 pub returns-in-BadTrace : goal.returns-in-BadTrace
 unfolding text_line
