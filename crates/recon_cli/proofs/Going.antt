@@ -6,7 +6,7 @@ use Rattle.std.proofs.lemmas.List.{drop-drop, drop_at, get_or-append-add}
 use Rattle.verdict.specs.declared.machine.Event.{Event}
 use Rattle.verdict.specs.declared.machine.Event.TheVariants.{Write, Settle, Fetch}
 use Rattle.recon_core.specs.declared.checker.Checker.{Checker}
-use Rattle.verdict.specs.Events.{end_of, begin_of, IsSized}
+use Rattle.verdict.specs.Events.{end_of, begin_of}
 use Rattle.recon_core.specs.Machine.{MachineState, machine_step}
 use Rattle.recon_core.specs.Standing.{StandsFor}
 use Rattle.trace_reader.specs.declared.fault.TraceFault.{TraceFault}
@@ -16,10 +16,11 @@ use Rattle.trace_reader.specs.declared.reader.Item.TheVariants.{Event as an_even
 use Rattle.recon_disk.specs.Keeping.{IsCounted}
 use Rattle.trace_reader.specs.Reader.{ReaderState}
 use Rattle.trace_reader.specs.Reading.{HasReadCause, IsAfter, first_state as reader_start, front_of, after_event, TakesEvent, TakesEnd, MeetsEnding, Tells}
-use Rattle.trace_reader.specs.Trace.{HasLength, IsBytes, IsTrace, IsRecords, HeaderEnds, Ending, End, Fault, header_bytes, spelling_of}
+use Rattle.trace_reader.specs.Trace.{IsBytes, IsTrace, IsRecords, HeaderEnds, Ending, End, Fault, header_bytes, spelling_of}
 use Rattle.trace_reader.proofs.Records.{records_end, records_more, records_exist}
 use Rattle.recon_cli.specs.declared.halt.Halt.{Halt}
 use Rattle.recon_cli.specs.declared.halt.Halt.TheVariants.{Device, Trace, Lines, Memory}
+use Rattle.recon_cli.specs.declared.lines.Style.{Style}
 use Rattle.recon_cli.specs.declared.tally.Tally.{Tally}
 use Rattle.recon_cli.specs.Outcome.{Outcome, after_text, answer_text, ended, is_settle, no_tally, outcome_from, past_end, tally_after}
 use Rattle.recon_cli.specs.Run.{ComesOut, EndsPast, HasFaultPrintCause, HasHaltCause, faults_are, GoesOn, IsNoRead, IsOfBytes, IsOutcomeStatus, Replays, record_limit}
@@ -34,7 +35,7 @@ behind rs rest = cond rs.at_header (drop 16 rest) rest
 
 -- how far a replay has come: the state, what is left, what was printed, how many bytes behind the header
 -- are taken, and how it goes on
-pub record Going (first : MachineState) (bytes kept : List ℕ) (rs : ReaderState) (t : Tally) (checker : Checker) (disk left sink : Option (List ℕ)) : Type 0 where
+pub record Going (w : Style) (first : MachineState) (bytes kept : List ℕ) (rs : ReaderState) (t : Tally) (checker : Checker) (disk left sink : Option (List ℕ)) : Type 0 where
   pub state : MachineState
   pub rest : List ℕ
   pub text : List ℕ
@@ -49,12 +50,7 @@ pub record Going (first : MachineState) (bytes kept : List ℕ) (rs : ReaderStat
   pub few : rs.whole ≤ rs.limit
   pub gone : behind rs rest ≡ drop (16 + n) bytes
   pub goes_on : (events : List Event) (ending : Ending) → FromHere rs rest events ending
-      → (all : List Event) × IsTrace record_limit bytes all ending × (outcome_from first 0 no_tally all ending ≡ after_text text n (outcome_from state rs.whole t events ending))
-
-pub sized : (e : Event) → HasLength e → IsSized e
-sized (Write submitter at bytes) h = h
-sized Settle h = absurd h
-sized (Fetch at len) h = absurd h
+      → (all : List Event) × IsTrace record_limit bytes all ending × (outcome_from w first 0 no_tally all ending ≡ after_text text n (outcome_from w state rs.whole t events ending))
 
 -- nothing printed and nothing taken before
 taken_none : (o : Option ℕ) → option_map (λ n. 0 + n) o ≡ o
@@ -103,9 +99,9 @@ lawful_rest rs rest front after h parts =
     all_behind front after (all_behind (front_of rs) (front ++ after) (subst IsBytes parts h))
 
 -- before the first record
-pub going_start : (first : MachineState) (bytes kept : List ℕ) (checker : Checker) (disk left sink : Option (List ℕ)) → StandsFor checker first → disk ≡ Some first.image
-    → IsBytes bytes → left ≡ Some bytes → sink ≡ Some kept → Going first bytes kept (reader_start record_limit) no_tally checker disk left sink
-going_start first bytes kept checker disk left sink stands image lawful left_is printed = record {
+pub going_start : (w : Style) (first : MachineState) (bytes kept : List ℕ) (checker : Checker) (disk left sink : Option (List ℕ)) → StandsFor checker first → disk ≡ Some first.image
+    → IsBytes bytes → left ≡ Some bytes → sink ≡ Some kept → Going w first bytes kept (reader_start record_limit) no_tally checker disk left sink
+going_start w first bytes kept checker disk left sink stands image lawful left_is printed = record {
   state = first;
   rest = bytes;
   text = [];
@@ -119,40 +115,40 @@ going_start first bytes kept checker disk left sink stands image lawful left_is 
   fresh = λ h. refl;
   few = omega arith;
   gone = refl;
-  goes_on = λ events ending here. (events, here, sym (after_none (outcome_from first 0 no_tally events ending)));
+  goes_on = λ events ending here. (events, here, sym (after_none (outcome_from w first 0 no_tally events ending)));
 }
 
 -- an event that lies inside the image
-outcome_inside : (s : MachineState) (k : ℕ) (t : Tally) (e : Event) (events : List Event) (ending : Ending) → nat_lt (length s.image) (end_of e) ≡ false
-    → outcome_from s k t (e ∷ events) ending ≡ after_text (answer_text t (begin_of e) (is_settle e) (machine_step s e).answer) (length (spelling_of e))
-    (outcome_from (machine_step s e).after (k + 1) (tally_after t (machine_step s e).answer) events ending)
-outcome_inside s k t e events ending h =
-    ap (λ b. cond b (past_end s (k + 1) e) (after_text (answer_text t (begin_of e) (is_settle e) (machine_step s e).answer) (length (spelling_of e))
-    (outcome_from (machine_step s e).after (k + 1) (tally_after t (machine_step s e).answer) events ending))) h
+outcome_inside : (w : Style) (s : MachineState) (k : ℕ) (t : Tally) (e : Event) (events : List Event) (ending : Ending) → nat_lt (length s.image) (end_of e) ≡ false
+    → outcome_from w s k t (e ∷ events) ending ≡ after_text (answer_text w t (begin_of e) (is_settle e) (machine_step s e).answer) (length (spelling_of e))
+    (outcome_from w (machine_step s e).after (k + 1) (tally_after t (machine_step s e).answer) events ending)
+outcome_inside w s k t e events ending h =
+    ap (λ b. cond b (past_end w s (k + 1) e) (after_text (answer_text w t (begin_of e) (is_settle e) (machine_step s e).answer) (length (spelling_of e))
+    (outcome_from w (machine_step s e).after (k + 1) (tally_after t (machine_step s e).answer) events ending))) h
 
-outcome_outside : (s : MachineState) (k : ℕ) (t : Tally) (e : Event) (events : List Event) (ending : Ending) → nat_lt (length s.image) (end_of e) ≡ true
-    → outcome_from s k t (e ∷ events) ending ≡ past_end s (k + 1) e
-outcome_outside s k t e events ending h =
-    ap (λ b. cond b (past_end s (k + 1) e) (after_text (answer_text t (begin_of e) (is_settle e) (machine_step s e).answer) (length (spelling_of e))
-    (outcome_from (machine_step s e).after (k + 1) (tally_after t (machine_step s e).answer) events ending))) h
+outcome_outside : (w : Style) (s : MachineState) (k : ℕ) (t : Tally) (e : Event) (events : List Event) (ending : Ending) → nat_lt (length s.image) (end_of e) ≡ true
+    → outcome_from w s k t (e ∷ events) ending ≡ past_end w s (k + 1) e
+outcome_outside w s k t e events ending h =
+    ap (λ b. cond b (past_end w s (k + 1) e) (after_text (answer_text w t (begin_of e) (is_settle e) (machine_step s e).answer) (length (spelling_of e))
+    (outcome_from w (machine_step s e).after (k + 1) (tally_after t (machine_step s e).answer) events ending))) h
 
 -- what is told where the bytes are known
 told_at : (rs new : ReaderState) (left after : Option (List ℕ)) (rest : List ℕ) (r : Result Item TraceFault) → left ≡ Some rest
     → IfSome left (λ b. Tells rs b r new after) → Tells rs rest r new after
 told_at rs new left after rest r is told = subst (λ o. IfSome o (λ b. Tells rs b r new after)) is told
 
-pub going_event : (first : MachineState) (bytes kept : List ℕ) (rs new : ReaderState) (t t' : Tally) (checker checker' : Checker) (disk disk' left left' sink sink' : Option (List ℕ)) (e : Event)
-    → (going : Going first bytes kept rs t checker disk left sink)
+pub going_event : (w : Style) (first : MachineState) (bytes kept : List ℕ) (rs new : ReaderState) (t t' : Tally) (checker checker' : Checker) (disk disk' left left' sink sink' : Option (List ℕ)) (e : Event)
+    → (going : Going w first bytes kept rs t checker disk left sink)
     → IfSome left (λ b. Tells rs b (Ok (an_event e)) new left') → new ≡ after_event rs
-    → GoesOn going.state t e (kept ++ going.text) checker' t' disk' sink'
-    → Going first bytes kept new t' checker' disk' left' sink'
-going_event first bytes kept rs new t t' checker checker' disk disk' left left' sink sink' e going told is turn =
+    → GoesOn w going.state t e (kept ++ going.text) checker' t' disk' sink'
+    → Going w first bytes kept new t' checker' disk' left' sink'
+going_event w first bytes kept rs new t t' checker checker' disk disk' left left' sink sink' e going told is turn =
     let s : MachineState = going.state in
     let takes : TakesEvent rs going.rest e left' = told_at rs new left left' going.rest (Ok (an_event e)) going.left_is told in
-    let words : List ℕ = answer_text t (begin_of e) (is_settle e) (machine_step s e).answer in
+    let words : List ℕ = answer_text w t (begin_of e) (is_settle e) (machine_step s e).answer in
     let size : ℕ = length (spelling_of e) in
     let front : behind rs going.rest ≡ spelling_of e ++ takes.rest = behind_is rs going.rest (spelling_of e ++ takes.rest) takes.taken in
-    subst (λ k. Going first bytes kept k t' checker' disk' left' sink') (sym is) (record {
+    subst (λ k. Going w first bytes kept k t' checker' disk' left' sink') (sym is) (record {
       state = (machine_step s e).after;
       rest = takes.rest;
       text = going.text ++ words;
@@ -174,9 +170,9 @@ going_event first bytes kept rs new t t' checker checker' disk disk' left left' 
             all.0,
             all.1,
             all.2
-                ∙ ap (after_text going.text going.n) (outcome_inside s rs.whole t e events ending turn.inside)
-                ∙ after_twice going.text words going.n size (outcome_from (machine_step s e).after (rs.whole + 1) (tally_after t (machine_step s e).answer) events ending)
-                ∙ ap (λ u. after_text (going.text ++ words) (going.n + size) (outcome_from (machine_step s e).after (rs.whole + 1) u events ending)) (sym turn.tally),
+                ∙ ap (after_text going.text going.n) (outcome_inside w s rs.whole t e events ending turn.inside)
+                ∙ after_twice going.text words going.n size (outcome_from w (machine_step s e).after (rs.whole + 1) (tally_after t (machine_step s e).answer) events ending)
+                ∙ ap (λ u. after_text (going.text ++ words) (going.n + size) (outcome_from w (machine_step s e).after (rs.whole + 1) u events ending)) (sym turn.tally),
           );
     })
 
@@ -190,14 +186,14 @@ header_here true limit whole rest ending e h = inl (h, refl)
 header_here false limit whole rest ending e h = absurd (let k : false ≡ true = e in cc)
 
 -- the outcome of all events, where the replay has come to its end with this outcome from the state on
-comes_out : (first : MachineState) (bytes kept : List ℕ) (rs : ReaderState) (t : Tally) (checker : Checker) (disk left sink disk' left' sink' : Option (List ℕ)) (status : ℕ)
-    (going : Going first bytes kept rs t checker disk left sink) (events : List Event) (ending : Ending) (o : Outcome)
-    → FromHere rs going.rest events ending → outcome_from going.state rs.whole t events ending ≡ o
+comes_out : (w : Style) (first : MachineState) (bytes kept : List ℕ) (rs : ReaderState) (t : Tally) (checker : Checker) (disk left sink disk' left' sink' : Option (List ℕ)) (status : ℕ)
+    (going : Going w first bytes kept rs t checker disk left sink) (events : List Event) (ending : Ending) (o : Outcome)
+    → FromHere rs going.rest events ending → outcome_from w going.state rs.whole t events ending ≡ o
     → sink' ≡ Some (kept ++ going.text ++ o.text) → status ≡ o.status → disk' ≡ Some o.device → IfSome o.taken (λ k. left' ≡ Some (drop (16 + going.n + k) bytes))
-    → Replays first bytes kept status disk' left' sink'
-comes_out first bytes kept rs t checker disk left sink disk' left' sink' status going events ending o here is printed st dev taken =
+    → Replays w first bytes kept status disk' left' sink'
+comes_out w first bytes kept rs t checker disk left sink disk' left' sink' status going events ending o here is printed st dev taken =
     let all = going.goes_on events ending here in
-    let e : outcome_from first 0 no_tally all.0 ending ≡ after_text going.text going.n o = all.2 ∙ ap (after_text going.text going.n) is in
+    let e : outcome_from w first 0 no_tally all.0 ending ≡ after_text going.text going.n o = all.2 ∙ ap (after_text going.text going.n) is in
     record {
       events = all.0;
       ending = ending;
@@ -211,17 +207,17 @@ comes_out first bytes kept rs t checker disk left sink disk' left' sink' status 
     }
 
 -- at the end tag
-pub going_end : (first : MachineState) (bytes kept : List ℕ) (rs new : ReaderState) (t : Tally) (checker : Checker) (disk left left' sink sink' : Option (List ℕ)) (status : ℕ)
-    (going : Going first bytes kept rs t checker disk left sink)
+pub going_end : (w : Style) (first : MachineState) (bytes kept : List ℕ) (rs new : ReaderState) (t : Tally) (checker : Checker) (disk left left' sink sink' : Option (List ℕ)) (status : ℕ)
+    (going : Going w first bytes kept rs t checker disk left sink)
     → IfSome left (λ b. Tells rs b (Ok the_end) new left')
-    → status ≡ (ended going.state t End).status → sink' ≡ option_map (λ k. k ++ (ended going.state t End).text) sink
-    → Replays first bytes kept status disk left' sink'
-going_end first bytes kept rs new t checker disk left left' sink sink' status going told st printed =
+    → status ≡ (ended w going.state t End).status → sink' ≡ option_map (λ k. k ++ (ended w going.state t End).text) sink
+    → Replays w first bytes kept status disk left' sink'
+going_end w first bytes kept rs new t checker disk left left' sink sink' status going told st printed =
     let takes : TakesEnd rs going.rest left' = told_at rs new left left' going.rest (Ok the_end) going.left_is told in
     let front : behind rs going.rest ≡ 255 ∷ takes.rest = behind_is rs going.rest (255 ∷ takes.rest) takes.taken in
-    comes_out first bytes kept rs t checker disk left sink disk left' sink' status going [] End (ended going.state t End)
+    comes_out w first bytes kept rs t checker disk left sink disk left' sink' status going [] End (ended w going.state t End)
     (in_front rs going.rest (255 ∷ takes.rest) [] End going.fresh takes.taken (records_end rs.limit rs.whole (255 ∷ takes.rest) End refl going.few))
-    refl (printed ∙ ap (option_map (λ k. k ++ (ended going.state t End).text)) going.printed) st going.image
+    refl (printed ∙ ap (option_map (λ k. k ++ (ended w going.state t End).text)) going.printed) st going.image
     (takes.left ∙ ap Some (ap (drop 1) (sym front ∙ going.gone) ∙ drop-drop 1 (16 + going.n) bytes))
 
 fault_here : (rs : ReaderState) (rest : List ℕ) (f : TraceFault) (k : ℕ) → (rs.at_header ≡ true → rs.whole ≡ 0) → rs.whole ≤ rs.limit → MeetsEnding rs rest (Fault f k) → FromHere rs rest [] (Fault f k)
@@ -239,30 +235,30 @@ meets rs new rest NoMemory after h told = absurd h
 meets rs new rest TooMany after h told = told
 
 -- at a fault of the trace's bytes
-pub going_fault : (first : MachineState) (bytes kept : List ℕ) (rs new : ReaderState) (t : Tally) (checker : Checker) (disk left left' sink sink' : Option (List ℕ)) (status place : ℕ) (f : TraceFault)
-    (going : Going first bytes kept rs t checker disk left sink)
+pub going_fault : (w : Style) (first : MachineState) (bytes kept : List ℕ) (rs new : ReaderState) (t : Tally) (checker : Checker) (disk left left' sink sink' : Option (List ℕ)) (status place : ℕ) (f : TraceFault)
+    (going : Going w first bytes kept rs t checker disk left sink)
     → IfSome left (λ b. Tells rs b (Err f) new left') → IsOfBytes f → place ≡ new.number
-    → status ≡ 3 → sink' ≡ option_map (λ k. k ++ (ended going.state t (Fault f place)).text) sink
-    → Replays first bytes kept status disk left' sink'
-going_fault first bytes kept rs new t checker disk left left' sink sink' status place f going told ofbytes at st printed =
-    comes_out first bytes kept rs t checker disk left sink disk left' sink' status going [] (Fault f place) (ended going.state t (Fault f place))
+    → status ≡ 3 → sink' ≡ option_map (λ k. k ++ (ended w going.state t (Fault f place)).text) sink
+    → Replays w first bytes kept status disk left' sink'
+going_fault w first bytes kept rs new t checker disk left left' sink sink' status place f going told ofbytes at st printed =
+    comes_out w first bytes kept rs t checker disk left sink disk left' sink' status going [] (Fault f place) (ended w going.state t (Fault f place))
     (fault_here rs going.rest f place going.fresh going.few (subst (λ k. MeetsEnding rs going.rest (Fault f k)) (sym at) (meets rs new going.rest f left' ofbytes (told_at rs new left left' going.rest (Err f) going.left_is told))))
-    refl (printed ∙ ap (option_map (λ k. k ++ (ended going.state t (Fault f place)).text)) going.printed) st going.image tt
+    refl (printed ∙ ap (option_map (λ k. k ++ (ended w going.state t (Fault f place)).text)) going.printed) st going.image tt
 
 -- at an event that passes the end of the device
-pub going_past : (first : MachineState) (bytes kept : List ℕ) (rs new : ReaderState) (t : Tally) (checker : Checker) (disk disk' left left' sink sink' : Option (List ℕ)) (status place : ℕ) (e : Event)
-    (going : Going first bytes kept rs t checker disk left sink)
+pub going_past : (w : Style) (first : MachineState) (bytes kept : List ℕ) (rs new : ReaderState) (t : Tally) (checker : Checker) (disk disk' left left' sink sink' : Option (List ℕ)) (status place : ℕ) (e : Event)
+    (going : Going w first bytes kept rs t checker disk left sink)
     → IfSome left (λ b. Tells rs b (Ok (an_event e)) new left') → place ≡ rs.whole + 1
-    → EndsPast going.state place e (kept ++ going.text) status disk' sink'
-    → Replays first bytes kept status disk' left' sink'
-going_past first bytes kept rs new t checker disk disk' left left' sink sink' status place e going told at turn =
+    → EndsPast w going.state place e (kept ++ going.text) status disk' sink'
+    → Replays w first bytes kept status disk' left' sink'
+going_past w first bytes kept rs new t checker disk disk' left left' sink sink' status place e going told at turn =
     let takes : TakesEvent rs going.rest e left' = told_at rs new left left' going.rest (Ok (an_event e)) going.left_is told in
     let front : behind rs going.rest ≡ spelling_of e ++ takes.rest = behind_is rs going.rest (spelling_of e ++ takes.rest) takes.taken in
     let lawful : IsBytes takes.rest = lawful_rest rs going.rest (spelling_of e) takes.rest going.lawful takes.taken in
     let more = records_exist rs.limit (rs.whole + 1) takes.rest lawful (omega (arith, takes.room)) in
-    comes_out first bytes kept rs t checker disk left sink disk' left' sink' status going (e ∷ more.0) more.1 (past_end going.state place e)
+    comes_out w first bytes kept rs t checker disk left sink disk' left' sink' status going (e ∷ more.0) more.1 (past_end w going.state place e)
     (in_front rs going.rest (spelling_of e ++ takes.rest) (e ∷ more.0) more.1 going.fresh takes.taken (records_more rs.limit rs.whole e takes.rest more.0 more.1 takes.lawful takes.room more.2))
-    (outcome_outside going.state rs.whole t e more.0 more.1 turn.outside ∙ ap (λ k. past_end going.state k e) (sym at))
+    (outcome_outside w going.state rs.whole t e more.0 more.1 turn.outside ∙ ap (λ k. past_end w going.state k e) (sym at))
     turn.printed turn.status_is turn.image
     (takes.left ∙ ap Some (sym (drop_at (spelling_of e) takes.rest (length (spelling_of e)) refl) ∙ ap (drop (length (spelling_of e))) (sym front ∙ going.gone) ∙ drop-drop (length (spelling_of e)) (16 + going.n) bytes))
 

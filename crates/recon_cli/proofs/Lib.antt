@@ -1,4 +1,5 @@
 pub mod Checking
-mod TwoWords
+mod FewWords
 pub mod Going
+mod OneForm
 pub mod Start

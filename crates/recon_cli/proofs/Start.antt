@@ -13,9 +13,9 @@ use Rattle.records.proofs.Accepted.{accepted_superblock}
 use Rattle.recon_core.specs.Standing.{IsAccepted, first_state}
 use Rattle.trace_reader.specs.Trace.{IsBytes}
 use Rattle.trace_reader.proofs.Records.{one}
-use Rattle.report.specs.Lines.{text_line}
 use Rattle.report.specs.declared.line.Line.TheVariants.{Image, Refused}
-use Rattle.recon_cli.specs.Outcome.{Outcome, no_tally, outcome_from, replay_by}
+use Rattle.recon_cli.specs.declared.lines.Style.{Style}
+use Rattle.recon_cli.specs.Outcome.{Outcome, line_in, no_tally, outcome_from, replay_by}
 use Rattle.recon_cli.specs.Run.{ComesOut, Replays, ReplaysAs, record_limit}
 
 in_image : (image : List ℕ) (m : FinMap nat_cmp ℕ) (told : Option (List ℕ)) (r : Result Super Finding) → m ≡ empty → told ≡ Some image
@@ -44,30 +44,30 @@ not_found image m told r finding none is found err accepted =
     ok_not_err has.0 finding r (in_image image m told r none is found ∙ has.1) err
 
 -- a replay over an accepted image
-pub replays_accepted : (image bytes kept : List ℕ) (generation status : ℕ) (disk left sink : Option (List ℕ)) → full_check image ≡ Accept generation → IsBytes bytes
-    → Replays (first_state image) bytes (kept ++ text_line (Image generation)) status disk left sink → ReplaysAs image bytes kept status disk left sink
-replays_accepted image bytes kept generation status disk left sink accepted lawful run events ending spelled =
+pub replays_accepted : (w : Style) (image bytes kept : List ℕ) (generation status : ℕ) (disk left sink : Option (List ℕ)) → full_check image ≡ Accept generation → IsBytes bytes
+    → Replays w (first_state image) bytes (kept ++ line_in w (Image generation)) status disk left sink → ReplaysAs w image bytes kept status disk left sink
+replays_accepted w image bytes kept generation status disk left sink accepted lawful run events ending spelled =
     let only = one record_limit bytes lawful in
     let a : events ≡ run.events = (only.3 events ending spelled).0 ∙ sym (only.3 run.events run.ending run.spelled).0 in
     let b : ending ≡ run.ending = (only.3 events ending spelled).1 ∙ sym (only.3 run.events run.ending run.spelled).1 in
-    let o : Outcome = outcome_from (first_state image) 0 no_tally run.events run.ending in
-    let whole : ComesOut (replay_by (Accept generation) image run.events run.ending) bytes kept status disk left sink = record {
-      text = run.comes.text ∙ ap Some (append_assoc kept (text_line (Image generation)) o.text);
+    let o : Outcome = outcome_from w (first_state image) 0 no_tally run.events run.ending in
+    let whole : ComesOut (replay_by w (Accept generation) image run.events run.ending) bytes kept status disk left sink = record {
+      text = run.comes.text ∙ ap Some (append_assoc kept (line_in w (Image generation)) o.text);
       status_is = run.comes.status_is;
       device = run.comes.device;
       taken = run.comes.taken;
     } in
-    subst (λ v. ComesOut (replay_by v image events ending) bytes kept status disk left sink) (sym accepted)
-    (subst (λ x. ComesOut (replay_by (Accept generation) image events x) bytes kept status disk left sink) (sym b)
-    (subst (λ x. ComesOut (replay_by (Accept generation) image x run.ending) bytes kept status disk left sink) (sym a) whole))
+    subst (λ v. ComesOut (replay_by w v image events ending) bytes kept status disk left sink) (sym accepted)
+    (subst (λ x. ComesOut (replay_by w (Accept generation) image events x) bytes kept status disk left sink) (sym b)
+    (subst (λ x. ComesOut (replay_by w (Accept generation) image x run.ending) bytes kept status disk left sink) (sym a) whole))
 
 -- a refused image
-pub replays_refused : (image bytes kept : List ℕ) (finding : Finding) (status : ℕ) (disk left sink before : Option (List ℕ)) → full_check image ≡ Found finding
-    → disk ≡ Some image → left ≡ Some bytes → before ≡ Some kept → status ≡ 1 → sink ≡ option_map (λ k. k ++ text_line (Refused finding)) before
-    → ReplaysAs image bytes kept status disk left sink
-replays_refused image bytes kept finding status disk left sink before refused same unread was one_ printed events ending spelled =
-    subst (λ v. ComesOut (replay_by v image events ending) bytes kept status disk left sink) (sym refused) (record {
-      text = printed ∙ ap (option_map (λ k. k ++ text_line (Refused finding))) was;
+pub replays_refused : (w : Style) (image bytes kept : List ℕ) (finding : Finding) (status : ℕ) (disk left sink before : Option (List ℕ)) → full_check image ≡ Found finding
+    → disk ≡ Some image → left ≡ Some bytes → before ≡ Some kept → status ≡ 1 → sink ≡ option_map (λ k. k ++ line_in w (Refused finding)) before
+    → ReplaysAs w image bytes kept status disk left sink
+replays_refused w image bytes kept finding status disk left sink before refused same unread was one_ printed events ending spelled =
+    subst (λ v. ComesOut (replay_by w v image events ending) bytes kept status disk left sink) (sym refused) (record {
+      text = printed ∙ ap (option_map (λ k. k ++ line_in w (Refused finding))) was;
       status_is = one_;
       device = same;
       taken = unread;

@@ -1,5 +1,6 @@
 -- The outcome of a check, which is the image's line and a status; and the outcome of a replay: what is
--- printed, the status, what the device holds, and how much of the trace is taken. It says the machine's steps
+-- printed, the status, what the device holds, and how much of the trace is taken. A replay prints its lines
+-- as text or as JSON, which changes nothing else. It says the machine's steps
 -- one after the other, up to the first event that passes the end.
 use Rattle.std.specs.Prelude.{ℕ, ◌+◌, Bool, true, false, ◌==◌, nat_lt, List, [], ◌∷◌, ◌++◌, length, Option, Some, None, option_map, if◌then◌else◌}
 use Rattle.verdict.specs.declared.machine.Event.{Event}
@@ -15,8 +16,17 @@ use Rattle.recon_core.specs.Standing.{first_state}
 use Rattle.trace_reader.specs.Fault.{fault_number}
 use Rattle.trace_reader.specs.Trace.{spelling_of, Ending, End, Fault}
 use Rattle.report.specs.Lines.{text_line}
+use Rattle.report.specs.Json.{json_line}
+use Rattle.report.specs.declared.line.Line.{Line}
 use Rattle.report.specs.declared.line.Line.TheVariants.{Image, Refused, Passed as passed_line, Rejected as rejected_line, Fetched as fetched_line, End as end_line, BadTrace, Past}
+use Rattle.recon_cli.specs.declared.lines.Style.{Style}
+use Rattle.recon_cli.specs.declared.lines.Style.TheVariants.{Text, Json}
 use Rattle.recon_cli.specs.declared.tally.Tally.{Tally}
+
+-- a line as it is printed, as text or as JSON
+abbrev pub line_in : Style → Line → List ℕ
+line_in Text line = text_line line
+line_in Json line = json_line line
 
 -- the line of what the full check says of an image
 abbrev pub verdict_text : Verdict → List ℕ
@@ -61,33 +71,33 @@ tally_after t (Rejected finding) = record { passed = t.passed; rejected = t.reje
 
 -- the line of an answer to an event that begins at a byte and may be a settle; a write that waits has
 -- none. Judged events are numbered from 1.
-abbrev pub answer_text : Tally → ℕ → Bool → Answer → List ℕ
-answer_text t at settle Held = []
-answer_text t at settle (Fetched bytes) = text_line (fetched_line at bytes)
-answer_text t at settle (Passed generation blocks hot) =
-    text_line (passed_line settle (t.passed + t.rejected + 1) generation blocks hot)
-answer_text t at settle (Rejected finding) =
-    text_line (rejected_line settle (t.passed + t.rejected + 1) finding)
+abbrev pub answer_text : Style → Tally → ℕ → Bool → Answer → List ℕ
+answer_text style t at settle Held = []
+answer_text style t at settle (Fetched bytes) = line_in style (fetched_line at bytes)
+answer_text style t at settle (Passed generation blocks hot) =
+    line_in style (passed_line settle (t.passed + t.rejected + 1) generation blocks hot)
+answer_text style t at settle (Rejected finding) =
+    line_in style (rejected_line settle (t.passed + t.rejected + 1) finding)
 
 -- the outcome at the end of the trace: the summary, or the line of the trace's fault
-abbrev pub ended : MachineState → Tally → Ending → Outcome
-ended s t End = record {
-  text = text_line (end_line t.passed t.rejected);
+abbrev pub ended : Style → MachineState → Tally → Ending → Outcome
+ended style s t End = record {
+  text = line_in style (end_line t.passed t.rejected);
   status = if t.rejected == 0 then 0 else 1;
   device = s.image;
   taken = Some 1;
 }
-ended s t (Fault fault place) = record {
-  text = text_line (BadTrace (fault_number fault) place);
+ended style s t (Fault fault place) = record {
+  text = line_in style (BadTrace (fault_number fault) place);
   status = 3;
   device = s.image;
   taken = None;
 }
 
 -- the outcome at an event that passes the end of the device, which is the record of this number
-abbrev pub past_end : MachineState → ℕ → Event → Outcome
-past_end s place event = record {
-  text = text_line (Past place (begin_of event) (length_of event) (length s.image));
+abbrev pub past_end : Style → MachineState → ℕ → Event → Outcome
+past_end style s place event = record {
+  text = line_in style (Past place (begin_of event) (length_of event) (length s.image));
   status = 3;
   device = s.image;
   taken = Some (length (spelling_of event));
@@ -95,32 +105,32 @@ past_end s place event = record {
 
 -- The outcome from a state on, after so many records, for the events that follow and the ending of the
 -- trace. The events are taken in order, up to the first that passes the end of the device.
-abbrev pub outcome_from : MachineState → ℕ → Tally → List Event → Ending → Outcome
-outcome_from s k t [] ending = ended s t ending
-outcome_from s k t (event ∷ events) ending =
-    if nat_lt (length s.image) (end_of event) then past_end s (k + 1) event
+abbrev pub outcome_from : Style → MachineState → ℕ → Tally → List Event → Ending → Outcome
+outcome_from style s k t [] ending = ended style s t ending
+outcome_from style s k t (event ∷ events) ending =
+    if nat_lt (length s.image) (end_of event) then past_end style s (k + 1) event
     else after_text
-    (answer_text t (begin_of event) (is_settle event) (machine_step s event).answer)
+    (answer_text style t (begin_of event) (is_settle event) (machine_step s event).answer)
     (length (spelling_of event))
-    (outcome_from (machine_step s event).after (k + 1) (tally_after t (machine_step s event).answer)
-    events ending)
+    (outcome_from style (machine_step s event).after (k + 1)
+    (tally_after t (machine_step s event).answer) events ending)
 
 -- no event was judged yet
 abbrev pub no_tally : Tally
 no_tally = record { passed = 0; rejected = 0 }
 
 -- the outcome of a replay over an image that the full check accepts or not
-abbrev pub replay_by : Verdict → List ℕ → List Event → Ending → Outcome
-replay_by (Found finding) image events ending = record {
-  text = text_line (Refused finding);
+abbrev pub replay_by : Style → Verdict → List ℕ → List Event → Ending → Outcome
+replay_by style (Found finding) image events ending = record {
+  text = line_in style (Refused finding);
   status = 1;
   device = image;
   taken = Some 0;
 }
-replay_by (Accept generation) image events ending =
-    after_text (text_line (Image generation)) 16
-    (outcome_from (first_state image) 0 no_tally events ending)
+replay_by style (Accept generation) image events ending =
+    after_text (line_in style (Image generation)) 16
+    (outcome_from style (first_state image) 0 no_tally events ending)
 
 -- the outcome of a replay of a trace, of these events and this ending, over an image
-abbrev pub replay_outcome : List ℕ → List Event → Ending → Outcome
-replay_outcome image events ending = replay_by (full_check image) image events ending
+abbrev pub replay_outcome : Style → List ℕ → List Event → Ending → Outcome
+replay_outcome style image events ending = replay_by style (full_check image) image events ending

@@ -10,6 +10,7 @@ use Rattle.recon_core.specs.declared.checker.Checker.{Checker}
 use Rattle.verdict.specs.Events.{end_of, begin_of}
 use Rattle.recon_core.specs.Machine.{MachineState, machine_step}
 use Rattle.recon_core.specs.Standing.{StandsFor}
+use Rattle.recon_cli.specs.declared.lines.Style.{Style}
 use Rattle.recon_cli.specs.declared.tally.Tally.{Tally}
 use Rattle.recon_cli.specs.Outcome.{Outcome, after_text, answer_text, no_tally, outcome_from, is_settle, past_end, replay_outcome, tally_after, verdict_status, verdict_text}
 use Rattle.trace_reader.specs.Trace.{Ending, IsTrace}
@@ -101,28 +102,28 @@ pub record HasStatusCause (before now : Faults) (status : ℕ) : Type 0 where
 
 -- What one event did: it goes on as the machine's step says, with the line of the answer printed, or the
 -- event passes the end of the device, which is printed, and the run ends with status 3.
-pub record GoesOn (s : MachineState) (t : Tally) (event : Event) (kept : List ℕ)
+pub record GoesOn (style : Style) (s : MachineState) (t : Tally) (event : Event) (kept : List ℕ)
     (checker : Checker) (new : Tally) (disk sink : Option (List ℕ)) : Type 0 where
   pub inside : nat_lt (length s.image) (end_of event) ≡ false
   pub stands : StandsFor checker (machine_step s event).after
   pub image : disk ≡ Some (machine_step s event).after.image
   pub tally : new ≡ tally_after t (machine_step s event).answer
   pub printed : sink ≡ Some
-      (kept ++ answer_text t (begin_of event) (is_settle event) (machine_step s event).answer)
+      (kept ++ answer_text style t (begin_of event) (is_settle event) (machine_step s event).answer)
 
-pub record EndsPast (s : MachineState) (place : ℕ) (event : Event) (kept : List ℕ)
+pub record EndsPast (style : Style) (s : MachineState) (place : ℕ) (event : Event) (kept : List ℕ)
     (status : ℕ) (disk sink : Option (List ℕ)) : Type 0 where
   pub outside : nat_lt (length s.image) (end_of event) ≡ true
   pub status_is : status ≡ 3
   pub image : disk ≡ Some s.image
-  pub printed : sink ≡ Some (kept ++ (past_end s place event).text)
+  pub printed : sink ≡ Some (kept ++ (past_end style s place event).text)
 
-abbrev pub Turns : MachineState → ℕ → Tally → Event → List ℕ
+abbrev pub Turns : Style → MachineState → ℕ → Tally → Event → List ℕ
     → Option ℕ → Checker → Tally → Option (List ℕ) → Option (List ℕ) → Type 0
-Turns s place t event kept None checker new disk sink =
-    GoesOn s t event kept checker new disk sink
-Turns s place t event kept (Some status) checker new disk sink =
-    EndsPast s place event kept status disk sink
+Turns style s place t event kept None checker new disk sink =
+    GoesOn style s t event kept checker new disk sink
+Turns style s place t event kept (Some status) checker new disk sink =
+    EndsPast style s place event kept status disk sink
 
 -- a status that an outcome may have
 abbrev pub IsOutcomeStatus : ℕ → Type 0
@@ -165,17 +166,17 @@ HasFaultPrintCause fault before now (Err Memory) = IsNoRead fault × (now ≡ be
 
 -- A replay of these bytes over the state comes out as the outcome of the events that they spell, and of
 -- their ending, says.
-pub record Replays (first : MachineState) (bytes kept : List ℕ) (status : ℕ)
+pub record Replays (style : Style) (first : MachineState) (bytes kept : List ℕ) (status : ℕ)
     (disk left sink : Option (List ℕ)) : Type 0 where
   pub events : List Event
   pub ending : Ending
   pub spelled : IsTrace record_limit bytes events ending
-  pub comes : ComesOut (after_text [] 16 (outcome_from first 0 no_tally events ending))
+  pub comes : ComesOut (after_text [] 16 (outcome_from style first 0 no_tally events ending))
       bytes kept status disk left sink
 
 -- the same as an outcome of a replay over the image, for the events and the ending that the bytes spell
-abbrev pub ReplaysAs : List ℕ → List ℕ → List ℕ → ℕ
+abbrev pub ReplaysAs : Style → List ℕ → List ℕ → List ℕ → ℕ
     → Option (List ℕ) → Option (List ℕ) → Option (List ℕ) → Type 0
-ReplaysAs image bytes kept status disk left sink =
+ReplaysAs style image bytes kept status disk left sink =
     (events : List Event) (ending : Ending) → IsTrace record_limit bytes events ending
-    → ComesOut (replay_outcome image events ending) bytes kept status disk left sink
+    → ComesOut (replay_outcome style image events ending) bytes kept status disk left sink

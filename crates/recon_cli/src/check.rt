@@ -5,7 +5,7 @@ ghost use Rattle.report.specs.Lines.{text_line};
 ghost use Rattle.recon_cli.specs.Run.{ChecksAs, HasPrintCause, HasTurnCause};
 
 use crate::halt::Halt;
-use crate::lines::{print, refuse};
+use crate::lines::{Style, print, refuse};
 use plain_check::{Fault, Verdict, judge};
 use recon_disk::{Disk, Sink};
 use report::Line;
@@ -19,7 +19,7 @@ fn accept<K: Sink>(alloc: Global, generation: u64, out: &mut K) -> Result<u8, Ha
         option_map (λ kept. kept ++ text_line (Line.Image generation)) (K.kept out.old)) }
     ensures cause { HasPrintCause (K.faults out.old) (K.faults out.new) result }
 {
-    print(alloc, out, &Line::Image { generation })?;
+    print(alloc, Style::Text, out, &Line::Image { generation })?;
     Ok(0)
 }
 
@@ -35,7 +35,7 @@ pub fn check<D: Disk, K: Sink>(alloc: Global, disk: &mut D, out: &mut K) -> Resu
 {
     match judge(alloc, disk, &WriteCache::new(alloc)) {
         Ok(Verdict::Accept { generation }) => accept(alloc, generation, out),
-        Ok(Verdict::Found(finding)) => refuse(alloc, finding, out),
+        Ok(Verdict::Found(finding)) => refuse(alloc, Style::Text, finding, out),
         Err(Fault::Disk) => Err(Halt::Device),
         Err(Fault::NoMemory) => Err(Halt::Memory),
     }

@@ -11,10 +11,12 @@ use std::alloc::{AllocError, Global};
 use std::test::Fail;
 use verdict::{Bytes, Event, Key};
 
-/// The words of a check and of a replay.
+/// The words of a check, of a replay, and of a replay whose lines are JSON.
 pub const CHECK: &[&str] = &["check", "image"];
 
 pub const REPLAY: &[&str] = &["replay", "image"];
+
+pub const REPLAY_JSON: &[&str] = &["replay", "--json", "image"];
 
 /// The line of the base image.
 pub const ACCEPTED: &str = "image accepted generation 1\n";

@@ -28,3 +28,5 @@ mod machine_tests;
 mod name_tests;
 #[cfg(test)]
 mod tests;
+#[cfg(test)]
+mod trace_tests;

@@ -5,12 +5,12 @@ ghost use Rattle.std.specs.FinMap as map;
 ghost use Rattle.recon_core.specs.Machine.{MachineState};
 ghost use Rattle.recon_core.specs.Standing.{IsBelow, StandsFor, first_state};
 ghost use Rattle.trace_reader.specs.Trace.{IsBytes};
-ghost use Rattle.report.specs.Lines.{text_line};
 ghost use Rattle.trace_reader.specs.Fault.{fault_number};
+ghost use Rattle.recon_cli.specs.Outcome.{line_in};
 ghost use Rattle.recon_cli.specs.Run.{HasFaultPrintCause, HasHaltCause, HasPrintCause, IsOfBytes, IsOutcomeStatus, IsSameOutside, Replays, ReplaysAs, faults_lent};
 
 use crate::halt::Halt;
-use crate::lines::{print, refuse};
+use crate::lines::{Style, print, refuse};
 use crate::outside::Outside;
 use crate::tally::Tally;
 use crate::turn::take_event;
@@ -26,15 +26,21 @@ use verdict::Stop;
 const RECORD_LIMIT: u64 = 4_294_967_296;
 
 // Prints the summary at the end tag.
-fn print_summary<K: Sink>(alloc: Global, tally: &Tally, out: &mut K) -> Result<u8, Halt>
+fn print_summary<K: Sink>(
+    alloc: Global,
+    style: Style,
+    tally: &Tally,
+    out: &mut K,
+) -> Result<u8, Halt>
     ensures status { IfOk result (λ status. status ≡ (if tally.now.rejected == 0 then 0 else 1)) }
     ensures printed { let line = Line.End tally.now.passed tally.now.rejected in
         OnOk result (K.kept out.new ≡
-        option_map (λ kept. kept ++ text_line line) (K.kept out.old)) }
+        option_map (λ kept. kept ++ line_in style line) (K.kept out.old)) }
     ensures cause { HasPrintCause (K.faults out.old) (K.faults out.new) result }
 {
     print(
         alloc,
+        style,
         out,
         &Line::End {
             passed: tally.passed,
@@ -48,13 +54,14 @@ fn print_summary<K: Sink>(alloc: Global, tally: &Tally, out: &mut K) -> Result<u
 // are no faults of the trace.
 fn print_fault<K: Sink>(
     alloc: Global,
+    style: Style,
     fault: TraceFault,
     place: u64,
     out: &mut K,
 ) -> Result<u8, Halt>
     ensures printed { let line = Line.BadTrace (fault_number fault) place in
         IfOk result (λ status. (status ≡ 3) × IsOfBytes fault × (K.kept out.new ≡
-        option_map (λ kept. kept ++ text_line line) (K.kept out.old))) }
+        option_map (λ kept. kept ++ line_in style line) (K.kept out.old))) }
     ensures cause { HasFaultPrintCause fault (K.faults out.old) (K.faults out.new) result }
 {
     match fault {
@@ -63,6 +70,7 @@ fn print_fault<K: Sink>(
         _ => {
             print(
                 alloc,
+                style,
                 out,
                 &Line::BadTrace {
                     number: fault.number(),
@@ -78,6 +86,7 @@ fn print_fault<K: Sink>(
 // of the device. What still waits then is dropped with the checker.
 fn take_records<D: Disk, S: Source, K: Sink, L>(
     alloc: Global,
+    style: Style,
     checker: &mut Checker,
     lent: &mut Outside<'_, '_, '_, '_, D, S, K, L>,
 ) -> Result<u8, Halt>
@@ -88,7 +97,7 @@ fn take_records<D: Disk, S: Source, K: Sink, L>(
         StandsFor checker.old first → D.bytes lent.old.disk.now ≡ Some first.image →
         IsBytes bytes → S.left lent.old.trace.now ≡ Some bytes →
         K.kept lent.old.out.now ≡ Some kept →
-        IfOk result (λ status. Replays first bytes kept status
+        IfOk result (λ status. Replays style first bytes kept status
         (D.bytes lent.new.disk.now) (S.left lent.new.trace.now) (K.kept lent.new.out.now)) }
     ensures status { IfOk result IsOutcomeStatus }
     ensures same { IsSameOutside lent.old lent.new }
@@ -105,14 +114,17 @@ fn take_records<D: Disk, S: Source, K: Sink, L>(
             Ok(Item::Event(event)) => {
                 let place = reader.record_number();
                 let turn = take_event(
-                    alloc, checker, &mut tally, place, event, lent.disk, lent.out, lent.steps,
+                    alloc, style, checker, &mut tally, place, event, lent.disk, lent.out,
+                    lent.steps,
                 )?;
                 if let Some(status) = turn {
                     return Ok(status);
                 }
             }
-            Ok(Item::End) => return print_summary(alloc, &tally, lent.out),
-            Err(fault) => return print_fault(alloc, fault, reader.record_number(), lent.out),
+            Ok(Item::End) => return print_summary(alloc, style, &tally, lent.out),
+            Err(fault) => {
+                return print_fault(alloc, style, fault, reader.record_number(), lent.out);
+            }
         }
     }
 }
@@ -120,6 +132,7 @@ fn take_records<D: Disk, S: Source, K: Sink, L>(
 // Replays the trace over an accepted image, whose generation is printed first.
 fn replay_over<D: Disk, S: Source, K: Sink, L>(
     alloc: Global,
+    style: Style,
     mut checker: Checker,
     lent: &mut Outside<'_, '_, '_, '_, D, S, K, L>,
 ) -> Result<u8, Halt>
@@ -130,7 +143,7 @@ fn replay_over<D: Disk, S: Source, K: Sink, L>(
         StandsFor checker (first_state image) → D.bytes lent.old.disk.now ≡ Some image →
         IsBytes bytes → S.left lent.old.trace.now ≡ Some bytes →
         K.kept lent.old.out.now ≡ Some kept →
-        IfOk result (λ status. ReplaysAs image bytes kept status
+        IfOk result (λ status. ReplaysAs style image bytes kept status
         (D.bytes lent.new.disk.now) (S.left lent.new.trace.now) (K.kept lent.new.out.now)) }
     ensures status { IfOk result IsOutcomeStatus }
     ensures same { IsSameOutside lent.old lent.new }
@@ -140,10 +153,10 @@ fn replay_over<D: Disk, S: Source, K: Sink, L>(
     match superblock(lent.disk, &checker.cache) {
         Ok(Ok(sup)) => {
             let generation = sup.generation;
-            print(alloc, lent.out, &Line::Image { generation })?;
-            take_records(alloc, &mut checker, lent)
+            print(alloc, style, lent.out, &Line::Image { generation })?;
+            take_records(alloc, style, &mut checker, lent)
         }
-        Ok(Err(finding)) => refuse(alloc, finding, lent.out),
+        Ok(Err(finding)) => refuse(alloc, style, finding, lent.out),
         Err(Fault::Disk) => Err(Halt::Device),
         Err(Fault::NoMemory) => Err(Halt::Memory),
     }
@@ -152,12 +165,13 @@ fn replay_over<D: Disk, S: Source, K: Sink, L>(
 // Replays the trace over the disk's image, or refuses the image. A refused image leaves the trace unread.
 pub fn replay<D: Disk, S: Source, K: Sink, L>(
     alloc: Global,
+    style: Style,
     lent: &mut Outside<'_, '_, '_, '_, D, S, K, L>,
 ) -> Result<u8, Halt>
     ensures outcome { (image bytes kept : List ℕ) → D.bytes lent.old.disk.now ≡ Some image →
         IsBytes bytes → S.left lent.old.trace.now ≡ Some bytes →
         K.kept lent.old.out.now ≡ Some kept →
-        IfOk result (λ status. ReplaysAs image bytes kept status
+        IfOk result (λ status. ReplaysAs style image bytes kept status
         (D.bytes lent.new.disk.now) (S.left lent.new.trace.now) (K.kept lent.new.out.now)) }
     ensures status { IfOk result IsOutcomeStatus }
     ensures same { IsSameOutside lent.old lent.new }
@@ -165,8 +179,8 @@ pub fn replay<D: Disk, S: Source, K: Sink, L>(
         (faults_lent D.Disk S.Source K.Sink lent.new) result }
 {
     match Checker::start(alloc, lent.disk, lent.steps) {
-        Ok(Started::Ready(checker)) => replay_over(alloc, checker, lent),
-        Ok(Started::Refused(finding)) => refuse(alloc, finding, lent.out),
+        Ok(Started::Ready(checker)) => replay_over(alloc, style, checker, lent),
+        Ok(Started::Refused(finding)) => refuse(alloc, style, finding, lent.out),
         Err(Stop::DiskFault) => Err(Halt::Device),
         Err(Stop::NoMemory) => Err(Halt::Memory),
         Err(Stop::PastEnd { .. } | Stop::Closed) => unreachable!(),

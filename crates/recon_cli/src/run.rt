@@ -3,6 +3,7 @@
 ghost use Rattle.std.specs.Prelude.{ℕ, ◌≡◌, ◌≤◌, ◌↔◌, ◌⊎◌, List, Some, map, string_bytes};
 ghost use Rattle.verdict.specs.declared.machine.Event.{Event as AnEvent};
 ghost use Rattle.trace_reader.specs.Trace.{Ending, IsBytes, IsTrace};
+ghost use Rattle.recon_cli.specs.declared.lines.Style.{Style};
 ghost use Rattle.recon_cli.specs.Words.{IsForm, IsNoForm};
 ghost use Rattle.recon_cli.specs.Outcome.{replay_outcome};
 ghost use Rattle.recon_cli.specs.Run.{ChecksAs, ComesOut, HadNoFault, HasStatusCause, IsCheckStatus, IsOutcomeStatus, faults_of, record_limit};
@@ -17,9 +18,10 @@ use std::alloc::Global;
 
 /// Does what the words ask for, over a disk, a trace and a place for lines, and answers the status.
 ///
-/// The words are those behind the program's name: `check IMAGE` for the full check of the disk's image, or
-/// `replay IMAGE` for the replay of the trace over it. IMAGE is not looked at. A check leaves the disk's bytes,
-/// takes nothing from the trace, and ends with 0, 1, 4, 6 or 7.
+/// The words are those behind the program's name: `check IMAGE` for the full check of the disk's image,
+/// `replay IMAGE` for the replay of the trace over it, or `replay --json IMAGE` for the same with its lines
+/// as JSON. IMAGE is not looked at: the words `replay --json` are the second form. A check leaves the disk's
+/// bytes, takes nothing from the trace, and ends with 0, 1, 4, 6 or 7.
 ///
 /// | Status | Meaning |
 /// |---|---|
@@ -43,11 +45,12 @@ pub fn recon_run<D: Disk, S: Source, K: Sink, L>(
     // through exactly when the full check of the image that it would produce accepts; otherwise it is rejected
     // with that check's own finding; the device then holds the starting image with exactly the writes of what
     // was let through. So says the outcome, step by step.
-    ensures replay { IsForm Form.Replay (map string_bytes words.now) → IsOutcomeStatus result →
+    ensures replay { (style : Style) → IsForm (Form.Replay style) (map string_bytes words.now) →
+        IsOutcomeStatus result →
         (image bytes kept : List ℕ) → D.bytes disk.old ≡ Some image →
         S.left trace.old ≡ Some bytes → IsBytes bytes → K.kept out.old ≡ Some kept →
         (events : List AnEvent) (ending : Ending) → IsTrace record_limit bytes events ending →
-        ComesOut (replay_outcome image events ending) bytes kept result
+        ComesOut (replay_outcome style image events ending) bytes kept result
         (D.bytes disk.new) (S.left trace.new) (K.kept out.new) }
 
     // A check of the image prints what the full check says of it. It leaves the disk's bytes and the trace.
@@ -78,8 +81,9 @@ pub fn recon_run<D: Disk, S: Source, K: Sink, L>(
             Ok(said) => said,
             Err(halt) => status_of(halt),
         },
-        Some(Form::Replay) => match replay(
+        Some(Form::Replay(style)) => match replay(
             alloc,
+            style,
             &mut Outside {
                 disk,
                 trace,

@@ -2,8 +2,8 @@
 
 use crate::fixtures::Piece::{Bytes, FirstMib, NoMagic, Place};
 use crate::fixtures::{
-    ACCEPTED, AT_PLACE, CHECK, END, HEADER, Object, Piece, REPLAY, disk_over, fails_in_turn,
-    run_with, trace_of, wrong_replay,
+    ACCEPTED, AT_PLACE, CHECK, END, HEADER, Object, Piece, REPLAY, REPLAY_JSON, disk_over,
+    fails_in_turn, run_with, trace_of, wrong_replay,
 };
 use image_maker::base_image;
 use recon_disk::Op;
@@ -44,11 +44,11 @@ const BROKEN: [(&[Piece], &str); 10] = [
         "trace fault 2 BadTag record 1",
     ),
     (
-        &[HEADER, Bytes(b"\x02"), END],
+        &[HEADER, Bytes(b"\x04"), END],
         "trace fault 2 BadTag record 1",
     ),
     (
-        &[HEADER, Bytes(b"\x03"), END],
+        &[HEADER, Bytes(b"\0"), END],
         "trace fault 2 BadTag record 1",
     ),
     (
@@ -127,10 +127,14 @@ fn each_trace_has_its_lines(rt: HostRuntime) -> Result<(), Fail> {
 #[test]
 fn other_words_do_nothing(rt: HostRuntime) -> Result<(), Fail> {
     let alloc = rt.alloc();
-    let rows: [&[&str]; 7] = [
+    let rows: [&[&str]; 11] = [
         &[],
         &["replay"],
         &["replay", "a", "b"],
+        &["replay", "a", "--json"],
+        &["replay", "--JSON", "a"],
+        &["replay", "--json", "a", "b"],
+        &["check", "--json", "a"],
         &["Replay", "x"],
         &["check"],
         &["check", "a", "b"],
@@ -151,13 +155,16 @@ fn a_failed_call_ends_the_run(rt: HostRuntime) -> Result<(), Fail> {
     let commit = trace_of(alloc, &[HEADER, AT_LAST, AT_PLACE, Place, END])?;
     let lines =
         "image accepted generation 1\ncommit 1 passed generation 1 blocks 0 hot 0\nend passed 1 rejected 0\n";
-    let rows: [(&[&str], Object, u8, &str); 9] = [
+    let json =
+        "{\"event\":\"image\",\"generation\":1,\"result\":\"accepted\"}\n{\"blocks\":0,\"event\":\"commit\",\"generation\":1,\"hot\":0,\"number\":1,\"result\":\"passed\"}\n{\"event\":\"end\",\"passed\":1,\"rejected\":0}\n";
+    let rows: [(&[&str], Object, u8, &str); 10] = [
         (REPLAY, Object::Disk(Op::Length), 4, lines),
         (REPLAY, Object::Disk(Op::Read), 4, lines),
         (REPLAY, Object::Disk(Op::Write), 4, lines),
         (REPLAY, Object::Disk(Op::Flush), 4, lines),
         (REPLAY, Object::Source, 5, lines),
         (REPLAY, Object::Sink, 6, lines),
+        (REPLAY_JSON, Object::Sink, 6, json),
         (CHECK, Object::Disk(Op::Length), 4, ACCEPTED),
         (CHECK, Object::Disk(Op::Read), 4, ACCEPTED),
         (CHECK, Object::Sink, 6, ACCEPTED),

@@ -8,7 +8,7 @@ ghost use Rattle.recon_cli.specs.Outcome.{answer_text, is_settle, tally_after};
 ghost use Rattle.recon_cli.specs.Run.{HasPrintCause, HasTurnCause, Turns};
 
 use crate::halt::Halt;
-use crate::lines::print;
+use crate::lines::{Style, print};
 use crate::tally::Tally;
 use recon_core::Checker;
 use recon_disk::{Disk, Sink, Steps};
@@ -31,6 +31,7 @@ fn begin_and_kind(event: &Event) -> (u64, bool)
 // Counts an answer and prints its line; a write that waits has none.
 fn report_answer<K: Sink>(
     alloc: Global,
+    style: Style,
     tally: &mut Tally,
     at: u64,
     settle: bool,
@@ -39,14 +40,14 @@ fn report_answer<K: Sink>(
 ) -> Result<(), Halt>
     requires { tally.old.passed + tally.old.rejected + 1 < 2 ^ 64 }
     ensures printed { OnOk result (K.kept out.new ≡
-        option_map (λ kept. kept ++ answer_text tally.old at settle answer) (K.kept out.old)) }
+        option_map (λ kept. kept ++ answer_text style tally.old at settle answer) (K.kept out.old)) }
     ensures tally { tally.new ≡ tally_after tally.old answer }
     ensures cause { HasPrintCause (K.faults out.old) (K.faults out.new) result }
 {
     let number = tally.passed + tally.rejected + 1;
     match answer {
         Answer::Held => Ok(()),
-        Answer::Fetched(bytes) => print(alloc, out, &Line::Fetched { at, bytes }),
+        Answer::Fetched(bytes) => print(alloc, style, out, &Line::Fetched { at, bytes }),
         Answer::Passed {
             generation,
             blocks,
@@ -55,6 +56,7 @@ fn report_answer<K: Sink>(
             tally.passed += 1;
             print(
                 alloc,
+                style,
                 out,
                 &Line::Passed {
                     settle,
@@ -69,6 +71,7 @@ fn report_answer<K: Sink>(
             tally.rejected += 1;
             print(
                 alloc,
+                style,
                 out,
                 &Line::Rejected {
                     settle,
@@ -84,6 +87,7 @@ fn report_answer<K: Sink>(
 // event passes the end of the device.
 pub fn take_event<D: Disk, K: Sink, L>(
     alloc: Global,
+    style: Style,
     checker: &mut Checker,
     tally: &mut Tally,
     place: u64,
@@ -99,7 +103,7 @@ pub fn take_event<D: Disk, K: Sink, L>(
     requires room { tally.old.passed + tally.old.rejected + 1 < 2 ^ 64 }
     ensures turns { (state : MachineState) (kept : List ℕ) → StandsFor checker.old state →
         D.bytes disk.old ≡ Some state.image → K.kept out.old ≡ Some kept →
-        IfOk result (λ status. Turns state place tally.old event kept status
+        IfOk result (λ status. Turns style state place tally.old event kept status
         checker.new tally.new (D.bytes disk.new) (K.kept out.new)) }
     ensures status { IfOk result (λ status. IfSome status (λ n. n ≡ 3)) }
     ensures open { OnOk result (checker.new.closed ≡ false) }
@@ -114,12 +118,13 @@ pub fn take_event<D: Disk, K: Sink, L>(
     let (at, settle) = begin_and_kind(&event);
     match checker.event(alloc, disk, event, steps) {
         Ok(answer) => {
-            report_answer(alloc, tally, at, settle, answer, out)?;
+            report_answer(alloc, style, tally, at, settle, answer, out)?;
             Ok(None)
         }
         Err(Stop::PastEnd { at, len, end }) => {
             print(
                 alloc,
+                style,
                 out,
                 &Line::Past {
                     place,

@@ -1,5 +1,5 @@
 use Rattle.std.proofs.Common.{◌++◌, sym, ◌∙◌, subst}
-use Rattle.report.specs.Lines.{text_line}
+use Rattle.recon_cli.specs.Outcome.{line_in}
 use Rattle.report.specs.declared.line.Line.TheVariants.{Image}
 use Rattle.recon_core.specs.Standing.{IsBelow, first_state}
 use Rattle.recon_core.proofs.Steps.{below_none}
@@ -13,9 +13,9 @@ take_records-requires-clause-below g c = subst (IsBelow c.args.checker.length) (
 pub returns-in-Ok-Ok-clause-outcome : goal.returns-in-Ok-Ok-clause-outcome
 returns-in-Ok-Ok-clause-outcome g c image bytes kept stands told lawful left printed =
     let accepted = accepted_is image c.args.checker.cache (g.D.Disk.bytes c.args.lent.now.disk.now) c.in-Ok-Ok.field-0 c.in-Ok-Ok.sup c.requires.empty told c.in-Ok-Ok.ensures.found c.in-Ok-Ok.field-0-is stands.lawful.accepted in
-    each_ok c.take_records.result (λ status run. replays_accepted image bytes kept c.in-Ok-Ok.sup.generation status _ _ _ accepted lawful run)
-    (c.take_records.ensures.outcome (first_state image) bytes (kept ++ text_line (Image c.in-Ok-Ok.sup.generation)) stands (c.in-Ok-Ok.ensures.kept.bytes ∙ told) lawful left
-    (printed_at (g.K.Sink.kept c.print.new.out) (g.K.Sink.kept c.args.lent.now.out.now) kept (text_line (Image c.in-Ok-Ok.sup.generation)) printed c.in_ok-print-in-Ok-Ok.ensures.printed))
+    each_ok c.take_records.result (λ status run. replays_accepted c.args.style image bytes kept c.in-Ok-Ok.sup.generation status _ _ _ accepted lawful run)
+    (c.take_records.ensures.outcome (first_state image) bytes (kept ++ line_in c.args.style (Image c.in-Ok-Ok.sup.generation)) stands (c.in-Ok-Ok.ensures.kept.bytes ∙ told) lawful left
+    (printed_at (g.K.Sink.kept c.print.new.out) (g.K.Sink.kept c.args.lent.now.out.now) kept (line_in c.args.style (Image c.in-Ok-Ok.sup.generation)) printed c.in_ok-print-in-Ok-Ok.ensures.printed))
 
 pub returns-in-Ok-Err-clause-outcome : goal.returns-in-Ok-Err-clause-outcome
 returns-in-Ok-Err-clause-outcome g c image bytes kept stands told lawful left printed =
