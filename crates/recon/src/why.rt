@@ -6,6 +6,7 @@ use std::fmt;
 const HELP: &str = "checks a Btrfs volume, and each commit to it before it is let through
   recon check IMAGE           checks the whole volume in the file or device IMAGE
   recon replay IMAGE < TRACE  replays recorded writes over IMAGE, and writes to it what passes
+  recon replay --json IMAGE < TRACE  the same, with each line as JSON
 IMAGE has to be readable and writable, and must not be mounted.";
 
 /// Why a run ended before its outcome.
@@ -67,7 +68,7 @@ impl fmt::Display for Why<'_> {
             Why::NoForm => {
                 write!(
                     f,
-                    "the forms of words are: recon check IMAGE, recon replay IMAGE < TRACE"
+                    "the forms of words are: recon check IMAGE, recon replay [--json] IMAGE < TRACE"
                 )
             }
             Why::Unopened(image) => {
