@@ -138,8 +138,8 @@ fn each_trace_has_its_text_and_its_json(rt: HostRuntime) -> Result<(), Fail> {
             "{json}"
         );
     }
-    assert!(rt; part(disk.bytes(), 30_408_704, 4) == b"ABCD");
-    assert!(rt; part(other.bytes(), 30_408_704, 4) == b"ABCD");
+    assert!(rt; part(disk.bytes(), 30_408_704, 4) == b"ABCD".as_slice());
+    assert!(rt; part(other.bytes(), 30_408_704, 4) == b"ABCD".as_slice());
     Ok(())
 }
 
