@@ -1,6 +1,6 @@
 -- The lines as JSON, row by row. A line is one object with no space between its parts, whose members
 -- stand in the order of the bytes of their names.
-use Rattle.std.specs.Prelude.{ℕ, ◌≡◌, List, [], ◌∷◌, ◌++◌, length, codes, Bool, false}
+use Rattle.std.specs.Prelude.{ℕ, ◌≡◌, List, ◌++◌, length, codes, false}
 use Rattle.std.specs.Fmt.{decimal}
 use Rattle.hex.specs.Hex.{encode_lower}
 use Rattle.serde_json.specs.declared.value.Value.{Value}

@@ -1,4 +1,4 @@
-use Rattle.std.proofs.Common.{◌≡◌, string_bytes, rules}
+use Rattle.std.proofs.Common.{string_bytes, rules}
 use Rattle.serde_json.specs.declared.value.Value.{the_lemmas}
 use Rattle.report.proofs.Objects.{finding_written}
 use Rattle.report.proofs.json_text.finding_value.Goals as goal

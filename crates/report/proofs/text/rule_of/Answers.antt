@@ -1,6 +1,4 @@
-use Rattle.std.proofs.Common.{◌≡◌, append_assoc, string_bytes, arith}
-use Rattle.json.specs.Print.{escape}
-use Rattle.report.specs.Lines.{rule_text}
+use Rattle.std.proofs.Common.{append_assoc, string_bytes, arith}
 use Rattle.report.proofs.Said.{said, letter_printed}
 use Rattle.report.proofs.Plain.{rule_plain, whatever}
 use Rattle.report.proofs.text.rule_of.Goals as goal
