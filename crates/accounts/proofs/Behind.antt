@@ -40,12 +40,13 @@ more old mid new (Ok t) (Ok u) first later posts done rest =
 more old mid new (Ok t) (Err e) first later posts done rest =
     record {
       all = tt;
-      some =
-          (length first + rest.some.0,
-           rest.some.1
-           ∙ ap (λ l. l ++ take rest.some.0 later) posts.all
-           ∙ append_assoc old first (take rest.some.0 later)
-           ∙ ap (λ l. old ++ l) (sym (take-append-add first later rest.some.0)));
+      some = (
+        length first + rest.some.0,
+        rest.some.1
+            ∙ ap (λ l. l ++ take rest.some.0 later) posts.all
+            ∙ append_assoc old first (take rest.some.0 later)
+            ∙ ap (λ l. old ++ l) (sym (take-append-add first later rest.some.0)),
+      );
     }
 
 -- some postings were put, and others behind them

@@ -69,6 +69,22 @@ unfolding kept_sums with_postings
 above_kept entry p above = fun_ext (λ account.
     sym (kept_more account.kind (sums_at (entry account)) (total_of (p ∷ []) account) ∙ ap (kept account.kind) (above_added p account above (sums_at (entry account)))))
 
+zero_case : (b : Bool) (f amount : ℕ) → amount ≡ 0 → f + (cond b amount 0 + 0) ≡ f
+zero_case true f amount zero = omega (zero, arith)
+zero_case false f amount zero = omega arith
+
+-- a posting of zero adds to nothing
+zero_added : (p : Posting) (account : Account) → p.amount ≡ 0 → (f : ℕ → ℕ)
+    → (λ n. f n + total_of (p ∷ []) account n) ≡ f
+unfolding added total_of
+zero_added p account zero f = fun_ext (λ n. zero_case (is_same p.account account && (p.field == n && nat_lt n 9)) (f n) p.amount zero)
+
+-- a posting of zero leaves what is kept
+pub zero_kept : (entry : Account → Option Totals) (p : Posting) → p.amount ≡ 0 → kept_sums entry ≡ with_postings (kept_sums entry) (p ∷ [])
+unfolding kept_sums with_postings
+zero_kept entry p zero = fun_ext (λ account.
+    sym (kept_more account.kind (sums_at (entry account)) (total_of (p ∷ []) account) ∙ ap (kept account.kind) (zero_added p account zero (sums_at (entry account)))))
+
 -- the entries after, where that of the posting's account is changed and others stay
 at_account : (entry after : Account → Option Totals) (p : Posting) (w : Option Totals) (account : Account) (b : Bool) → is_same p.account account ≡ b
     → p.field < 9

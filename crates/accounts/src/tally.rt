@@ -1,18 +1,16 @@
 //! The sums of all accounts that are posted to.
 
-ghost use Rattle.std.specs.BTreeMap.{get};
-ghost use Rattle.std.specs.Prelude.{◌≡◌, ℕ, List, [], ◌∷◌, OnOk};
+ghost use Rattle.std.specs.Prelude.{◌≡◌, List, [], ◌∷◌, OnOk};
 ghost use Rattle.accounts.specs.declared.postings.Posting.{Posting as APosting};
 ghost use Rattle.std.specs.Option.{option_copied};
 ghost use Rattle.accounts.specs.Least.{least_broken};
-ghost use Rattle.accounts.specs.Order.{account_cmp};
-ghost use Rattle.accounts.specs.Sums.{sum_in};
-ghost use Rattle.accounts.specs.Tally.{no_sums, sums_at, sums_in, with_postings};
+ghost use Rattle.accounts.specs.Tally.{no_sums, sums_in, with_postings};
 
-use crate::totals::balances;
+use crate::totals::is_settled;
 use crate::{Account, Posting, Postings, Totals, broken};
 use std::alloc::Global;
 use std::collections::BTreeMap;
+use std::collections::btree_map::Entry;
 use verdict::NoMemory;
 
 /// The sums of the accounts that are posted to. Of an account whose rule is that two sums are equal it keeps their
@@ -51,30 +49,26 @@ impl Tally {
             (sums_in self.new ≡ with_postings (sums_in self.old) (posting ∷ [])) }
     {
         let field = usize::from(posting.field);
-        if field > 8 {
+        if field > 8 || posting.amount == 0 {
             return Ok(());
         }
         let kind = posting.account.kind;
-        let mut totals = self.totals_of(&posting.account);
-        totals.add(kind, field, posting.amount)?;
-        if balances(kind) && totals.f[0] == totals.f[1] {
-            self.entries.remove(&posting.account);
-            return Ok(());
-        }
-        match self.entries.insert(posting.account, totals) {
-            Ok(_) => Ok(()),
+        match self.entries.entry(posting.account) {
+            Ok(Entry::Occupied(mut entry)) => {
+                let totals = entry.get_mut();
+                totals.add(kind, field, posting.amount)?;
+                if is_settled(kind, totals) {
+                    entry.remove();
+                }
+                Ok(())
+            }
+            Ok(Entry::Vacant(entry)) => {
+                let mut totals = Totals::zero();
+                totals.add(kind, field, posting.amount)?;
+                entry.insert(totals);
+                Ok(())
+            }
             Err(_) => Err(NoMemory),
-        }
-    }
-
-    // The sums of an account.
-    fn totals_of(&self, account: &Account) -> Totals
-        ensures { (n : ℕ) →
-            sum_in result n ≡ sums_at (get account_cmp self.now.entries account.now) n }
-    {
-        match self.entries.get(account) {
-            Some(totals) => *totals,
-            None => Totals::zero(),
         }
     }
 

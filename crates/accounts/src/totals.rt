@@ -1,6 +1,6 @@
 //! The sums of an account, and the rule that they keep.
 
-ghost use Rattle.std.specs.Prelude.{◌≡◌, ℕ, ◌<◌, OnOk};
+ghost use Rattle.std.specs.Prelude.{◌≡◌, ◌&&◌, ◌==◌, ℕ, ◌<◌, OnOk};
 ghost use Rattle.accounts.specs.Sums.{sum_in};
 ghost use Rattle.accounts.specs.Tally.{balances, kept, with_amount};
 ghost use Rattle.accounts.specs.Broken.{broken_finding, extent_keeps, group_keeps, inode_keeps, is_broken, sector_keeps};
@@ -49,6 +49,13 @@ pub fn balances(kind: u8) -> bool
     ensures { result ≡ balances kind }
 {
     matches!(kind, 1 | 2 | 11 | 12 | 14..=18)
+}
+
+// Whether an account of this kind with these sums stands as one without postings: its difference is zero.
+pub fn is_settled(kind: u8, totals: &Totals) -> bool
+    ensures { result ≡ balances kind && sum_in totals.now 0 == sum_in totals.now 1 }
+{
+    balances(kind) && totals.f[0] == totals.f[1]
 }
 
 /// Whether an account with these sums is broken. The line of its kind decides; a kind without one has no rule.
