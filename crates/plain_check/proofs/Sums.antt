@@ -76,5 +76,5 @@ unfolding accounts_in
 told_decided None m context sup array chunks roots start final found other begins held is same = tt
 told_decided (Some image) m context sup array chunks roots start final found other begins held is same =
     decided context sup chunks roots (all_records sup array chunks roots (overlaid m 0 image)) final found
-      (ap (λ s. held_after with_record s (records_in sup array chunks roots (overlaid m 0 image))) (sym begins) ∙ held) is
+    (ap (λ s. held_after with_record s (records_in sup array chunks roots (overlaid m 0 image))) (sym begins) ∙ held) is
     ∙ ap (λ f. finding_or f (tt {0})) same

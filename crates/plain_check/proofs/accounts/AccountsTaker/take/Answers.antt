@@ -10,6 +10,6 @@ returns g c =
     let context = g.C.Ctx.context c.args.self.now.context.now in
     let posted = postings_of context (located c.args.one.now) in
     on_both c.add_all.result c.add_all.ensures.sums c.add_all.ensures.taken (λ sums none.
-      ap (λ s. (context, s))
-        (taken c.args.self.now.tally c.add_all.new.self c.args.self.now.waiting c.add_all.new.postings posted
-          (sums ∙ ap (with_postings (sums_in c.args.self.now.tally)) c.in_ok-post.ensures) none))
+    ap (λ s. (context, s))
+    (taken c.args.self.now.tally c.add_all.new.self c.args.self.now.waiting c.add_all.new.postings posted
+    (sums ∙ ap (with_postings (sums_in c.args.self.now.tally)) c.in_ok-post.ensures) none))
