@@ -194,9 +194,11 @@ fn a_run_that_ends_early_keeps_its_lines(rt: HostRuntime) -> Result<(), Fail> {
     let base = base_image(alloc)?;
     let mut disk = disk_over(alloc, base.as_slice(), &[])?;
     let trace = trace_of(alloc, &[HEADER, END])?;
-    let rows: [(&[u64], &[(u64, usize)], u8, &str); 3] = [
+    let rows: [(&[u64], &[(u64, usize)], u8, &str); 4] = [
         (&[2], &[], 5, ACCEPTED),
         (&[], &[(1, 5)], 6, "image"),
+        // The second line has a write of its own.
+        (&[], &[(2, 3)], 6, "image accepted generation 1\nend"),
         (
             &[],
             &[],
