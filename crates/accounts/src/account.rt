@@ -62,12 +62,12 @@ impl Ord for Account {
     fn cmp(&self, other: &Account) -> Ordering {
         self.kind
             .cmp(&other.kind)
-            .then(self.tree.cmp(&other.tree))
-            .then(self.block.cmp(&other.block))
-            .then(self.key.objectid.cmp(&other.key.objectid))
-            .then(self.key.kind.cmp(&other.key.kind))
-            .then(self.key.offset.cmp(&other.key.offset))
-            .then(self.detail.cmp(&other.detail))
+            .then_with(|| self.tree.cmp(&other.tree))
+            .then_with(|| self.block.cmp(&other.block))
+            .then_with(|| self.key.objectid.cmp(&other.key.objectid))
+            .then_with(|| self.key.kind.cmp(&other.key.kind))
+            .then_with(|| self.key.offset.cmp(&other.key.offset))
+            .then_with(|| self.detail.cmp(&other.detail))
             .then_with(|| self.tail.as_slice().cmp(other.tail.as_slice()))
     }
 }
