@@ -12,12 +12,12 @@ ghost use Rattle.plain_check.specs.Accounts.{accounts_in, records_in};
 ghost use Rattle.plain_check.specs.Gives.{Gives, IsOutcome, is_disk_halt};
 ghost use Rattle.plain_check.specs.Takes.{ReadsInto, handing};
 
-use crate::accounts::Accounts;
 use crate::context::NoContext;
 use crate::halt::Halt;
 use crate::primary::read_superblock;
 use crate::read::Volume;
 use crate::roots::{check_roots, chunk_root, named, top_root};
+use crate::summing::Accounts;
 use crate::takers::{Chunks, Roots};
 use crate::walk::walk_into;
 use chunk_map::{ChunkMap, Sys};

@@ -1,7 +1,6 @@
 //! The full check of an image, plain and slow: the disk's bytes with the waiting writes over them.
 #![tactic(auto)]
 
-mod accounts;
 mod check;
 mod context;
 mod halt;
@@ -10,6 +9,7 @@ mod judging;
 mod primary;
 mod read;
 mod roots;
+mod summing;
 mod takers;
 mod walk;
 

@@ -3,7 +3,7 @@ use Rattle.accounts.specs.Tally.{sums_in, with_postings}
 use Rattle.records.specs.Part.{located}
 use Rattle.records.specs.Postings.{postings_of}
 use Rattle.plain_check.proofs.Sums.{on_both, taken}
-use Rattle.plain_check.proofs.accounts.AccountsTaker.take.Goals as goal
+use Rattle.plain_check.proofs.summing.AccountsTaker.take.Goals as goal
 
 pub returns : goal.returns
 returns g c =
