@@ -328,7 +328,7 @@ const SUMS_OF_FOUR: Item = Zeros((18_446_744_073_709_551_606, 128, 13_631_488), 
 
 const SUMS_OF_TWO: Item = Zeros((18_446_744_073_709_551_606, 128, 13_631_488), 8, 0, 0);
 
-const REFERENCES: [(&[Change], &str); 12] = [
+const REFERENCES: &[(&[Change], &str)] = &[
     // An extent that says one use more than there are.
     (
         &[Number(EXTENTS, 16171, 8, 2)],
@@ -676,7 +676,7 @@ const REFERENCES: [(&[Change], &str); 12] = [
 fn who_refers_to_an_extent_is_counted_on_both_sides(rt: HostRuntime) -> Result<(), Fail> {
     let alloc = rt.alloc();
     let base = base_image(alloc)?;
-    assert_eq!(rt; wrong_finding(alloc, base.as_slice(), &REFERENCES)?, None);
+    assert_eq!(rt; wrong_finding(alloc, base.as_slice(), REFERENCES)?, None);
     Ok(())
 }
 

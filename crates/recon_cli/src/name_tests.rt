@@ -129,7 +129,7 @@ const SUBVOLUME: Row = Row {
     ..PASSES
 };
 
-const NAMES: [Row; 15] = [
+const NAMES: &[Row] = &[
     Row {
         size: 10,
         files: &[HASHED, INDEXED, FILE, NAME],
@@ -250,7 +250,7 @@ const HOLE: Record = Range(257, 0, 1, 0, 4096);
 
 const RESERVED: Record = Range(257, 4096, 2, DATA, 8192);
 
-const BYTES: [Row; 6] = [
+const BYTES: &[Row] = &[
     Row {
         size: 10,
         files: &[
@@ -324,7 +324,7 @@ const BYTES: [Row; 6] = [
     },
 ];
 
-const SUBVOLUMES: [Row; 8] = [
+const SUBVOLUMES: &[Row] = &[
     SUBVOLUME,
     Row {
         roots: &[Root(1)],
@@ -675,8 +675,8 @@ fn wrong_commit(alloc: Global, base: &[u8], rows: &[Row]) -> Result<Option<usize
 fn what_a_commit_says_of_names_agrees(rt: HostRuntime) -> Result<(), Fail> {
     let alloc = rt.alloc();
     let base = base_image(alloc)?;
-    assert_eq!(rt; wrong_commit(alloc, base.as_slice(), &NAMES)?, None);
-    assert_eq!(rt; wrong_commit(alloc, base.as_slice(), &BYTES)?, None);
-    assert_eq!(rt; wrong_commit(alloc, base.as_slice(), &SUBVOLUMES)?, None);
+    assert_eq!(rt; wrong_commit(alloc, base.as_slice(), NAMES)?, None);
+    assert_eq!(rt; wrong_commit(alloc, base.as_slice(), BYTES)?, None);
+    assert_eq!(rt; wrong_commit(alloc, base.as_slice(), SUBVOLUMES)?, None);
     Ok(())
 }
