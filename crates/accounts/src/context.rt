@@ -1,7 +1,7 @@
 //! What the postings of one record rest on beside the record itself.
 
-ghost use Rattle.std.specs.Prelude.{◌≡◌, false};
-ghost use Rattle.accounts.specs.Context.{Context as AContext, home_of, is_sum_free};
+ghost use Rattle.std.specs.Prelude.{◌≡◌, ◌+◌, ◌<◌, ◌^◌, IfSome, false};
+ghost use Rattle.accounts.specs.Context.{Context as AContext, home_of};
 
 /// The chunk that holds a range of logical addresses whole.
 #[derive(Clone, Copy, Debug, PartialEq, Eq)]
@@ -20,13 +20,14 @@ pub trait Ctx {
     ghost context: { Self → AContext };
 
     /// The first chunk that holds `len` bytes from a logical address on whole, or `None` exactly where there is
-    /// none.
+    /// none. No chunk passes the end of 64 bits.
     fn home(&self, addr: u64, len: u64) -> Option<Home>
-        ensures { result ≡ home_of (context self.now) addr len };
+        ensures home { result ≡ home_of (context self.now) addr len }
+        ensures fits { IfSome result (λ _. addr + len < 2 ^ 64) };
 
     /// Whether the flag `NODATASUM` of an inode of this tree is set, so that its data has no checksums.
     fn sum_free(&self, tree: u64, ino: u64) -> bool
-        ensures { result ≡ is_sum_free (context self.now) tree ino };
+        ensures { result ≡ (context self.now).sum_free tree ino };
 
     /// The size of a tree block in bytes.
     fn nodesize(&self) -> u32

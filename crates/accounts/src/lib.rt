@@ -14,4 +14,4 @@ pub use context::{Ctx, Home};
 pub use laws::least_broken_law;
 pub use postings::{Posting, Postings};
 pub use tally::Tally;
-pub use totals::{Totals, broken, finding_of};
+pub use totals::{Totals, broken, finding_of, sector_keeps};

@@ -16,7 +16,7 @@ pub struct Totals {
 }
 
 impl Totals {
-    // No sum.
+    /// No sum.
     pub fn zero() -> Totals
         ensures { (n : ℕ) → sum_in result n ≡ 0 }
     {
@@ -99,8 +99,9 @@ fn extent_keeps(totals: &Totals) -> bool
     }
 }
 
-// The rule on a sector.
-fn sector_keeps(totals: &Totals) -> bool
+/// Whether the sums of a sector keep their rule: it is of one extent at most; it has one checksum at most, and then
+/// file data; and where files show it, a checksum.
+pub fn sector_keeps(totals: &Totals) -> bool
     ensures { result ≡ sector_keeps (sum_in totals.now) }
 {
     let f = &totals.f;

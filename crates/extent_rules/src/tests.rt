@@ -8,9 +8,9 @@ use verdict::Key;
 struct Empty;
 
 impl Ctx for Empty {
-    ghost use Rattle.std.specs.Prelude.{[]};
+    ghost use Rattle.std.specs.Prelude.{[], false};
 
-    ghost context = { λ _. record { chunks = []; nodesize = 16384; sum_free = [] } };
+    ghost context = { λ _. record { chunks = []; nodesize = 16384; sum_free = λ _ _. false } };
 
     fn home(&self, _addr: u64, _len: u64) -> Option<Home> {
         None

@@ -1,6 +1,6 @@
 //! What records post, one of each kind and by each of its sides.
 
-ghost use Rattle.std.specs.Prelude.{[]};
+ghost use Rattle.std.specs.Prelude.{[], false};
 
 use crate::post;
 use accounts::{Ctx, Home, Posting, Postings};
@@ -13,7 +13,7 @@ use verdict::{Key, NoMemory};
 struct NoChunk;
 
 impl Ctx for NoChunk {
-    ghost context = { λ _. record { chunks = []; nodesize = 16384; sum_free = [] } };
+    ghost context = { λ _. record { chunks = []; nodesize = 16384; sum_free = λ _ _. false } };
 
     fn home(&self, _addr: u64, _len: u64) -> Option<Home> {
         None

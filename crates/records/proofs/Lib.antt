@@ -1,3 +1,4 @@
 pub mod Alike
 pub mod Accepted
 pub mod Lawful
+pub mod SectorSums

@@ -1,6 +1,6 @@
 -- The context of an image: what the records of one item are read by beside the item itself.
-use Rattle.std.specs.Prelude.{ℕ, ◌==◌, bit_and, Option, Some, None, if◌then◌else◌}
-use Rattle.std.specs.List.{filter_map}
+use Rattle.std.specs.Prelude.{ℕ, Bool, ◌&&◌, ◌==◌, bit_and, List, Option, Some, None, if◌then◌else◌}
+use Rattle.std.specs.List.{filter_map, list_any}
 use Rattle.accounts.specs.Context.{Context}
 use Rattle.records.specs.Part.{Located, Part}
 use Rattle.records.specs.Part.Part.{InodePart}
@@ -18,6 +18,14 @@ sum_free_part tree other = None
 abbrev pub sum_free_inode : Located → Option (ℕ × ℕ)
 sum_free_inode one = sum_free_part one.tree one.part
 
+-- whether a pair is that of an inode of a tree
+abbrev pub is_inode : ℕ → ℕ → ℕ × ℕ → Bool
+is_inode tree ino one = one.0 == tree && one.1 == ino
+
+-- whether one of some records is the item of an inode of a tree, with NODATASUM
+abbrev pub has_sum_free : List Located → ℕ → ℕ → Bool
+has_sum_free records tree ino = list_any (is_inode tree ino) (filter_map sum_free_inode records)
+
 -- the context of an image that holds this
 abbrev pub context_of : Contents → Context
-context_of held = record { chunks = held.chunks; nodesize = held.sup.nodesize; sum_free = filter_map sum_free_inode held.records }
+context_of held = record { chunks = held.chunks; nodesize = held.sup.nodesize; sum_free = has_sum_free held.records }

@@ -1,5 +1,6 @@
 -- What a record says, as a plain value, and where it stands.
-use Rattle.std.specs.Prelude.{◌≡◌, ℕ, ◌+◌, ◌*◌, ◌/◌, ◌^◌, ◌<◌, List, length}
+use Rattle.std.specs.Prelude.{◌≡◌, ℕ, ◌+◌, ◌*◌, ◌/◌, ◌^◌, ◌<◌, true, List, length}
+use Rattle.verdict.specs.Items.{is_multiple}
 use Rattle.verdict.specs.declared.key.Key.{Key}
 use Rattle.volume_items.specs.declared.root.RootItem.{RootItem}
 use Rattle.volume_items.specs.RootLinkRow.{RootLinkFields}
@@ -78,22 +79,15 @@ part_of (Block address level) = BlockPart address level
 abbrev pub located : RecAt → Located
 located one = record { tree = one.tree; block = one.block; key = one.key; part = part_of one.part }
 
--- an extent with file data ends at an address of 64 bits
-abbrev pub DataFits : ExtentFields → Type 0
-DataFits item = item.key.kind ≡ 168 → item.key.objectid + item.key.offset < 2 ^ 64
+-- bytes from an address on begin at a sector, and end at an address of 64 bits
+abbrev pub AreSectors : ℕ → ℕ → Type 0
+AreSectors at n = (is_multiple at ≡ true) × (at + n < 2 ^ 64)
 
--- the part of an extent that a range of a file shows does, where it has one
-abbrev pub RangeFits : FileExtent → Type 0
-RangeFits range = 0 < range.extent → range.extent + range.offset + range.length < 2 ^ 64
-
--- the sectors of checksums, four bytes a sector, do
-abbrev pub SumsFit : SumFields → Type 0
-SumsFit item = item.key.offset + 4096 * (length item.sums / 4) < 2 ^ 64
-
--- what the readers see to of a record by itself: its range ends at an address of 64 bits, that of a chunk too
+-- what the readers see to of a record by itself. A chunk ends at an address of 64 bits. An extent begins at a sector; so does the part of one
+-- that a range of a file shows, where it has an extent, and what checksums are of, four bytes a sector: these end at addresses of 64 bits too
 abbrev pub IsLawful : Part → Type 0
 IsLawful (ChunkPart fields) = fields.key.offset + fields.length < 2 ^ 64
-IsLawful (ExtentPart item) = DataFits item
-IsLawful (FileExtentPart range) = RangeFits range
-IsLawful (SumsPart item) = SumsFit item
+IsLawful (ExtentPart item) = is_multiple item.key.objectid ≡ true
+IsLawful (FileExtentPart range) = 0 < range.extent → AreSectors (range.extent + range.offset) range.length
+IsLawful (SumsPart item) = AreSectors item.key.offset (4096 * (length item.sums / 4))
 IsLawful other = Unit {0}

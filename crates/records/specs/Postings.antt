@@ -9,10 +9,13 @@ use Rattle.records.specs.Part.{Located}
 use Rattle.records.specs.ExtentPostings.{extent_postings}
 use Rattle.records.specs.InodePostings.{inode_postings}
 use Rattle.records.specs.DirPostings.{dir_postings}
+use Rattle.records.specs.SpacePostings.{space_postings}
 
 -- what a record posts, a family of accounts after the other
 abbrev pub postings_of : Context → Located → List Posting
-postings_of context one = extent_postings one.tree one.part ++ (inode_postings one.tree one.part ++ dir_postings one.tree one.part)
+postings_of context one =
+    extent_postings one.tree one.part
+    ++ (inode_postings one.tree one.part ++ (dir_postings one.tree one.part ++ space_postings context one.tree one.part))
 
 -- what the records of an image post
 abbrev pub all_postings : Context → List Located → List Posting

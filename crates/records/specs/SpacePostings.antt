@@ -1,5 +1,6 @@
 -- What a record says of the space of the volume and of the device: the accounts A5 to A8, A15, A16 and A18.
-use Rattle.std.specs.Prelude.{ℕ, zero, suc, ◌+◌, ◌/◌, ◌^◌, ◌<◌, Bool, not, ◌&&◌, ◌==◌, bit_and, List, [], ◌∷◌, ◌++◌, length, map, flat_map, Option, Some, None, IfSome, if◌then◌else◌}
+use Rattle.std.specs.Prelude.{ℕ, zero, suc, ◌+◌, ◌/◌, Bool, not, ◌&&◌, ◌==◌, bit_and, List, [], ◌∷◌, ◌++◌, length, map, flat_map, Option, Some, None, if◌then◌else◌}
+use Rattle.std.specs.List.{filter}
 use Rattle.volume_items.specs.ChunkRow.{ChunkFields}
 use Rattle.volume_items.specs.declared.dev_extent.DevExtent.{DevExtent}
 use Rattle.extent_items.specs.ExtentRow.{ExtentFields}
@@ -8,10 +9,11 @@ use Rattle.fs_items.specs.declared.file_extent.FileExtent.{FileExtent}
 use Rattle.fs_items.specs.SumsRow.{SumFields}
 use Rattle.accounts.specs.declared.postings.Posting.{Posting}
 use Rattle.accounts.specs.declared.context.Home.{Home}
-use Rattle.accounts.specs.Context.{Context, home_of, is_sum_free}
+use Rattle.accounts.specs.Context.{Context, home_of}
+use Rattle.accounts.specs.Sums.{total_of}
 use Rattle.accounts.specs.Kinds.{sector, group, group_of, group_class, outside, stripe, bytes_used, device}
 use Rattle.records.specs.Post.{to}
-use Rattle.records.specs.Part.{Part, RangeFits, SumsFit}
+use Rattle.records.specs.Part.{Part}
 use Rattle.records.specs.Part.Part.{SuperPart, ChunkPart, DevicePart, DevExtentPart, GroupPart, ExtentPart, FileExtentPart, SumsPart}
 
 -- the size of a sector in bytes
@@ -82,7 +84,7 @@ extent_place_postings context item =
 -- whether a range of a file shows sectors that have sums: it is written, no hole, and its inode's data has sums
 abbrev pub shows_sums : Context → ℕ → FileExtent → Bool
 shows_sums context tree range =
-    range.sort == 1 && (not (range.extent == 0) && not (is_sum_free context tree range.key.objectid))
+    range.sort == 1 && (not (range.extent == 0) && not (context.sum_free tree range.key.objectid))
 
 -- the sectors that a range of a file shows of its extent, where that has a home
 abbrev pub shown_postings : FileExtent → Option Home → List Posting
@@ -110,14 +112,14 @@ space_postings context tree (FileExtentPart range) = range_sector_postings conte
 space_postings context tree (SumsPart item) = sum_postings item
 space_postings context tree other = []
 
--- the sectors of an extent that a chunk holds end at addresses of 64 bits
-abbrev pub PlaceFits : Context → ExtentFields → Type 0
-PlaceFits context item =
-    IfSome (home_of context item.key.objectid (extent_length context item)) (λ _. item.key.objectid + extent_length context item < 2 ^ 64)
+-- whether a posting is to a sector, A5
+abbrev pub is_to_sector : Posting → Bool
+is_to_sector posting = posting.account.kind == 5
 
--- the sectors that a record posts to end at addresses of 64 bits
-abbrev pub SectorsFit : Context → Part → Type 0
-SectorsFit context (ExtentPart item) = PlaceFits context item
-SectorsFit context (FileExtentPart range) = RangeFits range
-SectorsFit context (SumsPart item) = SumsFit item
-SectorsFit context other = Unit {0}
+-- what a record posts to A6, A7, A8, A15, A16 and A18 alone
+abbrev pub rest_postings : Context → ℕ → Part → List Posting
+rest_postings context tree part = filter (λ posting. not (is_to_sector posting)) (space_postings context tree part)
+
+-- what a record posts to the sums of a sector
+abbrev pub sector_sum : Context → ℕ → Part → ℕ → ℕ → ℕ
+sector_sum context tree part address field = total_of (space_postings context tree part) (sector address) field

@@ -7,4 +7,4 @@ mod sectors;
 #[cfg(test)]
 mod tests;
 
-pub use rows::post;
+pub use rows::{post, post_rest, run_of};

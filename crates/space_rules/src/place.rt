@@ -1,13 +1,18 @@
-//! The postings of the place of an extent.
+//! The place of an extent.
 
-ghost use Rattle.std.specs.Prelude.{◌≡◌, ◌+◌, ◌<◌, ◌^◌};
-ghost use Rattle.accounts.specs.Posts.{Posts, PostsWhere};
+ghost use Rattle.std.specs.Prelude.{◌≡◌, ◌+◌, ◌<◌, ◌^◌, [], ◌∷◌, IfSome, Some};
+ghost use Rattle.accounts.specs.Posts.{Posts};
+ghost use Rattle.accounts.specs.Context.{home_of};
+ghost use Rattle.accounts.specs.Kinds.{group_class, group_of, outside};
 ghost use Rattle.extent_items.specs.ExtentItems.{extent_fields_in};
-ghost use Rattle.records.specs.SpacePostings.{PlaceFits, extent_place_postings, is_other_class, place_postings};
+ghost use Rattle.records.specs.Post.{to};
+ghost use Rattle.records.specs.SpacePostings.{extent_length, is_data, is_other_class, place_postings};
+ghost use Rattle.space_rules.specs.RunPostings.{owned_run, rest_of_place, where_home};
 
-use crate::sectors::{SECTOR, post_owned};
+use crate::sectors::post_run;
 use accounts::{Account, Ctx, Home, Posting, Postings};
 use extent_items::ExtentItem;
+use sector_runs::{SECTOR, SectorRun, SectorUse};
 use std::alloc::Global;
 use verdict::NoMemory;
 
@@ -23,17 +28,26 @@ const SYSTEM: u64 = 2;
 /// The type bit of chunks with blocks of the other trees.
 const METADATA: u64 = 4;
 
-// The place of an extent: what it takes of its group and its sectors, or that no chunk has it. The range of an
-// extent that a chunk holds has to end at an address of 64 bits; nothing is posted of another.
-pub fn post_place<C: Ctx>(
-    alloc: Global,
-    ctx: &C,
-    item: &ExtentItem<'_>,
-    into: &mut Postings,
-) -> Result<(), NoMemory>
-    ensures { PostsWhere (PlaceFits (C.context ctx.now) (extent_fields_in item.now))
-        into.old into.new result
-        (extent_place_postings (C.context ctx.now) (extent_fields_in item.now)) }
+/// The place of an extent.
+#[derive(Clone, Copy, Debug)]
+pub struct Place {
+    /// Whether it has file data, and else a tree block.
+    pub of_data: bool,
+    /// Its logical address in bytes.
+    pub address: u64,
+    /// Its length in bytes.
+    pub length: u64,
+    /// The chunk that holds it whole.
+    pub home: Option<Home>,
+}
+
+// The place of the extent that an item is of.
+pub fn place_of<C: Ctx>(ctx: &C, item: &ExtentItem<'_>) -> Place
+    ensures of_data { result.of_data ≡ is_data (extent_fields_in item.now) }
+    ensures address { result.address ≡ item.now.key.objectid }
+    ensures length { result.length ≡ extent_length (C.context ctx.now) (extent_fields_in item.now) }
+    ensures home { result.home ≡ home_of (C.context ctx.now) result.address result.length }
+    ensures fits { IfSome result.home (λ _. result.address + result.length < 2 ^ 64) }
 {
     let of_data = item.key.kind == EXTENT_ITEM;
     let address = item.key.objectid;
@@ -42,34 +56,110 @@ pub fn post_place<C: Ctx>(
     } else {
         u64::from(ctx.nodesize())
     };
-    match ctx.home(address, length) {
-        None => into.push_all([Posting::to(Account::outside(alloc, address), 0, 1)]),
-        Some(home) if length <= u64::MAX - address => {
-            post_in_home(alloc, of_data, address, length, &home, into)
-        }
-        Some(_) => Ok(()),
+    Place {
+        of_data,
+        address,
+        length,
+        home: ctx.home(address, length),
     }
 }
 
-// An extent of a length in bytes that a chunk holds: what it takes of the group, its sectors, and whether the group
-// is of another class.
-fn post_in_home(
-    alloc: Global,
-    of_data: bool,
-    address: u64,
-    length: u64,
-    home: &Home,
-    into: &mut Postings,
-) -> Result<(), NoMemory>
-    requires { address + length < 2 ^ 64 }
-    ensures { Posts into.old into.new result (place_postings of_data address length (Some home.now)) }
-{
-    into.push(Posting::to(Account::group_of(alloc, home), 3, length))?;
-    post_owned(alloc, of_data, address, length / SECTOR, into)?;
-    if is_other_class(of_data, home.class) {
-        into.push(Posting::to(Account::group_class(alloc, address), 0, 1))?;
+impl Place {
+    // What it posts: what it takes of its group, its sectors, and whether the group is of another class; or that no
+    // chunk has it.
+    pub fn post(&self, alloc: Global, into: &mut Postings) -> Result<(), NoMemory>
+        requires { IfSome self.now.home (λ _. self.now.address + self.now.length < 2 ^ 64) }
+        ensures { Posts into.old into.new result
+            (place_postings self.now.of_data self.now.address self.now.length self.now.home) }
+    {
+        match &self.home {
+            Some(home) => self.post_in_home(alloc, home, into),
+            None => self.post_outside(alloc, into),
+        }
     }
-    Ok(())
+
+    // The same without the sectors.
+    pub fn post_rest(&self, alloc: Global, into: &mut Postings) -> Result<(), NoMemory>
+        ensures { Posts into.old into.new result
+            (rest_of_place self.now.of_data self.now.address self.now.length self.now.home) }
+    {
+        match &self.home {
+            Some(home) => self.post_rest_in_home(alloc, home, into),
+            None => self.post_outside(alloc, into),
+        }
+    }
+
+    // The sectors, where a chunk has them.
+    pub fn run(&self) -> Option<SectorRun>
+        ensures { result ≡ where_home self.now.home
+            (owned_run self.now.of_data self.now.address self.now.length) }
+    {
+        self.home.map(|_| self.owned())
+    }
+
+    fn owned(&self) -> SectorRun
+        ensures { result ≡ owned_run self.now.of_data self.now.address self.now.length }
+    {
+        SectorRun {
+            first: self.address,
+            count: self.length / SECTOR,
+            sort: if self.of_data {
+                SectorUse::Data
+            } else {
+                SectorUse::Block
+            },
+        }
+    }
+
+    fn post_in_home(&self, alloc: Global, home: &Home, into: &mut Postings) -> Result<(), NoMemory>
+        requires { self.now.address + self.now.length < 2 ^ 64 }
+        ensures { Posts into.old into.new result
+            (place_postings self.now.of_data self.now.address self.now.length (Some home.now)) }
+    {
+        into.push(self.taken(alloc, home))?;
+        post_run(alloc, self.owned(), into)?;
+        if is_other_class(self.of_data, home.class) {
+            into.push(self.other_class(alloc))?;
+        }
+        Ok(())
+    }
+
+    fn post_rest_in_home(
+        &self,
+        alloc: Global,
+        home: &Home,
+        into: &mut Postings,
+    ) -> Result<(), NoMemory>
+        ensures { Posts into.old into.new result
+            (rest_of_place self.now.of_data self.now.address self.now.length (Some home.now)) }
+    {
+        into.push(self.taken(alloc, home))?;
+        if is_other_class(self.of_data, home.class) {
+            into.push(self.other_class(alloc))?;
+        }
+        Ok(())
+    }
+
+    // What it takes of the group of its home.
+    fn taken(&self, alloc: Global, home: &Home) -> Posting
+        ensures { result ≡ to (group_of home.now) 3 self.now.length }
+    {
+        Posting::to(Account::group_of(alloc, home), 3, self.length)
+    }
+
+    // That its group is of another class.
+    fn other_class(&self, alloc: Global) -> Posting
+        ensures { result ≡ to (group_class self.now.address) 0 1 }
+    {
+        Posting::to(Account::group_class(alloc, self.address), 0, 1)
+    }
+
+    // That no chunk has it.
+    fn post_outside(&self, alloc: Global, into: &mut Postings) -> Result<(), NoMemory>
+        ensures { Posts into.old into.new result (to (outside self.now.address) 0 1 ∷ []) }
+    {
+        into.push_all([Posting::to(Account::outside(alloc, self.address), 0, 1)])
+    }
 }
 
 // Whether chunks of a type do not take such an extent.

@@ -1,27 +1,30 @@
 //! The postings of a record to the accounts of space.
 
-ghost use Rattle.std.specs.Prelude.{◌≡◌};
+ghost use Rattle.std.specs.Prelude.{◌≡◌, ℕ, ◌+◌, ◌*◌, ◌<◌, ◌^◌, Some, IfSome};
 ghost use Rattle.accounts.specs.Posts.{Posts, PostsWhere};
 ghost use Rattle.fs_items.specs.Lent.{sums_in};
 ghost use Rattle.volume_items.specs.ChunkItems.{fields_in};
-ghost use Rattle.records.specs.Part.{RangeFits, SumsFit, part_of};
+ghost use Rattle.sector_runs.specs.Runs.{IsFit, amount_in};
+ghost use Rattle.records.specs.Part.{IsLawful, part_of};
+ghost use Rattle.records.specs.Part.Part.{FileExtentPart, SumsPart};
 ghost use Rattle.records.specs.SpacePostings.{
-  SectorsFit,
   chunk_postings,
   dev_extent_postings,
   group_postings,
-  range_sector_postings,
+  rest_postings,
+  sector_sum,
   shows_sums,
   space_postings,
-  sum_postings,
 };
+ghost use Rattle.space_rules.specs.RunPostings.{run_in, summed_run};
 
-use crate::place::post_place;
-use crate::sectors::{SECTOR, post_marked};
+use crate::place::place_of;
+use crate::sectors::{post_run_in, sectors_at};
 use accounts::{Account, Ctx, Posting, Postings};
 use extent_items::GroupItem;
 use fs_items::{FileExtent, SumRun};
 use records::Rec;
+use sector_runs::{SECTOR, SectorRun, SectorUse};
 use std::alloc::Global;
 use verdict::NoMemory;
 use volume_items::{ChunkItem, DevExtent};
@@ -32,8 +35,7 @@ const REGULAR: u8 = 1;
 /// Puts behind the postings what a record of a tree, by the tree's id, says of the space of the volume and of the
 /// device: the superblock, chunks, the device and its ranges, block groups, extents, ranges of files, and checksums.
 /// The accounts take their memory from this allocator. Where memory is wanting a first part of these postings may
-/// stand there. The sectors of a record have to end at addresses of 64 bits; of another record nothing is said but
-/// that the old postings stand in front.
+/// stand there. Of a record that no reader gives nothing is said but that the old postings stand in front.
 #[tactic(auto, unfolding(records::specs::SpacePostings::space_postings))]
 pub fn post<C: Ctx>(
     alloc: Global,
@@ -42,8 +44,28 @@ pub fn post<C: Ctx>(
     part: &Rec<'_>,
     into: &mut Postings,
 ) -> Result<(), NoMemory>
-    ensures { PostsWhere (SectorsFit (C.context ctx.now) (part_of part.now))
+    ensures { PostsWhere (IsLawful (part_of part.now))
         into.old into.new result (space_postings (C.context ctx.now) tree (part_of part.now)) }
+{
+    match part {
+        Rec::ExtentItem(item) => place_of(ctx, item).post(alloc, into),
+        Rec::FileExtent(range) => post_run_in(alloc, shown_run(ctx, tree, range), into),
+        Rec::SumRun(run) => post_run_in(alloc, summed_run(run), into),
+        _ => post_rest(alloc, ctx, tree, part, into),
+    }
+}
+
+/// Puts the same postings there, in the same order, without those to sectors.
+#[tactic(auto, unfolding(records::specs::SpacePostings::space_postings))]
+pub fn post_rest<C: Ctx>(
+    alloc: Global,
+    ctx: &C,
+    tree: u64,
+    part: &Rec<'_>,
+    into: &mut Postings,
+) -> Result<(), NoMemory>
+    ensures { Posts into.old into.new result
+        (rest_postings (C.context ctx.now) tree (part_of part.now)) }
 {
     match part {
         Rec::Super { bytes_used } => {
@@ -55,10 +77,25 @@ pub fn post<C: Ctx>(
         }
         Rec::DevExtent(item) => post_dev_extent(alloc, item, into),
         Rec::GroupItem(item) => post_group(alloc, item, into),
-        Rec::ExtentItem(item) => post_place(alloc, ctx, item, into),
-        Rec::FileExtent(range) => post_range(alloc, ctx, tree, range, into),
-        Rec::SumRun(run) => post_sums(alloc, run, into),
+        Rec::ExtentItem(item) => place_of(ctx, item).post_rest(alloc, into),
         _ => Ok(()),
+    }
+}
+
+/// The run of sectors that a record of a tree, by the tree's id, is of: those that an extent has, that checksums are
+/// of, or that a range of a file shows. It comes to what the record posts to sectors, and `None` to nothing. Nothing
+/// is said of a record that no reader gives.
+pub fn run_of<C: Ctx>(ctx: &C, tree: u64, part: &Rec<'_>) -> Option<SectorRun>
+    ensures sums { IsLawful (part_of part.now) → (address field : ℕ) →
+        sector_sum (C.context ctx.now) tree (part_of part.now) address field
+        ≡ amount_in result address field }
+    ensures fits { IsLawful (part_of part.now) → IfSome result IsFit }
+{
+    match part {
+        Rec::ExtentItem(item) => place_of(ctx, item).run(),
+        Rec::FileExtent(range) => shown_run(ctx, tree, range),
+        Rec::SumRun(run) => summed_run(run),
+        _ => None,
     }
 }
 
@@ -108,26 +145,17 @@ fn post_group(alloc: Global, item: &GroupItem, into: &mut Postings) -> Result<()
 
 // The sectors that a range of a file shows of an extent that a chunk holds: where it is written, no hole, and its
 // inode's data has checksums.
-fn post_range<C: Ctx>(
-    alloc: Global,
-    ctx: &C,
-    tree: u64,
-    range: &FileExtent,
-    into: &mut Postings,
-) -> Result<(), NoMemory>
-    ensures { PostsWhere (RangeFits range.now) into.old into.new result
-        (range_sector_postings (C.context ctx.now) tree range.now) }
+fn shown_run<C: Ctx>(ctx: &C, tree: u64, range: &FileExtent) -> Option<SectorRun>
+    ensures is { IsLawful (FileExtentPart range.now) →
+        result ≡ run_in (C.context ctx.now) tree (FileExtentPart range.now) }
+    ensures fits { IfSome result (λ run. run.first + 4096 * run.count < 2 ^ 64) }
 {
     if !shows_sums(ctx, tree, range) || ctx.home(range.extent, range.extent_length).is_none() {
-        return Ok(());
+        return None;
     }
     // No reader gives a part that ends past the addresses of 64 bits.
-    let behind = u64::MAX - range.extent;
-    if range.offset > behind || range.length > behind - range.offset {
-        return Ok(());
-    }
-    let shown = range.extent + range.offset;
-    post_marked(alloc, shown, range.length / SECTOR, 3, into)
+    let shown = range.extent.checked_add(range.offset)?;
+    sectors_at(shown, range.length / SECTOR, SectorUse::Shown)
 }
 
 // Whether a range of a file shows sectors that have checksums.
@@ -137,15 +165,12 @@ fn shows_sums<C: Ctx>(ctx: &C, tree: u64, range: &FileExtent) -> bool
     range.sort == REGULAR && range.extent != 0 && !ctx.sum_free(tree, range.key.objectid)
 }
 
-// Checksums of sectors.
-fn post_sums(alloc: Global, run: &SumRun<'_>, into: &mut Postings) -> Result<(), NoMemory>
-    ensures { PostsWhere (SumsFit (sums_in run.now)) into.old into.new result
-        (sum_postings (sums_in run.now)) }
+// The sectors that checksums are of.
+fn summed_run(run: &SumRun<'_>) -> Option<SectorRun>
+    ensures is { IsLawful (SumsPart (sums_in run.now)) →
+        result ≡ Some (summed_run (sums_in run.now)) }
+    ensures fits { IfSome result (λ run. run.first + 4096 * run.count < 2 ^ 64) }
 {
-    // No reader gives checksums of sectors past the addresses of 64 bits.
     let count = run.sums.len() as u64 / 4;
-    if count > (u64::MAX - run.key.offset) / SECTOR {
-        return Ok(());
-    }
-    post_marked(alloc, run.key.offset, count, 2, into)
+    sectors_at(run.key.offset, count, SectorUse::Summed)
 }

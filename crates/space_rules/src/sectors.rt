@@ -1,68 +1,69 @@
-//! The postings of a range of sectors.
+//! Runs of sectors, and their postings.
 
-ghost use Rattle.std.specs.Prelude.{◌+◌, ◌*◌, ◌<◌, ◌^◌, map, flat_map};
-ghost use Rattle.accounts.specs.Kinds.{sector};
+ghost use Rattle.std.specs.Prelude.{◌≡◌, ◌+◌, ◌*◌, ◌<◌, ◌^◌, Some, IfSome};
 ghost use Rattle.accounts.specs.Posts.{Posts};
-ghost use Rattle.records.specs.Post.{to};
-ghost use Rattle.records.specs.SpacePostings.{owned_postings, sectors_from};
+ghost use Rattle.space_rules.specs.RunPostings.{run_postings, run_postings_in, use_postings};
 
 use accounts::{Account, Posting, Postings};
+use sector_runs::{SECTOR, SectorRun, SectorUse};
 use std::alloc::Global;
 use verdict::NoMemory;
 
-/// The size of a sector in bytes.
-pub const SECTOR: u64 = 4096;
+// So many sectors from an address on, or `None` where they end past the addresses of 64 bits.
+pub fn sectors_at(first: u64, count: u64, sort: SectorUse) -> Option<SectorRun>
+    ensures some { first + 4096 * count < 2 ^ 64 →
+        result ≡ Some (record { first = first; count = count; sort = sort }) }
+    ensures fits { IfSome result (λ run. run.first + 4096 * run.count < 2 ^ 64) }
+{
+    if count > (u64::MAX - first) / SECTOR {
+        return None;
+    }
+    Some(SectorRun { first, count, sort })
+}
 
-// An amount of 1 to one sum of each of so many sectors from an address on.
-pub fn post_marked(
+// The postings of a run, if there is one.
+pub fn post_run_in(
     alloc: Global,
-    address: u64,
-    count: u64,
-    field: u8,
+    run: Option<SectorRun>,
     into: &mut Postings,
 ) -> Result<(), NoMemory>
-    requires { address + 4096 * count < 2 ^ 64 }
-    ensures { Posts into.old into.new result
-        (map (λ one. to (sector one) field 1) (sectors_from address count)) }
+    requires { IfSome run (λ run. run.first + 4096 * run.count < 2 ^ 64) }
+    ensures { Posts into.old into.new result (run_postings_in run) }
 {
-    for i in 0..count {
-        let sector = Account::sector(alloc, address + i * SECTOR);
-        into.push(Posting::to(sector, field, 1))?;
+    match run {
+        Some(run) => post_run(alloc, run, into),
+        None => Ok(()),
+    }
+}
+
+// The postings of a run, sector by sector.
+pub fn post_run(alloc: Global, run: SectorRun, into: &mut Postings) -> Result<(), NoMemory>
+    requires { run.first + 4096 * run.count < 2 ^ 64 }
+    ensures { Posts into.old into.new result (run_postings run) }
+{
+    for i in 0..run.count {
+        post_sector(alloc, run.sort, run.first + i * SECTOR, into)?;
     }
     Ok(())
 }
 
-// So many sectors from an address on, which an extent has.
-pub fn post_owned(
+// A sector that is used so.
+fn post_sector(
     alloc: Global,
-    of_data: bool,
-    address: u64,
-    count: u64,
-    into: &mut Postings,
-) -> Result<(), NoMemory>
-    requires { address + 4096 * count < 2 ^ 64 }
-    ensures { Posts into.old into.new result
-        (flat_map (owned_postings of_data) (sectors_from address count)) }
-{
-    for i in 0..count {
-        post_owned_sector(alloc, of_data, address + i * SECTOR, into)?;
-    }
-    Ok(())
-}
-
-// A sector that an extent has, of file data or else of a tree block.
-fn post_owned_sector(
-    alloc: Global,
-    of_data: bool,
+    sort: SectorUse,
     address: u64,
     into: &mut Postings,
 ) -> Result<(), NoMemory>
-    ensures { Posts into.old into.new result (owned_postings of_data address) }
+    ensures { Posts into.old into.new result (use_postings sort address) }
 {
-    let owned = Posting::to(Account::sector(alloc, address), 0, 1);
-    if of_data {
-        into.push_all([owned, Posting::to(Account::sector(alloc, address), 1, 1)])
-    } else {
-        into.push_all([owned])
+    let sector = Account::sector(alloc, address);
+    match sort {
+        SectorUse::Data => into.push_all([
+            Posting::to(sector, 0, 1),
+            Posting::to(Account::sector(alloc, address), 1, 1),
+        ]),
+        SectorUse::Block => into.push_all([Posting::to(sector, 0, 1)]),
+        SectorUse::Summed => into.push_all([Posting::to(sector, 2, 1)]),
+        SectorUse::Shown => into.push_all([Posting::to(sector, 3, 1)]),
     }
 }
