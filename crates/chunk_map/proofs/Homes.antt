@@ -1,16 +1,17 @@
 -- The chunk that holds a range whole, found by its start.
-use Rattle.std.proofs.Common.{◌≡◌, ℕ, zero, suc, ◌+◌, ◌-◌, ◌<◌, ◌≤◌, true, false, cond, List, [], ◌∷◌, length, get_or, refl, ap, sym, subst, ◌∙◌, arith, nat_le, ⊎_elim}
+use Rattle.std.proofs.Common.{◌≡◌, ℕ, zero, suc, ◌+◌, ◌-◌, ◌<◌, ◌≤◌, ◌^◌, Bool, true, false, cond, List, [], ◌∷◌, length, get_or, refl, ap, sym, subst, ◌∙◌, arith, nat_le, ⊎_elim}
 use Rattle.std.specs.Prelude.{Option, Some, None}
 use Rattle.std.specs.Option.{IfSome}
 use Rattle.std.specs.List.{All, Contains}
 use Rattle.std.proofs.lemmas.Bool.{and_parts, leb-true, both_ways, cases_lt}
+use Rattle.std.proofs.lemmas.Bool.Decides.{nat_tests}
 use Rattle.std.proofs.lemmas.List.{get_or_default}
 use Rattle.std.proofs.lemmas.List.Elements.{All-tail}
 use Rattle.std.proofs.lemmas.List.Sorted.{All-permutation, Contains-permutation, IsPermutation-sym}
 use Rattle.verdict.specs.Chunks.{holds_range, home}
 use Rattle.verdict.specs.declared.place.Chunk.{Chunk}
 use Rattle.volume_items.specs.ChunkOrder.{by_start}
-use Rattle.chunk_map.specs.Order.{rank_by_start, Ascend, AreApart, IsOnlyHome}
+use Rattle.chunk_map.specs.Order.{rank_by_start, AllFit, Ascend, AreApart, IsOnlyHome}
 use Rattle.chunk_map.proofs.Ranks.{rank_below, rank_above, rank_low, by_start-permutes}
 
 -- of chunks that are apart only the last that starts at most at a byte can hold it
@@ -88,3 +89,12 @@ home_by_start chunks sorted a n found order is =
     let P : Chunk → Type 0 = λ chunk. holds_range chunk a n ≡ true → found ≡ Some chunk in
     let only : All P chunks = All-permutation P (by_start chunks) chunks back (subst (All P) order is.only) in
     sym (only_home chunks a n found only (moved chunks sorted a n found order is.there))
+
+-- of chunks that all end at addresses of 64 bits, what the first that holds a range holds does
+home_fits_in : (chunk : Chunk) (a n : ℕ) (holds : Bool) (later : Option Chunk) → holds_range chunk a n ≡ holds → chunk.start + chunk.length ≤ 18446744073709551615 → IfSome later (λ _. a + n < 2 ^ 64) → IfSome (cond holds (Some chunk) later) (λ _. a + n < 2 ^ 64)
+home_fits_in chunk a n true later is fits rest = grind (arith, nat_tests)
+home_fits_in chunk a n false later is fits rest = rest
+
+pub home_fits : (chunks : List Chunk) (a n : ℕ) → AllFit chunks → IfSome (home chunks a n) (λ _. a + n < 2 ^ 64)
+home_fits [] a n fit = tt
+home_fits (chunk ∷ chunks) a n fit = home_fits_in chunk a n (holds_range chunk a n) (home chunks a n) refl fit.0 (home_fits chunks a n fit.1)

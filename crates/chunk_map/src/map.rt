@@ -126,12 +126,14 @@ impl ChunkMap {
         }
     }
 
-    // The first chunk of the list that holds `len` bytes from a logical address on whole. Where no two
-    // chunks overlap it is the only one that can hold a byte.
-    fn home(&self, addr: u64, len: u64) -> Option<Chunk>
+    /// The first chunk of the list that holds `len` bytes from a logical address on whole, or `None` exactly
+    /// where none does. It costs a binary search where no two chunks overlap, else a pass over the list.
+    #[tactic(auto, using(crate::proofs::Homes::home_fits))]
+    pub fn home(&self, addr: u64, len: u64) -> Option<Chunk>
         ensures home { result ≡ home self.now addr len }
         ensures held { IfSome result (λ chunk.
             (chunk.start ≤ addr) × (addr - chunk.start + len < 2 ^ 64)) }
+        ensures fits { IfSome result (λ _. addr + len < 2 ^ 64) }
     {
         if self.apart && len > 0 {
             home_apart(&self.sorted, addr, len)

@@ -1,17 +1,15 @@
--- The step of the accounts, and what is made of records by one that keeps their sums.
+-- These words serve private functions alone: the step of the accounts.
 use Rattle.std.specs.Prelude.{ℕ, List, ◌∷◌, Result, Ok}
 use Rattle.verdict.specs.Rules.{and_then, finding_or}
 use Rattle.verdict.specs.declared.finding.Finding.{Finding}
 use Rattle.verdict.specs.declared.place.Chunk.{Chunk}
 use Rattle.super_reader.specs.declared.Super.{Super}
 use Rattle.volume_items.specs.declared.root.RootItem.{RootItem}
-use Rattle.accounts.specs.Context.{Context}
-use Rattle.accounts.specs.Tally.{Sums, with_postings}
 use Rattle.records.specs.Part.{Located}
 use Rattle.records.specs.Walk.{Records, just, then_records}
 use Rattle.records.specs.Contents.{Contents, all_records, super_record}
 use Rattle.records.specs.Context.{context_of}
-use Rattle.records.specs.Postings.{account_fault, postings_of}
+use Rattle.records.specs.Postings.{account_fault}
 
 -- what an image holds whose trees have these records
 abbrev pub with_records : Super → List Chunk → List RootItem → List Located → Contents
@@ -29,7 +27,3 @@ accounts_of held = finding_or (account_fault (context_of held) held.records) (tt
 unfoldable pub accounts_in : Super → List Chunk → List Chunk → List RootItem → List ℕ → Result (Unit {0}) Finding
 accounts_in sup array chunks roots image =
     and_then (all_records sup array chunks roots image) (λ records. accounts_of (with_records sup chunks roots records))
-
--- the sums with what one record more posts, in a context
-abbrev pub with_record : Context × Sums → Located → Context × Sums
-with_record held one = (held.0, with_postings held.1 (postings_of held.0 one))

@@ -12,14 +12,13 @@ ghost use Rattle.plain_check.specs.Accounts.{accounts_in, records_in};
 ghost use Rattle.plain_check.specs.Gives.{Gives, IsOutcome, is_disk_halt};
 ghost use Rattle.plain_check.specs.Takes.{ReadsInto, handing};
 
-use crate::context::NoContext;
 use crate::halt::Halt;
 use crate::primary::read_superblock;
 use crate::read::Volume;
 use crate::roots::{check_roots, chunk_root, named, top_root};
-use crate::summing::Accounts;
 use crate::takers::{Chunks, Roots};
 use crate::walk::walk_into;
+use account_sums::Accounts;
 use chunk_map::{ChunkMap, Sys};
 use recon_disk::Disk;
 use records::{Rec, RecAt, Taker};
@@ -129,7 +128,7 @@ fn check_accounts<D: Disk>(
         (λ image. accounts_in sup base.now.map.now volume.now.map.now roots.now image) }
     ensures kept { Kept D.Disk disk.old disk.new (is_disk_halt result) }
 {
-    let mut accounts = Accounts::new(alloc, &NoContext);
+    let mut accounts = Accounts::new(alloc, volume.map, volume.sup.nodesize);
     read_all(alloc, disk, base, volume, roots, &mut accounts)?;
     match accounts.finding()? {
         Some(found) => Err(Halt::Found(found)),

@@ -2,14 +2,12 @@
 #![tactic(auto)]
 
 mod check;
-mod context;
 mod halt;
 mod items;
 mod judging;
 mod primary;
 mod read;
 mod roots;
-mod summing;
 mod takers;
 mod walk;
 

@@ -1,0 +1,13 @@
+use Rattle.std.proofs.Common.{◌≡◌, ◌∙◌, ap, sym}
+use Rattle.std.specs.Option.{option_copied}
+use Rattle.account_sums.specs.Kept.{summed_in}
+use Rattle.account_sums.proofs.Decided.{decided}
+use Rattle.account_sums.proofs.summing.Accounts.finding.Goals as goal
+
+pub returns : goal.returns
+returns c = λ chunks nodesize records taken.
+    c.first_of.ensures
+    ∙ decided chunks nodesize records (summed_in c.args.self.now) (option_copied c.least_broken-2.result) c.in_ok-sector.sector
+    taken
+    (λ ps is. c.least_broken-2.ensures ps (c.in_ok-add_all.ensures.sums ∙ is))
+    c.in_ok-sector.ensures

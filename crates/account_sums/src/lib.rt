@@ -1,0 +1,8 @@
+//! The sums of all accounts of an image: what its records say, and whether others say it too.
+#![tactic(auto)]
+
+mod context;
+mod shown;
+mod summing;
+
+pub use summing::Accounts;

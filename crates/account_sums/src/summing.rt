@@ -1,0 +1,110 @@
+//! The accounts of an image: what its records say and others must say too.
+
+ghost use Rattle.std.specs.Prelude.{ℕ, ◌≡◌, List, ◌++◌, IfOk, OnOk, option_map};
+ghost use Rattle.std.specs.Option.{option_copied};
+ghost use Rattle.verdict.specs.declared.place.Chunk.{Chunk as AChunk};
+ghost use Rattle.accounts.specs.Broken.{broken_finding};
+ghost use Rattle.std.specs.List.{fold};
+ghost use Rattle.records.specs.Context.{has_sum_free};
+ghost use Rattle.records.specs.Part.{Located, located};
+ghost use Rattle.records.specs.Postings.{account_fault};
+ghost use Rattle.account_sums.specs.Kept.{chosen, summed_in};
+ghost use Rattle.account_sums.specs.Sums.{Summed, context_with, of_none, rest_of, with_record};
+
+use crate::context::ImageContext;
+use crate::shown::SectorTally;
+use accounts::{Account, Postings, Tally, finding_of};
+use chunk_map::ChunkMap;
+use records::{RecAt, Taker};
+use std::alloc::Global;
+use verdict::{Finding, NoMemory};
+
+/// The kind of the account of a sector.
+const SECTOR_KIND: u8 = 5;
+
+/// What the records say that were taken, as sums of accounts, in the context of an image.
+#[derive(Debug, Drop)]
+pub struct Accounts<'a> {
+    alloc: Global,
+    // The context.
+    context: ImageContext<'a>,
+    // The sums, but for those of sectors.
+    tally: Tally,
+    // What is not yet added to them.
+    waiting: Postings,
+    // The sums of sectors.
+    sectors: SectorTally,
+}
+
+impl<'a> Accounts<'a> {
+    /// Those of no records, of an image with these chunks and this size of a tree block in bytes. They take their
+    /// memory from this allocator.
+    pub fn new(alloc: Global, map: &'a ChunkMap, nodesize: u32) -> Accounts<'a>
+        ensures { summed_in result ≡ of_none map.now nodesize }
+    {
+        Accounts {
+            alloc,
+            context: ImageContext { map, nodesize },
+            tally: Tally::new(alloc),
+            waiting: Postings::new(alloc),
+            sectors: SectorTally::new(alloc),
+        }
+    }
+
+    /// The finding of the least account that is broken by the records that were taken. Nothing may be taken behind it.
+    pub fn finding(&mut self) -> Result<Option<Finding>, NoMemory>
+        ensures { IfOk result (λ found. (chunks : List AChunk) (nodesize : ℕ) (records : List Located) →
+            fold with_record (of_none chunks nodesize) records ≡ summed_in self.old →
+            found ≡ account_fault (context_with chunks nodesize (has_sum_free records)) records) }
+    {
+        self.tally.add_all(&mut self.waiting)?;
+        let sector = self.sectors.least_broken()?;
+        Ok(first_of(self.alloc, sector, self.tally.least_broken()))
+    }
+}
+
+// The finding of the lesser of a sector and an account of another kind: sectors stand between the kinds 4 and 6.
+fn first_of(alloc: Global, sector: Option<u64>, account: Option<&Account>) -> Option<Finding>
+    ensures { result ≡ option_map broken_finding (chosen sector (option_copied account.entry)) }
+{
+    let Some(address) = sector else {
+        return match account {
+            Some(account) => Some(finding_of(account)),
+            None => None,
+        };
+    };
+    match account {
+        Some(account) if account.kind < SECTOR_KIND => Some(finding_of(account)),
+        _ => Some(finding_of(&Account::sector(alloc, address))),
+    }
+}
+
+impl<'a> Taker for Accounts<'a> {
+    ghost Held = { Summed };
+
+    ghost held = { summed_in };
+
+    ghost with = { with_record };
+
+    fn take(&mut self, one: &RecAt<'_>) -> Result<(), NoMemory> {
+        post(self.alloc, &self.context, one, &mut self.waiting)?;
+        self.tally.add_all(&mut self.waiting)?;
+        self.sectors.take(&self.context, one)
+    }
+}
+
+// Puts behind the postings what a record posts but to sectors, a family of accounts after the other.
+fn post(
+    alloc: Global,
+    context: &ImageContext<'_>,
+    one: &RecAt<'_>,
+    into: &mut Postings,
+) -> Result<(), NoMemory>
+    ensures { OnOk result (into.new ≡
+        into.old ++ rest_of context.now.map.now context.now.nodesize (located one.now)) }
+{
+    extent_rules::post(alloc, context, one.tree, &one.part, into)?;
+    inode_rules::post(alloc, context, one.tree, &one.part, into)?;
+    dir_rules::post(alloc, context, one.tree, &one.part, into)?;
+    space_rules::post_rest(alloc, context, one.tree, &one.part, into)
+}
