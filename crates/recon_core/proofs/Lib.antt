@@ -4,3 +4,4 @@ pub mod Told
 pub mod Steps
 pub mod Nothing
 pub mod Ordered
+pub mod HeldOrder

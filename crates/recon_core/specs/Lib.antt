@@ -4,3 +4,4 @@ pub mod Stops
 pub mod Sent
 pub mod Judged
 pub mod Order
+pub mod Law

@@ -5,9 +5,11 @@
 mod checker;
 mod fetching;
 mod judging;
+mod laws;
 mod send;
 
 pub use checker::{Checker, Started};
+pub use laws::order_law;
 
 #[cfg(test)]
 mod tests;
