@@ -1,1 +1,13 @@
 pub mod Space
+pub mod Numbers
+pub mod Parts
+pub mod Puts
+pub mod Header
+pub mod Entries
+pub mod Accept
+pub mod ReadBack
+pub mod Keys
+pub mod NodeBack
+pub mod Sizes
+pub mod Rows
+pub mod Long

@@ -1,2 +1,13 @@
+pub mod Ids
+pub mod Numbers
 pub mod Leaf
+pub mod Blocks
 pub mod Maker
+pub mod Sizes
+pub mod Accepted
+pub mod Superblock
+pub mod Items
+pub mod Trees
+pub mod BaseImage
+pub mod Create
+pub mod WiderImage

@@ -1,13 +1,16 @@
 //! The header of a tree block, and its checksum.
 
-ghost use Rattle.std.specs.Prelude.{◌≡◌, ◌+◌, ◌≤◌, ℕ, length, slice_index, drop, IfOk};
+ghost use Rattle.std.specs.Prelude.{◌≡◌, ◌≤◌, ◌++◌, length, drop, IfOk, OnOk};
 ghost use Rattle.recon_bytes.specs.Field.{with_field};
 ghost use Rattle.recon_crc.specs.Checksum.{crc32c_of};
+ghost use Rattle.image_maker.specs.Sizes.{IsKey};
+ghost use Rattle.image_maker.specs.Blocks.{header_bytes, key_bytes, with_sum};
 
-use recon_bytes::{put_u32, put_u64};
+use crate::fields::Fields;
+use recon_bytes::put_u32;
 use recon_crc::crc32c;
 use std::alloc::Global;
-use verdict::{Key, NoMemory};
+use verdict::{Bytes, Key, NoMemory};
 
 /// The fsid of the base image: the bytes 1 to 16.
 pub const FSID: [u8; 16] = [1, 2, 3, 4, 5, 6, 7, 8, 9, 10, 11, 12, 13, 14, 15, 16];
@@ -43,37 +46,45 @@ pub fn with_checksum(block: &mut [u8])
     put_u32(block, 0, sum);
 }
 
-/// A block of zeros.
-pub fn zeros(alloc: Global, len: usize) -> Result<Vec<u8>, NoMemory>
-    ensures len { IfOk result (λ v. length v.items ≡ len) }
-    ensures zero { IfOk result (λ v. (k : ℕ) → slice_index v.items k ≡ 0) }
+/// The block whose bytes from 32 on these are, with the right checksum in front.
+#[tactic(auto, unfolding(crate::specs::Blocks::with_sum))]
+pub fn block_of(alloc: Global, fields: Fields) -> Result<Bytes, NoMemory>
+    ensures { IfOk result (λ b. b ≡ with_sum fields) }
 {
-    match vec![in alloc; 0u8; len] {
-        Ok(zeros) => Ok(zeros),
-        Err(_) => Err(NoMemory),
-    }
+    let bytes = fields.finish();
+    let mut block = Fields::new(alloc);
+    block.four(crc32c(bytes.as_slice()))?;
+    block.zeros(alloc, 28)?;
+    block.bytes(bytes.as_slice())?;
+    Ok(block.finish())
 }
 
-/// Puts the header of 101 bytes, but for the checksum: flags 1, backref revision 1.
-pub fn put_header(block: &mut [u8], header: &BlockHeader, count: u32)
-    requires { 101 ≤ length block.old }
+/// A header but for the checksum: flags 1, backref revision 1.
+#[tactic(auto, unfolding(crate::specs::Blocks::header_bytes, crate::specs::Ids::chunk_tree_uuid))]
+pub fn header_fields(alloc: Global, header: &BlockHeader, count: u32) -> Result<Fields, NoMemory>
+    ensures { IfOk result (λ f. f ≡ header_bytes header.now count) }
 {
-    block[0x20..0x30].copy_from_slice(&header.fsid);
-    put_u64(block, 0x30, header.address);
-    block[0x38] = 1;
-    block[0x3f] = 1;
-    block[0x40..0x50].copy_from_slice(&CHUNK_TREE_UUID);
-    put_u64(block, 0x50, header.generation);
-    put_u64(block, 0x58, header.owner);
-    put_u32(block, 0x60, count);
-    block[0x64] = header.level;
+    let mut fields = Fields::new(alloc);
+    fields.bytes(&header.fsid)?;
+    fields.eight(header.address)?;
+    fields.one(1)?;
+    fields.zeros(alloc, 6)?;
+    fields.one(1)?;
+    fields.bytes(&CHUNK_TREE_UUID)?;
+    fields.eight(header.generation)?;
+    fields.eight(header.owner)?;
+    fields.four(count)?;
+    fields.one(header.level)?;
+    Ok(fields)
 }
 
-/// Puts a key in 17 bytes.
-pub fn put_key(block: &mut [u8], at: usize, key: Key)
-    requires { at + 17 ≤ length block.old }
+/// Appends a key of 17 bytes.
+#[tactic(auto, using(crate::proofs::Parts::key_joined, crate::proofs::Keys::key_sizes))]
+pub fn put_key(fields: &mut Fields, key: Key) -> Result<(), NoMemory>
+    ensures put { OnOk result (fields.new ≡ fields.old ++ key_bytes key) }
+    ensures sizes { IsKey key }
 {
-    put_u64(block, at, key.objectid);
-    block[at + 8] = key.kind;
-    put_u64(block, at + 9, key.offset);
+    fields.eight(key.objectid)?;
+    fields.one(key.kind)?;
+    fields.eight(key.offset)
 }

@@ -1,7 +1,7 @@
 //! Bytes of an on-disk structure, put together field by field.
 
-ghost use Rattle.std.specs.Prelude.{◌≡◌, ◌≤◌, ◌++◌, [], ◌∷◌, OnOk, replicate};
-ghost use Rattle.recon_bytes.specs.Field.{with_field};
+ghost use Rattle.std.specs.Prelude.{◌≡◌, ◌++◌, [], IfOk, OnOk};
+ghost use Rattle.image_maker.specs.Numbers.{u8, u16, u32, u64, zeros};
 
 use recon_bytes::{put_u16, put_u32, put_u64};
 use std::alloc::Global;
@@ -40,8 +40,9 @@ impl Fields {
     }
 
     /// Appends a field of eight bytes, the lowest first.
+    #[tactic(auto, using(crate::proofs::Numbers::fields_alone))]
     pub fn eight(&mut self, n: u64) -> Result<(), NoMemory>
-        ensures { OnOk result (self.new ≡ self.old ++ with_field 8 (replicate 8 0) 0 n) }
+        ensures { OnOk result (self.new ≡ self.old ++ u64 n) }
     {
         let mut field = [0u8; 8];
         put_u64(&mut field, 0, n);
@@ -49,8 +50,9 @@ impl Fields {
     }
 
     /// Appends a field of four bytes, the lowest first.
+    #[tactic(auto, using(crate::proofs::Numbers::fields_alone))]
     pub fn four(&mut self, n: u32) -> Result<(), NoMemory>
-        ensures { OnOk result (self.new ≡ self.old ++ with_field 4 (replicate 4 0) 0 n) }
+        ensures { OnOk result (self.new ≡ self.old ++ u32 n) }
     {
         let mut field = [0u8; 4];
         put_u32(&mut field, 0, n);
@@ -58,8 +60,9 @@ impl Fields {
     }
 
     /// Appends a field of two bytes, the lowest first.
+    #[tactic(auto, using(crate::proofs::Numbers::fields_alone))]
     pub fn two(&mut self, n: u16) -> Result<(), NoMemory>
-        ensures { OnOk result (self.new ≡ self.old ++ with_field 2 (replicate 2 0) 0 n) }
+        ensures { OnOk result (self.new ≡ self.old ++ u16 n) }
     {
         let mut field = [0u8; 2];
         put_u16(&mut field, 0, n);
@@ -67,19 +70,19 @@ impl Fields {
     }
 
     /// Appends one byte.
+    #[tactic(auto, unfolding(crate::specs::Numbers::u8))]
     pub fn one(&mut self, n: u8) -> Result<(), NoMemory>
-        ensures { OnOk result (self.new ≡ self.old ++ n ∷ []) }
+        ensures { OnOk result (self.new ≡ self.old ++ u8 n) }
     {
         self.bytes(&[n])
     }
 
-    /// Appends bytes that are zero, at most 256.
-    pub fn zeros(&mut self, count: usize) -> Result<(), NoMemory>
-        requires { count ≤ 256 }
-        ensures { OnOk result (self.new ≡ self.old ++ replicate count 0) }
+    /// Appends bytes that are zero.
+    pub fn zeros(&mut self, alloc: Global, count: usize) -> Result<(), NoMemory>
+        ensures { OnOk result (self.new ≡ self.old ++ zeros count) }
     {
-        let zeros = [0u8; 256];
-        self.bytes(&zeros[..count])
+        let zeros = zero_bytes(alloc, count)?;
+        self.bytes(&zeros)
     }
 
     /// The bytes so far.
@@ -87,5 +90,16 @@ impl Fields {
         ensures { result ≡ self }
     {
         Bytes::from(self.list)
+    }
+}
+
+/// So many bytes of zero.
+#[tactic(auto, unfolding(crate::specs::Numbers::zeros))]
+pub fn zero_bytes(alloc: Global, count: usize) -> Result<Vec<u8>, NoMemory>
+    ensures { IfOk result (λ v. v.items ≡ zeros count) }
+{
+    match vec![in alloc; 0u8; count] {
+        Ok(zeros) => Ok(zeros),
+        Err(_) => Err(NoMemory),
     }
 }

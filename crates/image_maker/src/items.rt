@@ -1,6 +1,7 @@
 //! The bytes of items.
 
-ghost use Rattle.std.specs.Prelude.{◌<◌, ◌^◌, length};
+ghost use Rattle.std.specs.Prelude.{◌≡◌, ◌<◌, ◌^◌, ◌++◌, length, IfOk, OnOk};
+ghost use Rattle.image_maker.specs.Items.{stripe_bytes, stripes_bytes, chunk_bytes, device_bytes, dev_extent_bytes, root_bytes, metadata_bytes, group_bytes, inode_bytes, inode_ref_bytes, dir_entry_bytes};
 
 use crate::block::{CHUNK_TREE_UUID, DEVICE_UUID, FSID};
 use crate::fields::Fields;
@@ -22,14 +23,44 @@ pub struct ChunkAt {
     pub second: Option<u64>,
 }
 
-fn put_stripe(fields: &mut Fields, physical: u64) -> Result<(), NoMemory> {
+// The stripes of a chunk, behind their number.
+#[tactic(auto, unfolding(crate::specs::Items::stripes_bytes))]
+fn stripes(alloc: Global, first: u64, second: Option<u64>) -> Result<Bytes, NoMemory>
+    ensures { IfOk result (λ b. b ≡ stripes_bytes first second) }
+{
+    let mut fields = Fields::new(alloc);
+    match second {
+        None => {
+            fields.two(1)?;
+            fields.two(0)?;
+            put_stripe(&mut fields, first)?;
+        },
+        Some(second) => {
+            fields.two(2)?;
+            fields.two(0)?;
+            put_stripe(&mut fields, first)?;
+            put_stripe(&mut fields, second)?;
+        },
+    }
+    Ok(fields.finish())
+}
+
+// Appends a stripe.
+#[tactic(auto, using(crate::proofs::Parts::stripe_joined), unfolding(crate::specs::Ids::device_uuid))]
+fn put_stripe(fields: &mut Fields, physical: u64) -> Result<(), NoMemory>
+    ensures { OnOk result (fields.new ≡ fields.old ++ stripe_bytes physical) }
+{
     fields.eight(1)?;
     fields.eight(physical)?;
     fields.bytes(&DEVICE_UUID)
 }
 
 /// A CHUNK_ITEM with owner 2, lengths of 65536 and sectors of 4096 bytes, on the device 1.
-pub fn chunk_item(alloc: Global, chunk: &ChunkAt) -> Result<Bytes, NoMemory> {
+#[tactic(auto, unfolding(crate::specs::Items::chunk_bytes))]
+pub fn chunk_item(alloc: Global, chunk: &ChunkAt) -> Result<Bytes, NoMemory>
+    ensures { IfOk result (λ b. b ≡ chunk_bytes chunk.now) }
+{
+    let stripes = stripes(alloc, chunk.first, chunk.second)?;
     let mut fields = Fields::new(alloc);
     fields.eight(chunk.length)?;
     fields.eight(2)?;
@@ -38,29 +69,30 @@ pub fn chunk_item(alloc: Global, chunk: &ChunkAt) -> Result<Bytes, NoMemory> {
     fields.four(65536)?;
     fields.four(65536)?;
     fields.four(4096)?;
-    fields.two(if chunk.second.is_some() { 2 } else { 1 })?;
-    fields.two(0)?;
-    put_stripe(&mut fields, chunk.first)?;
-    if let Some(second) = chunk.second {
-        put_stripe(&mut fields, second)?;
-    }
+    fields.bytes(stripes.as_slice())?;
     Ok(fields.finish())
 }
 
 /// The DEV_ITEM of the device 1, 98 bytes.
-pub fn device_item(alloc: Global, total_bytes: u64, bytes_used: u64) -> Result<Bytes, NoMemory> {
+#[tactic(auto, unfolding(crate::specs::Items::device_bytes, crate::specs::Ids::device_uuid, crate::specs::Ids::fsid))]
+pub fn device_item(alloc: Global, total_bytes: u64, bytes_used: u64) -> Result<Bytes, NoMemory>
+    ensures { IfOk result (λ b. b ≡ device_bytes total_bytes bytes_used) }
+{
     let mut fields = Fields::new(alloc);
     fields.eight(1)?;
     fields.eight(total_bytes)?;
     fields.eight(bytes_used)?;
-    fields.zeros(42)?;
+    fields.zeros(alloc, 42)?;
     fields.bytes(&DEVICE_UUID)?;
     fields.bytes(&FSID)?;
     Ok(fields.finish())
 }
 
 /// A DEV_EXTENT of 48 bytes, of a stripe of this chunk.
-pub fn dev_extent_item(alloc: Global, chunk: &ChunkAt) -> Result<Bytes, NoMemory> {
+#[tactic(auto, unfolding(crate::specs::Items::dev_extent_bytes, crate::specs::Ids::chunk_tree_uuid))]
+pub fn dev_extent_item(alloc: Global, chunk: &ChunkAt) -> Result<Bytes, NoMemory>
+    ensures { IfOk result (λ b. b ≡ dev_extent_bytes chunk.now) }
+{
     let mut fields = Fields::new(alloc);
     fields.eight(3)?;
     fields.eight(256)?;
@@ -72,28 +104,34 @@ pub fn dev_extent_item(alloc: Global, chunk: &ChunkAt) -> Result<Bytes, NoMemory
 
 /// A ROOT_ITEM of 439 bytes with one reference, of a tree whose root block stands at `bytenr`. `dirid`
 /// is the inode of its root directory, 0 where it has none.
+#[tactic(auto, unfolding(crate::specs::Items::root_bytes))]
 pub fn root_item(
     alloc: Global,
     generation: u64,
     dirid: u64,
     bytenr: u64,
     level: u8,
-) -> Result<Bytes, NoMemory> {
+) -> Result<Bytes, NoMemory>
+    ensures { IfOk result (λ b. b ≡ root_bytes generation dirid bytenr level) }
+{
     let mut fields = Fields::new(alloc);
-    fields.zeros(160)?;
+    fields.zeros(alloc, 160)?;
     fields.eight(generation)?;
     fields.eight(dirid)?;
     fields.eight(bytenr)?;
-    fields.zeros(32)?;
+    fields.zeros(alloc, 32)?;
     fields.four(1)?;
-    fields.zeros(18)?;
+    fields.zeros(alloc, 18)?;
     fields.one(level)?;
-    fields.zeros(200)?;
+    fields.zeros(alloc, 200)?;
     Ok(fields.finish())
 }
 
 /// A METADATA_ITEM of a tree block, with the tree as its one reference, inline.
-pub fn extent_item_of_block(alloc: Global, generation: u64, tree: u64) -> Result<Bytes, NoMemory> {
+#[tactic(auto, unfolding(crate::specs::Items::metadata_bytes))]
+pub fn extent_item_of_block(alloc: Global, generation: u64, tree: u64) -> Result<Bytes, NoMemory>
+    ensures { IfOk result (λ b. b ≡ metadata_bytes generation tree) }
+{
     let mut fields = Fields::new(alloc);
     fields.eight(1)?;
     fields.eight(generation)?;
@@ -104,7 +142,10 @@ pub fn extent_item_of_block(alloc: Global, generation: u64, tree: u64) -> Result
 }
 
 /// A BLOCK_GROUP_ITEM of a chunk of this class, in which so many bytes are used.
-pub fn group_item(alloc: Global, used: u64, class: u64) -> Result<Bytes, NoMemory> {
+#[tactic(auto, unfolding(crate::specs::Items::group_bytes))]
+pub fn group_item(alloc: Global, used: u64, class: u64) -> Result<Bytes, NoMemory>
+    ensures { IfOk result (λ b. b ≡ group_bytes used class) }
+{
     let mut fields = Fields::new(alloc);
     fields.eight(used)?;
     fields.eight(256)?;
@@ -113,13 +154,16 @@ pub fn group_item(alloc: Global, used: u64, class: u64) -> Result<Bytes, NoMemor
 }
 
 /// An INODE_ITEM of 160 bytes with one link.
+#[tactic(auto, unfolding(crate::specs::Items::inode_bytes))]
 pub fn inode_item(
     alloc: Global,
     generation: u64,
     size: u64,
     nbytes: u64,
     mode: u32,
-) -> Result<Bytes, NoMemory> {
+) -> Result<Bytes, NoMemory>
+    ensures { IfOk result (λ b. b ≡ inode_bytes generation size nbytes mode) }
+{
     let mut fields = Fields::new(alloc);
     fields.eight(generation)?;
     fields.eight(0)?;
@@ -129,13 +173,15 @@ pub fn inode_item(
     fields.four(1)?;
     fields.eight(0)?;
     fields.four(mode)?;
-    fields.zeros(104)?;
+    fields.zeros(alloc, 104)?;
     Ok(fields.finish())
 }
 
 /// An INODE_REF with one entry. A name has at most 65,535 bytes.
+#[tactic(auto, unfolding(crate::specs::Items::inode_ref_bytes))]
 pub fn inode_ref_item(alloc: Global, index: u64, name: &[u8]) -> Result<Bytes, NoMemory>
     requires { length name.now < 2 ^ 16 }
+    ensures { IfOk result (λ b. b ≡ inode_ref_bytes index name.now) }
 {
     let mut fields = Fields::new(alloc);
     fields.eight(index)?;
@@ -145,6 +191,7 @@ pub fn inode_ref_item(alloc: Global, index: u64, name: &[u8]) -> Result<Bytes, N
 }
 
 /// An entry of a DIR_ITEM or a DIR_INDEX: a name, and the key and the type of what it leads to.
+#[tactic(auto, unfolding(crate::specs::Items::dir_entry_bytes))]
 pub fn dir_entry(
     alloc: Global,
     location: Key,
@@ -153,6 +200,7 @@ pub fn dir_entry(
     name: &[u8],
 ) -> Result<Bytes, NoMemory>
     requires { length name.now < 2 ^ 16 }
+    ensures { IfOk result (λ b. b ≡ dir_entry_bytes location transid sort name.now) }
 {
     let mut fields = Fields::new(alloc);
     fields.eight(location.objectid)?;

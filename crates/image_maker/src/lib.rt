@@ -11,9 +11,10 @@ mod leaf;
 mod leaf_item;
 mod node;
 mod superblock;
+mod trees;
 mod wider;
 
-pub use base::{BASE_BLOCKS, BASE_CHUNKS, BASE_LENGTH, NODESIZE, TreeBlock, base_image};
+pub use base::{BASE_BLOCKS, BASE_CHUNKS, BASE_LENGTH, base_image};
 pub use block::{FSID, with_checksum};
 pub use create::{create_writes, create_writes_with};
 pub use items::{
@@ -24,6 +25,7 @@ pub use leaf::LeafMaker;
 pub use leaf_item::LeafItem;
 pub use node::{ChildPointer, node_block};
 pub use superblock::{base_superblock, superblock_of};
+pub use trees::{NODESIZE, TreeBlock};
 pub use wider::wider_image;
 
 #[cfg(test)]

@@ -1,6 +1,0 @@
-use Rattle.std.proofs.Common.{◌≡◌}
-use Rattle.image_maker.specs.Maker.{nodesize_of}
-use Rattle.image_maker.proofs.base.chunk_tree.Given as goal
-
-abbrev pub invariant-loop-chunk : goal.invariant-loop-chunk
-invariant-loop-chunk l = nodesize_of l.leaf ≡ 16384
