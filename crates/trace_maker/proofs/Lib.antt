@@ -1,0 +1,5 @@
+mod Planning
+mod Sinking
+mod Commits
+mod Making
+mod Gathering

@@ -1,0 +1,10 @@
+use Rattle.std.proofs.Common.{◌≡◌}
+use Rattle.trace_maker.proofs.Making.{SoFar}
+use Rattle.trace_maker.proofs.make.make_trace.Given as goal
+
+abbrev pub invariant-loop-op : goal.invariant-loop-op
+invariant-loop-op g l = record {
+  number : l.k ≡ l.op-index;
+  gained : SoFar l.op-items l.op-index (g.K.Sink.kept l.fn.out) (g.K.Sink.kept l.out);
+  faults : g.K.Sink.faults l.out ≡ g.K.Sink.faults l.fn.out;
+}

@@ -1,0 +1,5 @@
+use Rattle.trace_maker.specs.Writes.{HasMore}
+use Rattle.trace_maker.proofs.maker.Maker.add_copies.Given as goal
+
+abbrev pub invariant-loop-tree : goal.invariant-loop-tree
+invariant-loop-tree l = HasMore l.fn.into.items l.into.items

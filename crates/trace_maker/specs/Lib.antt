@@ -1,0 +1,4 @@
+pub mod Plan
+pub mod Made
+pub mod Space
+pub mod Writes

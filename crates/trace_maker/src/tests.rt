@@ -1,0 +1,147 @@
+//! The rows of the plan, and a trace of some commits. The plan of seed 7 comes from a program in another
+//! language.
+
+use crate::draw::draw;
+use crate::*;
+use recon_disk::{MemSink, MemSource};
+use std::alloc::Global;
+use std::test::Fail;
+use trace_reader::{Item, TraceReader};
+use verdict::{Event, HeldWrite, meets_superblock};
+
+#[test]
+fn the_first_draws_are_those_of_the_generator(rt: HostRuntime) -> Result<(), Fail> {
+    let mut state = 0;
+    for want in [
+        0xE220_A839_7B1D_CDAFu64,
+        0x6E78_9E6A_A1B9_65F4,
+        0x06C4_5D18_8009_454F,
+        0xF88B_B8A8_724C_81EC,
+    ] {
+        let (drawn, next) = draw(state);
+        assert_eq!(rt; drawn, want);
+        state = next;
+    }
+    Ok(())
+}
+
+#[test]
+fn a_file_is_made_and_removed(rt: HostRuntime) -> Result<(), Fail> {
+    let ops = plan(rt.alloc(), 0, 2)?;
+    let want = [Op::File { ino: 257, dir: 256 }, Op::Removed { ino: 257 }];
+    assert_eq!(rt; ops.as_slice(), want.as_slice());
+    Ok(())
+}
+
+// The first operations of the plan of seed 7.
+const SEVEN: &[Op] = &[
+    Op::File { ino: 257, dir: 256 },
+    Op::File { ino: 258, dir: 256 },
+    Op::File { ino: 259, dir: 256 },
+    Op::File { ino: 260, dir: 256 },
+    Op::Directory { ino: 261 },
+    Op::Directory { ino: 262 },
+    Op::Filled {
+        ino: 263,
+        dir: 261,
+        sectors: 7,
+        sort: 3,
+    },
+    Op::Subvolume { id: 256 },
+    Op::Shared {
+        ino: 265,
+        dir: 256,
+        of: 263,
+    },
+    Op::Removed { ino: 265 },
+    Op::Subvolume { id: 257 },
+    Op::Removed { ino: 263 },
+    Op::Filled {
+        ino: 269,
+        dir: 261,
+        sectors: 1,
+        sort: 5,
+    },
+    Op::Directory { ino: 270 },
+];
+
+#[test]
+fn a_plan_is_that_of_another_program(rt: HostRuntime) -> Result<(), Fail> {
+    let ops = plan(rt.alloc(), 7, 14)?;
+    assert_eq!(rt; ops.as_slice(), SEVEN);
+    Ok(())
+}
+
+// The writes of each commit of a trace, of which the superblock's is the last.
+fn commits_of(alloc: Global, trace: &[u8]) -> Result<Vec<Vec<HeldWrite>>, Fail> {
+    let bytes = Vec::from_slice(alloc, trace)?;
+    let mut source = MemSource::new(bytes, 1_048_576, Vec::new(alloc));
+    let mut reader = TraceReader::new(1000);
+    let mut commits = Vec::new(alloc);
+    let mut writes = Vec::new(alloc);
+    for _ in 0..1001 {
+        if !reader.live() {
+            break;
+        }
+        let Item::Event(event) = reader.next(alloc, &mut source)? else {
+            break;
+        };
+        if let Event::Write { at, bytes, .. } = event {
+            let ends = meets_superblock(at, bytes.as_slice().len() as u64);
+            writes.push(HeldWrite { at, bytes })?;
+            if ends {
+                commits.push(writes)?;
+                writes = Vec::new(alloc);
+            }
+        }
+    }
+    Ok(commits)
+}
+
+// Whether one of these writes beside the superblock place meets one of the others. Each block and each
+// extent that a commit writes is live until the next.
+fn meet(writes: &[HeldWrite], others: &[HeldWrite]) -> bool {
+    for a in writes {
+        for b in others {
+            let a_end = a.at.saturating_add(a.bytes.as_slice().len() as u64);
+            let b_end = b.at.saturating_add(b.bytes.as_slice().len() as u64);
+            if a.at != 65536 && a.at < b_end && b.at < a_end {
+                return true;
+            }
+        }
+    }
+    false
+}
+
+#[test]
+fn no_commit_writes_over_what_the_one_before_wrote(rt: HostRuntime) -> Result<(), Fail> {
+    let mut sink = MemSink::new(rt.alloc(), 8_000_000, Vec::new(rt.alloc()))?;
+    assert_eq!(rt; make_trace(rt.alloc(), 7, 30, &mut sink), Ok(()));
+    let commits = commits_of(rt.alloc(), sink.bytes())?;
+    assert_eq!(rt; commits.len(), 30);
+    let mut before: &[HeldWrite] = &[];
+    for (i, writes) in commits.iter().enumerate() {
+        assert!(rt; !meet(writes, before), "commit {i}");
+        let last = writes.last().ok_or("no write")?;
+        assert_eq!(rt; (last.at, last.bytes.as_slice().len()), (65536, 4096));
+        assert_eq!(rt; last.bytes.as_slice().get(0x48).copied(), Some(i as u8 + 2));
+        before = writes;
+    }
+    Ok(())
+}
+
+#[test]
+fn a_failing_call_of_the_sink_ends_the_trace(rt: HostRuntime) -> Result<(), Fail> {
+    let mut whole = MemSink::new(rt.alloc(), 1_000_000, Vec::new(rt.alloc()))?;
+    assert_eq!(rt; make_trace(rt.alloc(), 0, 1, &mut whole), Ok(()));
+    let fails = vec![in rt.alloc(); (3, 10)]?;
+    let mut sink = MemSink::new(rt.alloc(), 1_000_000, fails)?;
+    assert_eq!(rt;
+        make_trace(rt.alloc(), 0, 1, &mut sink),
+        Err(MakeFault::Write)
+    );
+    let kept = sink.bytes();
+    assert!(rt; kept.len() < whole.bytes().len());
+    assert_eq!(rt; kept, &whole.bytes()[..kept.len()]);
+    Ok(())
+}
