@@ -7,6 +7,8 @@ const HELP: &str = "checks a Btrfs volume, and each commit to it before it is le
   recon check IMAGE           checks the whole volume in the file or device IMAGE
   recon replay IMAGE < TRACE  replays recorded writes over IMAGE, and writes to it what passes
   recon replay --json IMAGE < TRACE  the same, with each line as JSON
+  recon make SEED COMMITS IMAGE > TRACE  writes an empty volume over the first 33,554,432 bytes of IMAGE, and
+      to TRACE the writes of 1 to 200 commits on it, which are drawn from the number SEED
 IMAGE has to be readable and writable, and must not be mounted.";
 
 /// Why a run ended before its outcome.
@@ -22,10 +24,12 @@ pub enum Why<'a> {
     Device(&'a str),
     /// A read of the trace failed.
     Trace,
-    /// A write of a line failed.
+    /// A write of a line, or of the trace that is made, failed.
     Lines,
     /// Memory was wanting.
     Memory,
+    /// This device is shorter than the volume that is to be made on it.
+    TooShort(&'a str),
     /// The system does not give the words.
     NoWords,
     /// The system does not open the file that is held in the place of a closed stream.
@@ -44,6 +48,7 @@ impl<'a> Why<'a> {
             5 => Some(Why::Trace),
             6 => Some(Why::Lines),
             7 => Some(Why::Memory),
+            8 => Some(Why::TooShort(image)),
             _ => None,
         }
     }
@@ -56,6 +61,7 @@ impl<'a> Why<'a> {
             Why::Trace => 5,
             Why::Lines => 6,
             Why::Memory => 7,
+            Why::TooShort(_) => 8,
             Why::NoWords | Why::NoFull => 9,
         }
     }
@@ -68,7 +74,7 @@ impl fmt::Display for Why<'_> {
             Why::NoForm => {
                 write!(
                     f,
-                    "the forms of words are: recon check IMAGE, recon replay [--json] IMAGE < TRACE"
+                    "the forms of words are: recon check IMAGE, recon replay [--json] IMAGE < TRACE, recon make SEED COMMITS IMAGE > TRACE, with a SEED of 64 bits and 1 to 200 COMMITS"
                 )
             }
             Why::Unopened(image) => {
@@ -79,8 +85,11 @@ impl fmt::Display for Why<'_> {
             }
             Why::Device(image) => write!(f, "a call of the device {image:?} failed"),
             Why::Trace => write!(f, "a read of the trace from standard input failed"),
-            Why::Lines => write!(f, "a write of a line to standard output failed"),
+            Why::Lines => write!(f, "a write to standard output failed"),
             Why::Memory => write!(f, "memory is wanting"),
+            Why::TooShort(image) => {
+                write!(f, "the device {image:?} is shorter than 33554432 bytes")
+            }
             Why::NoWords => write!(f, "the system does not give the words of the command line"),
             Why::NoFull => {
                 write!(

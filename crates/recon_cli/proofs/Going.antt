@@ -4,7 +4,6 @@ use Rattle.std.specs.Prelude.{nat_lt}
 use Rattle.std.specs.Bool.{MatchBool}
 use Rattle.std.proofs.lemmas.List.{drop-drop, drop_at, get_or-append-add}
 use Rattle.verdict.specs.declared.machine.Event.{Event}
-use Rattle.verdict.specs.declared.machine.Event.TheVariants.{Write, Settle, Fetch}
 use Rattle.recon_core.specs.declared.checker.Checker.{Checker}
 use Rattle.verdict.specs.Events.{end_of, begin_of}
 use Rattle.recon_core.specs.Machine.{MachineState, machine_step}

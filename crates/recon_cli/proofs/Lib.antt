@@ -1,5 +1,6 @@
 pub mod Checking
 mod FewWords
 pub mod Going
+pub mod Made
 mod OneForm
 pub mod Start

@@ -1,4 +1,5 @@
 pub mod Words
 pub mod Outcome
 pub mod Run
+pub mod Making
 pub mod Status

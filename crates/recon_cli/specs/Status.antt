@@ -1,5 +1,5 @@
--- The status of a run that stops before its outcome.
-use Rattle.std.specs.Prelude.{ℕ}
+-- The status of a run that stops before its outcome, and of one that does not.
+use Rattle.std.specs.Prelude.{ℕ, Result, Ok, Err}
 use Rattle.recon_cli.specs.declared.halt.Halt.{Halt}
 use Rattle.recon_cli.specs.declared.halt.Halt.TheVariants.{Device, Trace, Lines, Memory}
 
@@ -9,3 +9,8 @@ halt_status Device = 4
 halt_status Trace = 5
 halt_status Lines = 6
 halt_status Memory = 7
+
+-- the status of a run as it ended
+abbrev pub status_from : Result ℕ Halt → ℕ
+status_from (Ok status) = status
+status_from (Err halt) = halt_status halt

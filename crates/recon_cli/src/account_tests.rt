@@ -10,79 +10,79 @@ use image_maker::base_image;
 use std::test::Fail;
 
 // The address of the one block of the extent tree, and of that of the tree of checksums.
-const EXTENTS: u64 = 5_259_264;
+pub const EXTENTS: u64 = 5_259_264;
 
-const SUMS: u64 = 5_308_416;
+pub const SUMS: u64 = 5_308_416;
 
 // The items of the extent tree: the extents of the blocks of the trees 3, 1, 2, 4, 5 and 7, and the three groups.
-const CHUNK_BLOCK: Item = Numbers(
+pub const CHUNK_BLOCK: Item = Numbers(
     (1_048_576, 169, 0),
     33,
     &[(0, 8, 1), (8, 8, 1), (16, 8, 2), (24, 1, 176), (25, 8, 3)],
 );
 
-const ROOT_BLOCK: Item = Numbers(
+pub const ROOT_BLOCK: Item = Numbers(
     (5_242_880, 169, 0),
     33,
     &[(0, 8, 1), (8, 8, 1), (16, 8, 2), (24, 1, 176), (25, 8, 1)],
 );
 
-const EXTENT_BLOCK: Item = Numbers(
+pub const EXTENT_BLOCK: Item = Numbers(
     (5_259_264, 169, 0),
     33,
     &[(0, 8, 1), (8, 8, 1), (16, 8, 2), (24, 1, 176), (25, 8, 2)],
 );
 
-const DEVICE_BLOCK: Item = Numbers(
+pub const DEVICE_BLOCK: Item = Numbers(
     (5_275_648, 169, 0),
     33,
     &[(0, 8, 1), (8, 8, 1), (16, 8, 2), (24, 1, 176), (25, 8, 4)],
 );
 
-const FILE_BLOCK: Item = Numbers(
+pub const FILE_BLOCK: Item = Numbers(
     (5_292_032, 169, 0),
     33,
     &[(0, 8, 1), (8, 8, 1), (16, 8, 2), (24, 1, 176), (25, 8, 5)],
 );
 
-const SUM_BLOCK: Item = Numbers(
+pub const SUM_BLOCK: Item = Numbers(
     (5_308_416, 169, 0),
     33,
     &[(0, 8, 1), (8, 8, 1), (16, 8, 2), (24, 1, 176), (25, 8, 7)],
 );
 
-const SYSTEM: Item = Numbers(
+pub const SYSTEM: Item = Numbers(
     (1_048_576, 192, 4_194_304),
     24,
     &[(0, 8, 16_384), (8, 8, 256), (16, 8, 2)],
 );
 
-const METADATA: Item = Numbers(
+pub const METADATA: Item = Numbers(
     (5_242_880, 192, 8_388_608),
     24,
     &[(0, 8, 81_920), (8, 8, 256), (16, 8, 36)],
 );
 
-const DATA: Item = Numbers(
+pub const DATA: Item = Numbers(
     (13_631_488, 192, 8_388_608),
     24,
     &[(0, 8, 0), (8, 8, 256), (16, 8, 1)],
 );
 
 // The data group with one sector used, with two, three and four.
-const USED: Item = Numbers(
+pub const USED: Item = Numbers(
     (13_631_488, 192, 8_388_608),
     24,
     &[(0, 8, 4_096), (8, 8, 256), (16, 8, 1)],
 );
 
-const USED_TWO: Item = Numbers(
+pub const USED_TWO: Item = Numbers(
     (13_631_488, 192, 8_388_608),
     24,
     &[(0, 8, 8_192), (8, 8, 256), (16, 8, 1)],
 );
 
-const USED_FOUR: Item = Numbers(
+pub const USED_FOUR: Item = Numbers(
     (13_631_488, 192, 8_388_608),
     24,
     &[(0, 8, 16_384), (8, 8, 256), (16, 8, 1)],
@@ -90,7 +90,7 @@ const USED_FOUR: Item = Numbers(
 
 // Extents that the file 257 refers to: of one sector, of two, of two whose first byte would lie a sector before the file,
 // of three used twice by one reference or by one of two, and one of one sector at byte 4096 of the file.
-const ONE: Item = Numbers(
+pub const ONE: Item = Numbers(
     (13_631_488, 168, 4_096),
     53,
     &[
@@ -105,7 +105,7 @@ const ONE: Item = Numbers(
     ],
 );
 
-const TWO: Item = Numbers(
+pub const TWO: Item = Numbers(
     (13_631_488, 168, 8_192),
     53,
     &[
@@ -135,7 +135,7 @@ const TWO_BEFORE: Item = Numbers(
     ],
 );
 
-const THREE: Item = Numbers(
+pub const THREE: Item = Numbers(
     (13_631_488, 168, 12_288),
     53,
     &[
@@ -165,7 +165,7 @@ const THREE_HALF: Item = Numbers(
     ],
 );
 
-const MIDDLE: Item = Numbers(
+pub const MIDDLE: Item = Numbers(
     (13_643_776, 168, 4_096),
     53,
     &[
@@ -188,15 +188,15 @@ const KEYED: Item = Numbers(
 );
 
 // The root directory with a file `hello`: the directory's inode and its own name, the two entries, and the file's name.
-const DIRECTORY: Item = Numbers(
+pub const DIRECTORY: Item = Numbers(
     (256, 1, 0),
     160,
     &[(16, 8, 10), (24, 8, 16_384), (40, 4, 1), (52, 4, 16877)],
 );
 
-const ITSELF: Item = Numbers((256, 12, 256), 12, &[(8, 2, 2), (10, 2, 0x2e2e)]);
+pub const ITSELF: Item = Numbers((256, 12, 256), 12, &[(8, 2, 2), (10, 2, 0x2e2e)]);
 
-const HASHED: Item = Numbers(
+pub const HASHED: Item = Numbers(
     (256, 84, 1_570_712_351),
     35,
     &[
@@ -209,7 +209,7 @@ const HASHED: Item = Numbers(
     ],
 );
 
-const INDEXED: Item = Numbers(
+pub const INDEXED: Item = Numbers(
     (256, 96, 2),
     35,
     &[
@@ -222,20 +222,20 @@ const INDEXED: Item = Numbers(
     ],
 );
 
-const NAME: Item = Numbers(
+pub const NAME: Item = Numbers(
     (257, 12, 256),
     15,
     &[(0, 8, 2), (8, 2, 5), (10, 5, 0x6f_6c6c_6568)],
 );
 
 // The file's inode, with one sector of data and with three.
-const FILE: Item = Numbers(
+pub const FILE: Item = Numbers(
     (257, 1, 0),
     160,
     &[(16, 8, 4_096), (24, 8, 4_096), (40, 4, 1), (52, 4, 33188)],
 );
 
-const FILE_THREE: Item = Numbers(
+pub const FILE_THREE: Item = Numbers(
     (257, 1, 0),
     160,
     &[(16, 8, 12_288), (24, 8, 12_288), (40, 4, 1), (52, 4, 33188)],
@@ -243,7 +243,7 @@ const FILE_THREE: Item = Numbers(
 
 // Ranges of the file: of the extents of one sector and of two, of the second sector of two, and the three of a file whose
 // middle sector was written again.
-const RANGE: Item = Numbers(
+pub const RANGE: Item = Numbers(
     (257, 108, 0),
     53,
     &[
@@ -256,7 +256,7 @@ const RANGE: Item = Numbers(
     ],
 );
 
-const RANGE_OF_TWO: Item = Numbers(
+pub const RANGE_OF_TWO: Item = Numbers(
     (257, 108, 0),
     53,
     &[
@@ -282,7 +282,7 @@ const SECOND_OF_TWO: Item = Numbers(
     ],
 );
 
-const FIRST_THIRD: Item = Numbers(
+pub const FIRST_THIRD: Item = Numbers(
     (257, 108, 0),
     53,
     &[
@@ -295,7 +295,7 @@ const FIRST_THIRD: Item = Numbers(
     ],
 );
 
-const MIDDLE_THIRD: Item = Numbers(
+pub const MIDDLE_THIRD: Item = Numbers(
     (257, 108, 4_096),
     53,
     &[
@@ -308,7 +308,7 @@ const MIDDLE_THIRD: Item = Numbers(
     ],
 );
 
-const LAST_THIRD: Item = Numbers(
+pub const LAST_THIRD: Item = Numbers(
     (257, 108, 8_192),
     53,
     &[
@@ -322,11 +322,11 @@ const LAST_THIRD: Item = Numbers(
 );
 
 // Checksums of one sector, and of four.
-const SUM: Item = Zeros((18_446_744_073_709_551_606, 128, 13_631_488), 4, 0, 0);
+pub const SUM: Item = Zeros((18_446_744_073_709_551_606, 128, 13_631_488), 4, 0, 0);
 
-const SUMS_OF_FOUR: Item = Zeros((18_446_744_073_709_551_606, 128, 13_631_488), 16, 0, 0);
+pub const SUMS_OF_FOUR: Item = Zeros((18_446_744_073_709_551_606, 128, 13_631_488), 16, 0, 0);
 
-const SUMS_OF_TWO: Item = Zeros((18_446_744_073_709_551_606, 128, 13_631_488), 8, 0, 0);
+pub const SUMS_OF_TWO: Item = Zeros((18_446_744_073_709_551_606, 128, 13_631_488), 8, 0, 0);
 
 const REFERENCES: &[(&[Change], &str)] = &[
     // An extent that says one use more than there are.

@@ -21,7 +21,7 @@ fn trace_of_writes(alloc: Global, events: &[Event]) -> Result<Vec<u8>, Fail> {
 }
 
 // The image with all these writes.
-fn with_writes(alloc: Global, base: &[u8], events: &[Event]) -> Result<Vec<u8>, Fail> {
+pub fn with_writes(alloc: Global, base: &[u8], events: &[Event]) -> Result<Vec<u8>, Fail> {
     let mut made = Vec::from_slice(alloc, base)?;
     for event in events {
         if let Event::Write { at, bytes, .. } = event {
@@ -32,7 +32,7 @@ fn with_writes(alloc: Global, base: &[u8], events: &[Event]) -> Result<Vec<u8>, 
 }
 
 // Where the three writes of a new file begin, and how many bytes they have.
-const PIECES: [(u64, usize); 3] = [(5_324_800, 49_152), (13_713_408, 49_152), (65_536, 4096)];
+pub const PIECES: [(u64, usize); 3] = [(5_324_800, 49_152), (13_713_408, 49_152), (65_536, 4096)];
 
 // How many of the three writes stand on the device, one after the other, where none stands in part.
 fn pieces_on(device: &[u8], base: &[u8], made: &[u8]) -> Option<u8> {

@@ -22,12 +22,13 @@ pub const REPLAY_JSON: &[&str] = &["replay", "--json", "image"];
 pub const ACCEPTED: &str = "image accepted generation 1\n";
 
 /// A piece of a trace: the bytes themselves, the base superblock, the same with its first magic byte 0,
-/// or the image's first MiB.
+/// the same that says 4096 used bytes less, or the image's first MiB.
 #[derive(Clone, Copy)]
 pub enum Piece {
     Bytes(&'static [u8]),
     Place,
     NoMagic,
+    LessUsed,
     FirstMib,
 }
 
@@ -56,6 +57,12 @@ fn put_piece(alloc: Global, bytes: &mut Vec<u8>, piece: Piece) -> Result<(), All
             place[0x40] = 0;
             bytes.extend_from_slice(&place)
         }
+        Piece::LessUsed => {
+            let mut place = base_superblock();
+            put(&mut place, 0x78, &94_208u64.to_le_bytes());
+            with_checksum(&mut place);
+            bytes.extend_from_slice(&place)
+        }
         Piece::FirstMib => {
             let start = first_mib(alloc)?;
             bytes.extend_from_slice(&start)
@@ -74,8 +81,14 @@ pub fn trace_of(alloc: Global, pieces: &[Piece]) -> Result<Vec<u8>, AllocError> 
 
 /// Appends the record of a write to a trace.
 pub fn put_write(trace: &mut Vec<u8>, event: &Event) -> Result<(), AllocError> {
-    if let Event::Write { at, bytes, .. } = event {
-        trace.extend_from_slice(&[1, 0, 0])?;
+    if let Event::Write {
+        submitter,
+        at,
+        bytes,
+    } = event
+    {
+        trace.push(1)?;
+        trace.extend_from_slice(&u64::from(*submitter).to_le_bytes()[..2])?;
         trace.extend_from_slice(&at.to_le_bytes())?;
         trace.extend_from_slice(&(bytes.as_slice().len() as u64).to_le_bytes()[..4])?;
         trace.extend_from_slice(bytes.as_slice())?;
@@ -107,7 +120,7 @@ pub fn run_with(
     }
     let trace = Vec::from_slice(alloc, trace)?;
     let mut source = MemSource::new(trace, 1_048_576, Vec::from_slice(alloc, source_fails)?);
-    let mut out = MemSink::new(alloc, 1000, Vec::from_slice(alloc, sink_fails)?)?;
+    let mut out = MemSink::new(alloc, 20_000, Vec::from_slice(alloc, sink_fails)?)?;
     let mut steps = Steps::new(());
     let status = recon_run(
         alloc,
@@ -154,8 +167,20 @@ pub const LEFT: u64 = 5_324_800;
 
 pub const RIGHT: u64 = 5_341_184;
 
+/// The first address of the data chunk. Its one copy stands 8 MiB behind.
+pub const DATA_AT: u64 = 13_631_488;
+
 // How far behind the first copy of a block the second stands, from the root tree's block on.
 const SECOND: u64 = 8_388_608;
+
+// Where the first copy of a block stands on the device.
+fn first_copy(at: u64) -> u64 {
+    if at < DATA_AT {
+        at
+    } else {
+        at.saturating_add(SECOND)
+    }
+}
 
 /// An item of a leaf.
 #[derive(Clone, Copy)]
@@ -171,7 +196,7 @@ pub enum Item {
     Numbers((u64, u8, u64), usize, &'static [(usize, usize, u64)]),
 }
 
-/// A change of an image. The checksum of what is changed is right, and the second copy is changed as the
+/// A change of an image, at an address. The checksum of what is changed is right, and the second copy is changed as the
 /// first.
 #[derive(Clone, Copy)]
 pub enum Change {
@@ -281,7 +306,7 @@ fn node_of(
     Ok(node_block(alloc, NODESIZE, &FSID, at, tree, 1, 1, children)?)
 }
 
-// Where a change begins on the device.
+// The address of a change.
 fn place_of(change: Change) -> u64 {
     match change {
         Change::Number(at, ..) | Change::Leaf(at, ..) | Change::Node(at, ..) => at,
@@ -293,7 +318,7 @@ fn changed(alloc: Global, image: &[u8], change: Change) -> Result<Bytes, Fail> {
     match change {
         Change::Number(at, byte, width, number) => {
             let len = if at == SUPER { 4096 } else { 16384 };
-            Ok(with_number(alloc, part(image, at, len), byte, width, number)?)
+            Ok(with_number(alloc, part(image, first_copy(at), len), byte, width, number)?)
         }
         Change::Leaf(at, tree, items) => leaf_of(alloc, at, tree, items),
         Change::Node(at, tree, pointers) => node_of(alloc, at, tree, pointers),
@@ -310,10 +335,10 @@ fn write(disk: &mut MemDisk, at: u64, from: &[u8]) -> Result<(), Fail> {
     Ok(())
 }
 
-// Writes all copies of a block, whose first is at a place.
+// Writes all copies of the block at an address.
 fn write_copies(disk: &mut MemDisk, at: u64, from: &[u8]) -> Result<(), Fail> {
-    write(disk, at, from)?;
-    if at >= ROOTS {
+    write(disk, first_copy(at), from)?;
+    if ROOTS <= at && at < DATA_AT {
         write(disk, at.saturating_add(SECOND), from)?;
     }
     Ok(())
@@ -328,9 +353,8 @@ pub fn make_changes(alloc: Global, disk: &mut MemDisk, changes: &[Change]) -> Re
     Ok(())
 }
 
-/// Appends to a trace the writes of all copies that changes of an image make, and that of its superblock, which is a
-/// commit; and makes the changes.
-pub fn put_commit(
+/// Appends to a trace the writes of all copies of the blocks that changes of an image make; and makes the changes.
+pub fn put_blocks(
     alloc: Global,
     disk: &mut MemDisk,
     trace: &mut Vec<u8>,
@@ -340,12 +364,23 @@ pub fn put_commit(
     for change in changes {
         let at = place_of(*change);
         if at != SUPER {
-            put_range(alloc, disk, trace, at, 16384)?;
+            put_range(alloc, disk, trace, first_copy(at), 16384)?;
         }
-        if at >= ROOTS {
+        if ROOTS <= at && at < DATA_AT {
             put_range(alloc, disk, trace, at.saturating_add(SECOND), 16384)?;
         }
     }
+    Ok(())
+}
+
+/// The same, and the write of the superblock, which is a commit.
+pub fn put_commit(
+    alloc: Global,
+    disk: &mut MemDisk,
+    trace: &mut Vec<u8>,
+    changes: &[Change],
+) -> Result<(), Fail> {
+    put_blocks(alloc, disk, trace, changes)?;
     put_range(alloc, disk, trace, SUPER, 4096)
 }
 
@@ -369,7 +404,7 @@ fn put_range(
 fn restore(disk: &mut MemDisk, image: &[u8], changes: &[Change]) -> Result<(), Fail> {
     for change in changes {
         let at = place_of(*change);
-        write_copies(disk, at, part(image, at, 16384))?;
+        write_copies(disk, at, part(image, first_copy(at), 16384))?;
     }
     Ok(())
 }

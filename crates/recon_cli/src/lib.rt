@@ -5,6 +5,7 @@
 mod check;
 mod halt;
 mod lines;
+mod making;
 mod outside;
 mod replay;
 mod run;
@@ -25,8 +26,14 @@ mod image_tests;
 #[cfg(test)]
 mod machine_tests;
 #[cfg(test)]
+mod make_tests;
+#[cfg(test)]
 mod name_tests;
+#[cfg(test)]
+mod space_tests;
 #[cfg(test)]
 mod tests;
 #[cfg(test)]
 mod trace_tests;
+#[cfg(test)]
+mod whole_tests;

@@ -1,15 +1,17 @@
 //! The call that the program makes.
 
-ghost use Rattle.std.specs.Prelude.{ℕ, ◌≡◌, ◌≤◌, ◌↔◌, ◌⊎◌, List, Some, map, string_bytes};
+ghost use Rattle.std.specs.Prelude.{ℕ, ◌≡◌, ◌≢◌, ◌<◌, ◌≤◌, ◌↔◌, ◌⊎◌, List, Some, map, string_bytes};
 ghost use Rattle.verdict.specs.declared.machine.Event.{Event as AnEvent};
 ghost use Rattle.trace_reader.specs.Trace.{Ending, IsBytes, IsTrace};
 ghost use Rattle.recon_cli.specs.declared.lines.Style.{Style};
-ghost use Rattle.recon_cli.specs.Words.{IsForm, IsNoForm};
+ghost use Rattle.recon_cli.specs.Words.{AsksToMake, IsForm, IsNoForm};
+ghost use Rattle.recon_cli.specs.Making.{IsUnwritten, MakesAs};
 ghost use Rattle.recon_cli.specs.Outcome.{replay_outcome};
 ghost use Rattle.recon_cli.specs.Run.{ChecksAs, ComesOut, HadNoFault, HasStatusCause, IsCheckStatus, IsOutcomeStatus, faults_of, record_limit};
 
 use crate::check::check;
 use crate::halt::status_of;
+use crate::making::make;
 use crate::outside::Outside;
 use crate::replay::replay;
 use crate::words::{Form, form_of};
@@ -23,16 +25,23 @@ use std::alloc::Global;
 /// as JSON. IMAGE is not looked at: the words `replay --json` are the second form. A check leaves the disk's
 /// bytes, takes nothing from the trace, and ends with 0, 1, 4, 6 or 7.
 ///
+/// `make SEED COMMITS IMAGE` writes the base image over the disk's first 33,554,432 bytes, flushes, and writes
+/// to the place for lines the trace of a workload on it, of COMMITS commits, that is drawn from SEED. SEED and
+/// COMMITS are ASCII digits, zeros in front allowed: SEED is at most 18,446,744,073,709,551,615, and COMMITS is
+/// from 1 to 200. A make takes nothing from the trace, and ends with 0, 4, 6, 7 or 8. Its faults come in the
+/// order length, base image and flush, then trace; the base image is made before anything is written.
+///
 /// | Status | Meaning |
 /// |---|---|
-/// | 0 | check: the image is accepted; replay: the end tag was read, and everything passed |
+/// | 0 | check: the image is accepted; replay: the end tag was read, and everything passed; make: all was written |
 /// | 1 | the image is refused, or the end tag was read and something was rejected |
 /// | 2 | the words are none of the forms; nothing is read or written |
 /// | 3 | the trace is malformed at the record that the line names, or that record passes the end of the device |
 /// | 4 | a call of the disk failed |
 /// | 5 | a read of the trace failed |
-/// | 6 | a write of a line failed |
+/// | 6 | a write of a line, or of the trace that a make writes, failed |
 /// | 7 | memory was wanting |
+/// | 8 | make: the disk is shorter than 33,554,432 bytes; nothing is written |
 pub fn recon_run<D: Disk, S: Source, K: Sink, L>(
     alloc: Global,
     words: &[String],
@@ -60,6 +69,19 @@ pub fn recon_run<D: Disk, S: Source, K: Sink, L>(
     ensures checked { IsForm Form.Check (map string_bytes words.now) →
         IsCheckStatus result × (D.bytes disk.new ≡ D.bytes disk.old) × (trace.new ≡ trace.old) }
 
+    // A make leaves the base image over the front of the disk, and its other bytes, and in the sink one trace of
+    // just so many commits; or it leaves what its status says. It takes nothing from the trace.
+    ensures make { (seed commits : ℕ) → IsForm (Form.Make seed commits) (map string_bytes words.now) →
+        MakesAs D.Disk K.Sink seed commits result disk.old disk.new out.old out.new ×
+        (trace.new ≡ trace.old) }
+
+    // A disk that is too short for the base image is left as it was, and nothing is written to the sink. The
+    // status is 8, unless the disk's length could not be learned.
+    ensures short { (result ≡ 8) ↔ (AsksToMake (map string_bytes words.now) ×
+        (D.len disk.old < 33554432) × (result ≢ 4)) }
+    ensures unwritten { AsksToMake (map string_bytes words.now) → D.len disk.old < 33554432 →
+        IsUnwritten D.Disk disk.old disk.new × (out.new ≡ out.old) }
+
     // Words that are no form: nothing is read or written.
     ensures words { (result ≡ 2) ↔ IsNoForm (map string_bytes words.now) }
     ensures unread { result ≡ 2 →
@@ -69,11 +91,16 @@ pub fn recon_run<D: Disk, S: Source, K: Sink, L>(
     ensures causes { HasStatusCause (faults_of D.Disk S.Source K.Sink disk.old trace.old out.old)
         (faults_of D.Disk S.Source K.Sink disk.new trace.new out.new) result }
 
-    // Where nothing failed and memory was there, the replay has come to its outcome.
+    // Where nothing failed and memory was there, the check or the replay has come to its outcome, and the make
+    // has written all or the disk is too short for it.
     ensures complete { HadNoFault (faults_of D.Disk S.Source K.Sink disk.old trace.old out.old)
         (faults_of D.Disk S.Source K.Sink disk.new trace.new out.new) →
-        IsOutcomeStatus result ⊎ ((result ≡ 2) ⊎ (result ≡ 7)) }
-    ensures known { result ≤ 7 }
+        IsOutcomeStatus result ⊎ ((result ≡ 2) ⊎ (result ≡ 7) ⊎ (result ≡ 8)) }
+    ensures complete_make { AsksToMake (map string_bytes words.now) →
+        HadNoFault (faults_of D.Disk S.Source K.Sink disk.old trace.old out.old)
+        (faults_of D.Disk S.Source K.Sink disk.new trace.new out.new) →
+        (result ≡ 0) ⊎ (result ≡ 7) ⊎ (result ≡ 8) }
+    ensures known { result ≤ 8 }
 {
     match form_of(words) {
         None => 2,
@@ -93,6 +120,10 @@ pub fn recon_run<D: Disk, S: Source, K: Sink, L>(
         ) {
             Ok(status) => status,
             Err(stopped) => status_of(stopped),
+        },
+        Some(Form::Make { seed, commits }) => match make(alloc, seed, commits, disk, out) {
+            Ok(done) => done,
+            Err(cause) => status_of(cause),
         },
     }
 }

@@ -127,7 +127,7 @@ fn each_trace_has_its_lines(rt: HostRuntime) -> Result<(), Fail> {
 #[test]
 fn other_words_do_nothing(rt: HostRuntime) -> Result<(), Fail> {
     let alloc = rt.alloc();
-    let rows: [&[&str]; 11] = [
+    let rows: &[&[&str]] = &[
         &[],
         &["replay"],
         &["replay", "a", "b"],
@@ -139,11 +139,43 @@ fn other_words_do_nothing(rt: HostRuntime) -> Result<(), Fail> {
         &["check"],
         &["check", "a", "b"],
         &["Check", "x"],
+        &["make", "7", "1"],
+        &["make", "7", "1", "x", "y"],
+        &["make", "7", "0", "x"],
+        &["make", "7", "201", "x"],
+        &["make", "18446744073709551616", "1", "x"],
+        &["make", "", "1", "x"],
+        &["make", "+7", "1", "x"],
+        &["make", "7", "+1", "x"],
+        &["make", "-7", "1", "x"],
+        &["make", "7 ", "1", "x"],
+        &["make", "7", "1a", "x"],
     ];
-    for words in rows {
+    for words in rows.iter().copied() {
         let mut disk = disk_over(alloc, b"", &[])?;
         let (status, out) = run_with(alloc, words, &mut disk, b"", &[1], &[(1, 5)])?;
         assert_eq!(rt; (status, out.bytes().len()), (2, 0));
+    }
+    Ok(())
+}
+
+// Each call of the trace and of the sink would fail.
+#[test]
+fn a_make_on_a_short_device_does_nothing(rt: HostRuntime) -> Result<(), Fail> {
+    let alloc = rt.alloc();
+    let base = base_image(alloc)?;
+    let short = &base.as_slice()[1..];
+    let rows: [(&[&str], &[u8]); 4] = [
+        (&["make", "7", "1", "x"], short),
+        (&["make", "007", "0200", "x"], b"image"),
+        (&["make", "18446744073709551615", "1", "x"], b""),
+        (&["make", "0", "000000000000000000000000200", "--json"], b""),
+    ];
+    for (words, bytes) in rows {
+        let mut disk = disk_over(alloc, bytes, &[])?;
+        let (status, out) = run_with(alloc, words, &mut disk, b"", &[1], &[(1, 5)])?;
+        assert_eq!(rt; (status, out.bytes().len()), (8, 0));
+        assert!(rt; disk.bytes() == bytes);
     }
     Ok(())
 }

@@ -10,12 +10,12 @@ use recon_disk::MemDisk;
 use std::alloc::Global;
 use std::test::Fail;
 
-const SETTLE: Piece = Bytes(b"\x02");
+pub const SETTLE: Piece = Bytes(b"\x02");
 
 // A write of four bytes at 30,408,704, and a fetch of them.
-const WRITE_ABCD: Piece = Bytes(b"\x01\0\0\0\0\xd0\x01\0\0\0\0\x04\0\0\0ABCD");
+pub const WRITE_ABCD: Piece = Bytes(b"\x01\0\0\0\0\xd0\x01\0\0\0\0\x04\0\0\0ABCD");
 
-const FETCH_ABCD: Piece = Bytes(b"\x03\0\0\xd0\x01\0\0\0\0\x04\0\0\0");
+pub const FETCH_ABCD: Piece = Bytes(b"\x03\0\0\xd0\x01\0\0\0\0\x04\0\0\0");
 
 // A write that makes the second copy of a block differ in its last byte.
 const DIFFERS: Piece = Bytes(b"\x01\0\0\xff\xff\xd0\0\0\0\0\0\x01\0\0\0\xff");
@@ -144,7 +144,7 @@ fn each_trace_has_its_text_and_its_json(rt: HostRuntime) -> Result<(), Fail> {
 }
 
 // A trace of these pieces, then a new file's writes in their order or from the last to the first, then these.
-fn trace_around(
+pub fn trace_around(
     alloc: Global,
     front: &[Piece],
     backwards: bool,

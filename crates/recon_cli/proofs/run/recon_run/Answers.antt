@@ -1,5 +1,7 @@
-use Rattle.std.proofs.Common.{map, string_bytes, rules}
-use Rattle.recon_cli.specs.declared.words.Form.TheVariants.{Check}
+use Rattle.std.proofs.Common.{map, string_bytes, sym, subst, arith, rules}
+use Rattle.recon_cli.specs.declared.words.Form.TheVariants.{Check, Make}
+use Rattle.recon_cli.specs.Run.{HasStatusCause, faults_of}
+use Rattle.recon_cli.proofs.Made.{stops_with_cause}
 use Rattle.recon_cli.proofs.OneForm.{one_style}
 use Rattle.recon_cli.proofs.run.recon_run.Goals as goal
 
@@ -13,3 +15,17 @@ returns-in-Ok-replay-clause-replay g c style form done image bytes kept told lef
 
 pub returns-in-None-clause-checked : goal.returns-in-None-clause-checked
 returns-in-None-clause-checked g c form = absurd (c.in-None.ensures Check form)
+
+pub returns-in-None-clause-make : goal.returns-in-None-clause-make
+returns-in-None-clause-make g c seed commits form = absurd (c.in-None.ensures (Make seed commits) form)
+
+pub returns-in-None-clause-short : goal.returns-in-None-clause-short
+returns-in-None-clause-short g c = (λ e. absurd (omega arith), λ h. absurd (c.in-None.ensures (Make h.0.0 h.0.1) h.0.2))
+
+pub returns-in-None-clause-complete_make : goal.returns-in-None-clause-complete_make
+returns-in-None-clause-complete_make g c asked faults = absurd (c.in-None.ensures (Make asked.0 asked.1) asked.2)
+
+pub returns-in-Err-make-clause-causes : goal.returns-in-Err-make-clause-causes
+returns-in-Err-make-clause-causes g c =
+    subst (λ status. HasStatusCause (faults_of g.D.Disk g.S.Source g.K.Sink c.args.disk.now c.args.trace.now c.args.out.now) (faults_of g.D.Disk g.S.Source g.K.Sink c.make.new.disk c.args.trace.now c.make.new.out) status) (sym c.status_of-in-Err-make.ensures)
+    (stops_with_cause (g.D.Disk.faults c.args.disk.now) (g.D.Disk.faults c.make.new.disk) (g.S.Source.faults c.args.trace.now) (g.K.Sink.faults c.args.out.now) (g.K.Sink.faults c.make.new.out) c.in-Err-make.cause c.in-Err-make.ensures.cause)
