@@ -1,17 +1,20 @@
 #!/usr/bin/env bash
-# Checks a small image and replays a small trace over it, both made here: a commit that passes, and one that is
-# rejected. Usage: examples/replay.sh [FOLDER], where the image and the trace are to lie (a new one by default).
+# Makes a small image and a workload of 20 commits on it, checks the image, and replays the workload over it: every
+# commit passes. Usage: examples/replay.sh [FOLDER], where the image and the trace are to lie
+# (a new one by default).
 set -eu
 cd "$(dirname "$0")/.."
 folder=${1:-$(mktemp -d)}
-image=$folder/small.img
-trace=$folder/small.trace
-python3 examples/base_image.py "$image" "$trace"
-
-cd crates/recon
-echo "recon check $image" >&2
-rt run -- check "$image" < /dev/null
-echo "recon replay $image < $trace" >&2
-status=0
-rt run -- replay "$image" < "$trace" || status=$?
-echo "status $status" >&2
+program=$PWD/crates/recon/out/recon
+[ -x "$program" ] || (cd crates/recon && rt run -- --help < /dev/null > /dev/null 2>&1) || true
+cd "$folder"
+say() { # COMMAND: says it and runs it
+    echo "$1" >&2
+    local status=0
+    eval "${1/#recon/\"$program\"}" || status=$?
+    echo "status $status" >&2
+}
+truncate -s 32M small.img
+say 'recon make 7 20 small.img > small.trace'
+say 'recon check small.img'
+say 'recon replay small.img < small.trace'
