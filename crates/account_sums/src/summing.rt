@@ -53,7 +53,8 @@ impl<'a> Accounts<'a> {
 
     /// The finding of the least account that is broken by the records that were taken. Nothing may be taken behind it.
     pub fn finding(&mut self) -> Result<Option<Finding>, NoMemory>
-        ensures { IfOk result (λ found. (chunks : List AChunk) (nodesize : ℕ) (records : List Located) →
+        ensures { IfOk result (λ found.
+            (chunks : List AChunk) (nodesize : ℕ) (records : List Located) →
             fold with_record (of_none chunks nodesize) records ≡ summed_in self.old →
             found ≡ account_fault (context_with chunks nodesize (has_sum_free records)) records) }
     {

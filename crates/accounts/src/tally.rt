@@ -34,7 +34,8 @@ impl Tally {
     /// Adds all of a list of postings, which is empty then. Want of memory, also where a sum would pass 128 bits, may
     /// leave any part of them added.
     pub fn add_all(&mut self, postings: &mut Postings) -> Result<(), NoMemory>
-        ensures sums { OnOk result (sums_in self.new ≡ with_postings (sums_in self.old) postings.old) }
+        ensures sums { OnOk result
+            (sums_in self.new ≡ with_postings (sums_in self.old) postings.old) }
         ensures taken { OnOk result (postings.new ≡ []) }
     {
         while let Some(posting) = postings.pop() {

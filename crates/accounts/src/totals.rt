@@ -29,7 +29,8 @@ impl Totals {
     pub fn add(&mut self, kind: u8, field: usize, amount: u64) -> Result<(), NoMemory>
         requires { field < 9 }
         ensures { OnOk result ((n : ℕ) →
-            kept kind (sum_in self.new) n ≡ kept kind (with_amount (sum_in self.old) field amount) n) }
+            kept kind (sum_in self.new) n
+            ≡ kept kind (with_amount (sum_in self.old) field amount) n) }
     {
         let Some(sum) = self.f[field].checked_add(u128::from(amount)) else {
             return Err(NoMemory);

@@ -109,7 +109,8 @@ fn post_entry(
     entry: &DirEntry<'_>,
     into: &mut Postings,
 ) -> Result<(), NoMemory>
-    ensures { Posts into.old into.new result (dir_entry_postings tree key (entry_fields entry.now)) }
+    ensures { Posts into.old into.new result
+        (dir_entry_postings tree key (entry_fields entry.now)) }
 {
     if key.kind == DIR_ITEM {
         post_name(alloc, tree, key.objectid, 0, entry, into)

@@ -90,7 +90,8 @@ fn post_pair(
 ) -> Result<(), NoMemory>
     ensures { let link = item.now in
         Posts into.old into.new result
-        (to (kinds.subvolume_pair parent child link.dirid link.sequence link.name.now) field 1 ∷ []) }
+        (to (kinds.subvolume_pair parent child link.dirid link.sequence link.name.now) field 1
+        ∷ []) }
 {
     let (dir, index) = (item.dirid, item.sequence);
     let account = Account::subvolume_pair(alloc, parent, child, dir, index, item.name)?;

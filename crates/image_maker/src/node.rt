@@ -36,7 +36,8 @@ pub fn node_block(
 ) -> Result<Bytes, NoMemory>
     requires { 101 + 33 * length pointers.now ≤ nodesize }
     ensures exact { IfOk result (λ b.
-        b ≡ node_bytes (node_header fsid.now address owner generation level) nodesize pointers.now) }
+        b ≡ node_bytes (node_header fsid.now address owner generation level)
+        nodesize pointers.now) }
     ensures long { IfOk result (λ b. length b ≡ nodesize) }
     ensures reads { IfOk result (λ b.
         IsNodeOf (node_header fsid.now address owner generation level) pointers.now b) }

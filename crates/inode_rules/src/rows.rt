@@ -193,7 +193,8 @@ fn post_entry(
     entry: &DirEntry<'_>,
     into: &mut Postings,
 ) -> Result<(), NoMemory>
-    ensures { Posts into.old into.new result (inode_entry_postings tree dir (entry_fields entry.now)) }
+    ensures { Posts into.old into.new result
+        (inode_entry_postings tree dir (entry_fields entry.now)) }
 {
     let size = entry.name.len() as u64;
     add(alloc, tree, dir, 1, 1, into)?;

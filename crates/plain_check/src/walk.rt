@@ -34,7 +34,8 @@ pub fn walk_tree<D: Disk, T: Taker>(
     requires size { is_node_size volume.now.sup.now.nodesize ≡ true }
     requires end { volume.now.end ≡ D.len disk.old }
     ensures taken { let sup = volume.now.sup.now in
-        IfOk result (λ answer. TakesAsTold D.Disk T.Taker disk.old volume.now.cache.now into.old into.new answer
+        IfOk result (λ answer.
+        TakesAsTold D.Disk T.Taker disk.old volume.now.cache.now into.old into.new answer
         (λ image. walk_of sup (block_reading volume.now.map.now sup image) e.now)) }
     ensures kept { Kept D.Disk disk.old disk.new (is_disk_fault result) }
 {

@@ -71,7 +71,8 @@ pub fn recon_run<D: Disk, S: Source, K: Sink, L>(
 
     // A make leaves the base image over the front of the disk, and its other bytes, and in the sink one trace of
     // just so many commits; or it leaves what its status says. It takes nothing from the trace.
-    ensures make { (seed commits : ℕ) → IsForm (Form.Make seed commits) (map string_bytes words.now) →
+    ensures make { (seed commits : ℕ) →
+        IsForm (Form.Make seed commits) (map string_bytes words.now) →
         MakesAs D.Disk K.Sink seed commits result disk.old disk.new out.old out.new ×
         (trace.new ≡ trace.old) }
 

@@ -40,7 +40,8 @@ fn report_answer<K: Sink>(
 ) -> Result<(), Halt>
     requires { tally.old.passed + tally.old.rejected + 1 < 2 ^ 64 }
     ensures printed { OnOk result (K.kept out.new ≡
-        option_map (λ kept. kept ++ answer_text style tally.old at settle answer) (K.kept out.old)) }
+        option_map (λ kept. kept ++ answer_text style tally.old at settle answer)
+        (K.kept out.old)) }
     ensures tally { tally.new ≡ tally_after tally.old answer }
     ensures cause { HasPrintCause (K.faults out.old) (K.faults out.new) result }
 {

@@ -163,7 +163,8 @@ impl Checker {
         requires fits { write.at + length write.bytes < 2 ^ 64 }
         ensures answer { IfOk result (λ answer. answer ≡ Answer.Held) }
         ensures ok { OnOk result
-            (self.new ≡ record self.old { cache = with_bytes self.old.cache write.at write.bytes }) }
+            (self.new ≡
+            record self.old { cache = with_bytes self.old.cache write.at write.bytes }) }
         ensures err { IfErr result (λ stop. (stop ≡ Stop.NoMemory) × (self.new ≡ self.old)) }
     {
         match self.cache.hold(write) {
