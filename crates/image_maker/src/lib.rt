@@ -1,5 +1,5 @@
-//! Makes tree blocks and whole images for tests: leaves and nodes with their headers and checksums,
-//! the items of each tree, the base image of 32 MiB, a wider one, and the writes that make a file in it.
+//! Makes tree blocks and whole images: the fields of on-disk structures, leaves and nodes with their headers and
+//! checksums, the items of each tree, the base image of 32 MiB, a wider one, and the writes that make a file in it.
 #![tactic(auto)]
 
 mod base;
@@ -17,6 +17,7 @@ mod wider;
 pub use base::{BASE_BLOCKS, BASE_CHUNKS, BASE_LENGTH, base_image};
 pub use block::{FSID, with_checksum};
 pub use create::{create_writes, create_writes_with};
+pub use fields::Fields;
 pub use items::{
     ChunkAt, chunk_item, dev_extent_item, device_item, dir_entry, extent_item_of_block, group_item,
     inode_item, inode_ref_item, root_item,
