@@ -3,3 +3,4 @@ mod Sinking
 mod Commits
 mod Making
 mod Gathering
+mod Missing

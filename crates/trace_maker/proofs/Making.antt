@@ -8,39 +8,48 @@ use Rattle.recon_disk.specs.Outside.{MayBeAppended}
 use Rattle.trace_reader.specs.Trace.{IsSpelled, header_bytes, spelling_of, spelling_of_all}
 use Rattle.trace_maker.specs.declared.op.Op.{Op}
 use Rattle.trace_maker.specs.Plan.{plan_of}
-use Rattle.trace_maker.specs.Made.{Gained, IsFront, IsMade, IsCommitOf, AreCommits, is_commit}
-use Rattle.trace_maker.proofs.Commits.{counts_append, spelled_commit, one_commit, spelling_append, commits_more}
+use Rattle.trace_maker.specs.Made.{Gained, IsFront, IsMade, IsCommitOf, AreCommits, is_commit, carried_out}
+use Rattle.volume_maker.specs.Volume.{Standing, nothing_stands}
+use Rattle.trace_maker.proofs.Commits.{standing_after, standing_more, counts_append, spelled_commit, one_commit, spelling_append, commits_more}
 use Rattle.trace_maker.proofs.Sinking.{and_then, and_nothing, and_then_both, whole_appended, more_appended, later_appended, front_gained}
 
 -- The header and the records of the commits of the first i operations are gained.
-pub record SoFar (ops : List Op) (i : ℕ) (kept now : Option (List ℕ)) : Type 0 where
+pub record SoFar (ops : List Op) (i : ℕ) (standing : Standing) (kept now : Option (List ℕ)) : Type 0 where
   pub events : List Event
+  pub stands : standing ≡ standing_after 1 (take i ops) nothing_stands
   pub lawful : All IsSpelled events
-  pub planned : AreCommits 1 (take i ops) events
+  pub planned : AreCommits 1 nothing_stands (take i ops) events
   pub counted : count_by is_commit events ≡ i
   pub gained : now ≡ and_then kept (header_bytes ++ spelling_of_all events)
 
-pub start : (ops : List Op) (kept now : Option (List ℕ)) → now ≡ and_then kept header_bytes → SoFar ops 0 kept now
-start ops kept now e = record {
+pub start : (ops : List Op) (standing : Standing) (kept now : Option (List ℕ)) → standing ≡ nothing_stands → now ≡ and_then kept header_bytes
+    → SoFar ops 0 standing kept now
+start ops standing kept now s e = record {
   events = [];
+  stands = s;
   lawful = All-nil IsSpelled;
   planned = refl;
   counted = refl;
   gained = e;
 }
 
-pub more : (ops : List Op) (i : ℕ) (op : Op) (now : List Event) (kept mid after : Option (List ℕ)) → SoFar ops i kept mid
-    → i < length ops → take (i + 1) ops ≡ take i ops ++ op ∷ [] → IsCommitOf (i + 1) op now → after ≡ and_then mid (spelling_of_all now)
-    → SoFar ops (i + 1) kept after
-more ops i op now kept mid after s h t c e =
-    let P : ℕ → Type 0 = λ n. IsCommitOf n op now in
-    let Q : List Op → Type 0 = λ l. AreCommits 1 l (s.events ++ now) in
-    let size = length-take-le i ops (omega arith) in
-    let one = one_commit (i + 1) op now c in
+pub more : (ops : List Op) (i : ℕ) (op : Op) (now : List Event) (standing later : Standing) (kept mid after : Option (List ℕ)) → SoFar ops i standing kept mid
+    → i < length ops → take (i + 1) ops ≡ take i ops ++ op ∷ [] → IsCommitOf (i + 1) standing op now → later ≡ carried_out (i + 1) op standing
+    → after ≡ and_then mid (spelling_of_all now) → SoFar ops (i + 1) later kept after
+more ops i op now standing later kept mid after s h t c l e =
+    let before = standing_after 1 (take i ops) nothing_stands in
+    let size : length (take i ops) ≡ i = length-take-le i ops (omega arith) in
+    let number : i + 1 ≡ 1 + length (take i ops) = omega arith in
+    let P : ℕ → Type 0 = λ n. IsCommitOf n before op now in
+    let R : Standing → Type 0 = λ x. IsCommitOf (i + 1) x op now in
+    let Q : List Op → Type 0 = λ l. AreCommits 1 nothing_stands l (s.events ++ now) in
+    let one = one_commit (i + 1) standing op now c in
     record {
       events = s.events ++ now;
-      lawful = All-append IsSpelled s.events now s.lawful (spelled_commit (i + 1) op now c);
-      planned = subst Q (sym t) (commits_more 1 (take i ops) op s.events now s.planned (subst P (omega arith) c));
+      stands = l ∙ ap (carried_out (i + 1) op) s.stands ∙ ap (λ n. carried_out n op before) number
+          ∙ sym (standing_more 1 (take i ops) op nothing_stands) ∙ ap (λ l. standing_after 1 l nothing_stands) (sym t);
+      lawful = All-append IsSpelled s.events now s.lawful (spelled_commit (i + 1) standing op now c);
+      planned = subst Q (sym t) (commits_more 1 nothing_stands (take i ops) op s.events now s.planned (subst P number (subst R s.stands c)));
       counted = counts_append s.events now ∙ omega (arith, s.counted);
       gained =
           and_then_both kept mid after (header_bytes ++ spelling_of_all s.events) (spelling_of_all now) s.gained e
@@ -49,25 +58,25 @@ more ops i op now kept mid after s h t c e =
     }
 
 -- the sink failed, or memory was wanting, with a front of the records of this commit gained
-pub failed : (ops : List Op) (i : ℕ) (op : Op) (now : List Event) (kept mid after : Option (List ℕ)) → SoFar ops i kept mid
-    → IsCommitOf (i + 1) op now → MayBeAppended mid (spelling_of_all now) after → Gained IsFront kept after
-failed ops i op now kept mid after s c m =
+pub failed : (ops : List Op) (i : ℕ) (op : Op) (now : List Event) (standing : Standing) (kept mid after : Option (List ℕ)) → SoFar ops i standing kept mid
+    → IsCommitOf (i + 1) standing op now → MayBeAppended mid (spelling_of_all now) after → Gained IsFront kept after
+failed ops i op now standing kept mid after s c m =
     let all = header_bytes ++ spelling_of_all s.events in
     let P : List ℕ → Type 0 = λ b. MayBeAppended kept b after in
-    front_gained kept after (s.events ++ now) (All-append IsSpelled s.events now s.lawful (spelled_commit (i + 1) op now c))
+    front_gained kept after (s.events ++ now) (All-append IsSpelled s.events now s.lawful (spelled_commit (i + 1) standing op now c))
     (more_appended kept after (header_bytes ++ spelling_of_all (s.events ++ now)) (255 ∷ [])
     (subst P (append_assoc header_bytes (spelling_of_all s.events) (spelling_of_all now)
     ∙ ap (λ (b : List ℕ). header_bytes ++ b) (sym (spelling_append s.events now)))
     (later_appended kept mid after all (spelling_of_all now) s.gained m)))
 
 -- memory was wanting before the next commit
-pub stopped : (ops : List Op) (i : ℕ) (kept now : Option (List ℕ)) → SoFar ops i kept now → Gained IsFront kept now
-stopped ops i kept now s =
+pub stopped : (ops : List Op) (i : ℕ) (standing : Standing) (kept now : Option (List ℕ)) → SoFar ops i standing kept now → Gained IsFront kept now
+stopped ops i standing kept now s =
     front_gained kept now s.events s.lawful (more_appended kept now (header_bytes ++ spelling_of_all s.events) (255 ∷ []) (whole_appended kept now (header_bytes ++ spelling_of_all s.events) s.gained))
 
 -- the sink failed at the end tag
-pub cut : (ops : List Op) (i : ℕ) (kept mid after : Option (List ℕ)) → SoFar ops i kept mid → MayBeAppended mid (255 ∷ []) after → Gained IsFront kept after
-cut ops i kept mid after s m =
+pub cut : (ops : List Op) (i : ℕ) (standing : Standing) (kept mid after : Option (List ℕ)) → SoFar ops i standing kept mid → MayBeAppended mid (255 ∷ []) after → Gained IsFront kept after
+cut ops i standing kept mid after s m =
     front_gained kept after s.events s.lawful (later_appended kept mid after (header_bytes ++ spelling_of_all s.events) (255 ∷ []) s.gained m)
 
 -- nothing is gained
@@ -81,7 +90,7 @@ header_cut kept after m =
     front_gained kept after [] (All-nil IsSpelled) (more_appended kept after header_bytes (255 ∷ []) m)
 
 gains_made : (seed commits : ℕ) (events : List Event) (kept after : Option (List ℕ)) → All IsSpelled events
-    → AreCommits 1 (plan_of seed commits) events → count_by is_commit events ≡ commits
+    → AreCommits 1 nothing_stands (plan_of seed commits) events → count_by is_commit events ≡ commits
     → after ≡ and_then kept (header_bytes ++ spelling_of_all events ++ 255 ∷ []) → Gained (IsMade seed commits) kept after
 gains_made seed commits events None after lawful planned counted e = e
 gains_made seed commits events (Some k) after lawful planned counted e = (
@@ -91,10 +100,10 @@ gains_made seed commits events (Some k) after lawful planned counted e = (
 )
 
 -- the whole trace is gained
-pub ended : (seed commits : ℕ) (ops : List Op) (i : ℕ) (kept mid after : Option (List ℕ)) → SoFar ops i kept mid
+pub ended : (seed commits : ℕ) (ops : List Op) (i : ℕ) (standing : Standing) (kept mid after : Option (List ℕ)) → SoFar ops i standing kept mid
     → ops ≡ plan_of seed commits → length ops ≡ commits → i ≡ commits → after ≡ and_then mid (255 ∷ []) → Gained (IsMade seed commits) kept after
-ended seed commits ops i kept mid after s e n h f =
-    let P : List Op → Type 0 = λ l. AreCommits 1 l s.events in
+ended seed commits ops i standing kept mid after s e n h f =
+    let P : List Op → Type 0 = λ l. AreCommits 1 nothing_stands l s.events in
     gains_made seed commits s.events kept after s.lawful
     (subst P (take_all i ops (omega arith) ∙ e) s.planned)
     (s.counted ∙ h)

@@ -1,4 +1,4 @@
+pub mod Live
 pub mod Plan
 pub mod Made
-pub mod Space
 pub mod Writes

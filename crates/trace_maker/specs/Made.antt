@@ -1,5 +1,5 @@
 -- The trace that is made of a workload: for each operation of its plan the writes of one commit.
-use Rattle.std.specs.Prelude.{ℕ, ◌≡◌, ◌+◌, ◌*◌, ◌%◌, ◌⊎◌, Bool, true, false, List, [], ◌∷◌, ◌++◌, length, replicate, count_by, Option, Some, None, Result, Ok, Err, take}
+use Rattle.std.specs.Prelude.{ℕ, ◌≡◌, ◌+◌, ◌*◌, ◌%◌, ◌<◌, ◌⊎◌, Bool, true, false, List, [], ◌∷◌, ◌++◌, length, replicate, count_by, Option, Some, None, Result, Ok, Err, take}
 use Rattle.std.specs.List.{All}
 use Rattle.verdict.specs.declared.machine.Event.{Event}
 use Rattle.verdict.specs.declared.machine.Event.TheVariants.{Write, Settle, Fetch}
@@ -10,6 +10,7 @@ use Rattle.trace_maker.specs.declared.op.Op.TheVariants.{Subvolume, Directory, F
 use Rattle.trace_maker.specs.declared.fault.MakeFault.{MakeFault}
 use Rattle.trace_maker.specs.declared.fault.MakeFault.TheVariants.{Write as WriteFault, NoMemory}
 use Rattle.trace_maker.specs.Plan.{plan_of}
+use Rattle.volume_maker.specs.Volume.{Standing, nothing_stands, lowest_free, with_subvolume, with_directory, with_empty_file, filled, shared, removed}
 
 -- whether an event is a commit: a write that touches the superblock place
 abbrev pub is_commit : Event → Bool
@@ -37,10 +38,24 @@ sectors_of (Removed ino) = 0
 abbrev pub data_of : ℕ → Op → List ℕ
 data_of k op = replicate (4096 * sectors_of op) (k % 256)
 
--- the writes of an operation's data at commit k: one by submitter 1, and none where there is no data
-abbrev pub IsDataOf : ℕ → Op → List Event → Type 0
-IsDataOf k op events =
-    ((sectors_of op ≡ 0) × (events ≡ [])) ⊎ ((at : ℕ) × (events ≡ Write 1 at (data_of k op) ∷ []))
+-- what stands when commit k has carried out its operation
+abbrev pub carried_out : ℕ → Op → Standing → Standing
+carried_out k (Subvolume id) s = with_subvolume k id s
+carried_out k (Directory ino) s = with_directory k s
+carried_out k (File ino dir) s = with_empty_file k dir s
+carried_out k (Filled ino dir sectors sort) s = filled k dir sectors sort s
+carried_out k (Shared ino dir of) s = shared k dir of s
+carried_out k (Removed ino) s = removed ino s
+
+-- an operation's data has its first sector in the lowest place of so many sectors that is free before the commit
+abbrev pub IsPlaceOf : Op → Standing → ℕ → Type 0
+IsPlaceOf op s sector = 0 < sectors_of op → lowest_free s.extents (sectors_of op) ≡ Some sector
+
+-- the writes of an operation's data at commit k, from a sector of the data chunk on: one by submitter 1, and none where there
+-- is no data
+abbrev pub IsDataOf : ℕ → Op → ℕ → List Event → Type 0
+IsDataOf k op sector events =
+    ((sectors_of op ≡ 0) × (events ≡ [])) ⊎ (events ≡ Write 1 (22020096 + 4096 * sector) (data_of k op) ∷ [])
 
 -- the write of the whole superblock place, by submitter 0
 abbrev pub IsSuperblockWrite : Event → Type 0
@@ -49,31 +64,35 @@ IsSuperblockWrite (Write submitter at bytes) =
 IsSuperblockWrite Settle = ⊥
 IsSuperblockWrite (Fetch at len) = ⊥
 
--- The writes of commit k, which carries out an operation: its data, then tree blocks by submitter 0, and at last the
--- whole superblock place by submitter 0.
-pub record IsCommitOf (k : ℕ) (op : Op) (events : List Event) : Type 0 where
+-- The writes of commit k, which carries out an operation on what stands: its data, then tree blocks by submitter 0, and at
+-- last the whole superblock place by submitter 0.
+pub record IsCommitOf (k : ℕ) (standing : Standing) (op : Op) (events : List Event) : Type 0 where
+  pub sector : ℕ
   pub data_writes : List Event
   pub blocks : List Event
   pub superblock : Event
   pub parts : events ≡ data_writes ++ blocks ++ superblock ∷ []
-  pub of_data : IsDataOf k op data_writes
+  pub place : IsPlaceOf op standing sector
+  pub of_data : IsDataOf k op sector data_writes
   pub lawful_data : All (IsWriteBy 1) data_writes
   pub lawful_blocks : All (IsWriteBy 0) blocks
   pub lawful : IsSuperblockWrite superblock
 
--- these events are the writes of the commits of these operations, which are numbered from k on
-abbrev pub AreCommits : ℕ → List Op → List Event → Type 0
-AreCommits k [] events = events ≡ []
-AreCommits k (op ∷ ops) events =
-    (now : List Event) × (later : List Event) × (events ≡ now ++ later) × IsCommitOf k op now × AreCommits (k + 1) ops later
+-- these events are the writes of the commits of these operations, which are numbered from k on, each on what stands after
+-- those before it
+abbrev pub AreCommits : ℕ → Standing → List Op → List Event → Type 0
+AreCommits k standing [] events = events ≡ []
+AreCommits k standing (op ∷ ops) events =
+    (now : List Event) × (later : List Event) × (events ≡ now ++ later)
+    × IsCommitOf k standing op now × AreCommits (k + 1) (carried_out k op standing) ops later
 
--- The bytes are one trace and nothing behind it: the header, the records of the commits of a plan, of which there are
--- as many as asked for, and the end tag.
+-- The bytes are one trace and nothing behind it: the header, the records of the commits of a plan on an empty file system,
+-- of which there are as many as asked for, and the end tag.
 pub record IsMade (seed commits : ℕ) (bytes : List ℕ) : Type 0 where
   pub events : List Event
   pub spelled : bytes ≡ header_bytes ++ spelling_of_all events ++ 255 ∷ []
   pub lawful : All IsSpelled events
-  pub planned : AreCommits 1 (plan_of seed commits) events
+  pub planned : AreCommits 1 nothing_stands (plan_of seed commits) events
   pub counted : count_by is_commit events ≡ commits
 
 -- the bytes are a front of a header, of records and of an end tag

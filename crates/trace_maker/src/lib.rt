@@ -2,21 +2,13 @@
 //! that carry it out.
 #![tactic(auto)]
 
-mod contents;
 mod draw;
 mod fault;
-mod item_bytes;
-mod items;
-mod kinds;
 mod make;
 mod maker;
-mod names;
 mod op;
 mod planner;
 mod record;
-mod space;
-mod tree;
-mod volume;
 mod workload;
 mod writes;
 

@@ -1,19 +1,20 @@
 //! The writes of a commit.
 
-ghost use Rattle.std.specs.Prelude.{◌≡◌, ◌+◌, ◌*◌, ◌%◌, ◌<◌, ◌≤◌, length, replicate, IfOk, OnOk};
+ghost use Rattle.std.specs.Prelude.{◌≡◌, ◌+◌, ◌*◌, ◌%◌, ◌<◌, ◌≤◌, [], ◌∷◌, length, replicate, IfOk, OnOk};
 ghost use Rattle.std.specs.List.{All};
 ghost use Rattle.trace_reader.specs.Trace.{IsBytes};
 ghost use Rattle.trace_maker.specs.Made.{IsDataOf, IsSuperblockWrite, IsWriteBy, sectors_of};
 ghost use Rattle.trace_maker.specs.Writes.{HasMore};
+ghost use Rattle.volume_maker.specs.Live.{blocks_of};
+ghost use Rattle.verdict.specs.Events.{begin_of, length_of};
 ghost use Rattle.verdict.specs.declared.machine.Event.TheVariants.{Write};
 
 use crate::op::Op;
-use crate::space::{block_address, sector_place};
-use crate::tree::{Block, Tree};
 use image_maker::{superblock_of, with_checksum};
 use recon_bytes::put_u64;
 use std::alloc::Global;
 use verdict::{Bytes, Event, NoMemory, SUPERBLOCK_AT};
+use volume_maker::{Block, Tree, block_address, sector_place};
 
 // How many sectors of data an operation writes.
 fn sectors_of(op: &Op) -> u8
@@ -48,8 +49,10 @@ fn data_write(alloc: Global, k: u32, sectors: u8, sector: u16) -> Result<Event, 
 
 /// The writes of the data of the operation of commit k, of which the first sector stands in this place.
 pub fn data_writes(alloc: Global, k: u32, op: &Op, sector: u16) -> Result<Vec<Event>, NoMemory>
-    ensures data { IfOk result (λ events. IsDataOf k op.now events.items) }
+    ensures data { IfOk result (λ events. IsDataOf k op.now sector events.items) }
     ensures lawful { IfOk result (λ events. All (IsWriteBy 1) events.items) }
+    // The data chunk stands behind all tree blocks.
+    ensures behind { IfOk result (λ events. All (λ e. 22020096 ≤ begin_of e) events.items) }
 {
     let sectors = sectors_of(op);
     if sectors == 0 {
@@ -73,7 +76,10 @@ fn held(alloc: Global, bytes: &[u8]) -> Result<Bytes, NoMemory>
 // The write of a copy of a block, which lies so far behind the first.
 fn block_write(alloc: Global, block: &Block, copy: u64) -> Result<Event, NoMemory>
     requires { copy ≤ 8388608 }
-    ensures { IfOk result (IsWriteBy 0) }
+    ensures lawful { IfOk result (IsWriteBy 0) }
+    ensures place { IfOk result (λ write.
+        begin_of write ≡ 5242880 + 16384 * block.now.at.number + copy) }
+    ensures size { IfOk result (λ write. length_of write ≡ 16384) }
 {
     Ok(Event::Write {
         submitter: 0,
@@ -92,7 +98,8 @@ fn add_block(
     generation: u64,
 ) -> Result<(), NoMemory>
     requires { copy ≤ 8388608 }
-    ensures { OnOk result (HasMore into.old.items into.new.items) }
+    ensures { OnOk result
+        (HasMore generation (block.now.at ∷ []) copy into.old.items into.new.items) }
 {
     if block.at.generation != generation {
         return Ok(());
@@ -106,7 +113,6 @@ fn add_block(
 
 /// Adds the writes of a copy of each block of a tree that has this generation. The copy lies so far behind
 /// the first.
-#[tactic(auto, using(crate::proofs::Gathering::has_none, crate::proofs::Gathering::has_more))]
 pub fn add_tree(
     alloc: Global,
     into: &mut Vec<Event>,
@@ -115,7 +121,8 @@ pub fn add_tree(
     generation: u64,
 ) -> Result<(), NoMemory>
     requires { copy ≤ 8388608 }
-    ensures { OnOk result (HasMore into.old.items into.new.items) }
+    ensures { OnOk result
+        (HasMore generation (blocks_of tree.now) copy into.old.items into.new.items) }
 {
     for leaf in &tree.leaves {
         add_block(alloc, into, leaf, copy, generation)?;

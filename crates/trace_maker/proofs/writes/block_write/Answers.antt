@@ -2,8 +2,8 @@ use Rattle.std.proofs.Common.{◌≡◌, ℕ, ◌+◌, List, length, ap, ◌∙�
 use Rattle.trace_maker.proofs.Gathering.{lawful_write}
 use Rattle.trace_maker.proofs.writes.block_write.Goals as goal
 
-pub returns : goal.returns
-returns c =
+pub returns-clause-lawful : goal.returns-clause-lawful
+returns-clause-lawful c =
     let bytes = c.in_ok-held.field-0 in
     let size : length bytes ≡ 16384 = ap (λ (b : List ℕ). length b) c.in_ok-held.ensures.same ∙ ap (λ (b : List ℕ). length b) c.as_slice.ensures ∙ c.args.block.now.whole in
     let place = c.block_address.ensures in

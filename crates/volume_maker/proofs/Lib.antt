@@ -1,0 +1,4 @@
+mod Found
+mod Sums
+mod Remaking
+mod Places

@@ -1,0 +1,4 @@
+pub mod Volume
+pub mod Items
+pub mod Live
+pub mod Remade
