@@ -9,6 +9,7 @@ use image_maker::{
 use recon_disk::{Disk, Fail as DiskFail, MemDisk, MemSink, MemSource, Op, Steps};
 use std::alloc::{AllocError, Global};
 use std::test::Fail;
+use trace_maker::make_trace;
 use verdict::{Bytes, Event, Key};
 
 /// The words of a check, of a replay, and of a replay whose lines are JSON.
@@ -20,6 +21,9 @@ pub const REPLAY_JSON: &[&str] = &["replay", "--json", "image"];
 
 /// The line of the base image.
 pub const ACCEPTED: &str = "image accepted generation 1\n";
+
+// The room for the trace of a workload.
+const TRACE_ROOM: usize = 67_108_864;
 
 /// A piece of a trace: the bytes themselves, the base superblock, the same with its first magic byte 0,
 /// the same that says 4096 used bytes less, or the image's first MiB.
@@ -114,13 +118,26 @@ pub fn run_with(
     source_fails: &[u64],
     sink_fails: &[(u64, usize)],
 ) -> Result<(u8, MemSink), Fail> {
+    run_in_room(alloc, words, disk, trace, 20_000, source_fails, sink_fails)
+}
+
+/// The same with a sink that has room for so many bytes.
+pub fn run_in_room(
+    alloc: Global,
+    words: &[&str],
+    disk: &mut MemDisk,
+    trace: &[u8],
+    room: usize,
+    source_fails: &[u64],
+    sink_fails: &[(u64, usize)],
+) -> Result<(u8, MemSink), Fail> {
     let mut owned = Vec::new(alloc);
     for word in words {
         owned.push(String::from_str(alloc, word)?)?;
     }
     let trace = Vec::from_slice(alloc, trace)?;
     let mut source = MemSource::new(trace, 1_048_576, Vec::from_slice(alloc, source_fails)?);
-    let mut out = MemSink::new(alloc, 20_000, Vec::from_slice(alloc, sink_fails)?)?;
+    let mut out = MemSink::new(alloc, room, Vec::from_slice(alloc, sink_fails)?)?;
     let mut steps = Steps::new(());
     let status = recon_run(
         alloc,
@@ -131,6 +148,24 @@ pub fn run_with(
         &mut steps,
     );
     Ok((status, out))
+}
+
+/// The status of a make over a disk and the sink that holds its trace. The calls of the sink with these numbers fail,
+/// and each read of a trace would.
+pub fn make_on(
+    alloc: Global,
+    words: &[&str],
+    disk: &mut MemDisk,
+    sink_fails: &[(u64, usize)],
+) -> Result<(u8, MemSink), Fail> {
+    run_in_room(alloc, words, disk, b"", TRACE_ROOM, &[1], sink_fails)
+}
+
+/// The whole trace of a workload.
+pub fn whole_trace(alloc: Global, seed: u64, commits: u32) -> Result<MemSink, Fail> {
+    let mut sink = MemSink::new(alloc, TRACE_ROOM, Vec::new(alloc))?;
+    make_trace(alloc, seed, commits, &mut sink)?;
+    Ok(sink)
 }
 
 /// The lines of the first of these replays over one disk that does not end with this status and these lines

@@ -1,19 +1,18 @@
-//! Workloads replayed over the base image: each commit passes, and the image is left with the files of the plan.
+//! Workloads that the program makes: each commit passes over the device that it leaves, and leaves the files of the
+//! plan; and a call that fails in a make leaves what its status says.
 
 ghost use Rattle.std.specs.Prelude.{◌≤◌};
 
-use crate::fixtures::{ACCEPTED, REPLAY, disk_over, part, run_with};
-use image_maker::base_image;
-use recon_disk::MemSink;
+use crate::fixtures::{ACCEPTED, REPLAY, disk_over, make_on, part, run_with, whole_trace};
+use image_maker::{BASE_LENGTH, base_image};
+use recon_disk::{Fail as DiskFail, MemSink, Op as DiskOp};
 use std::alloc::{AllocError, Global};
+use std::process::Abort;
 use std::test::Fail;
-use trace_maker::{MakeFault, Op, make_trace, plan};
+use trace_maker::{Op, plan};
 
 // How many commits are replayed.
 const COMMITS: u32 = 200;
-
-// The room for a trace.
-const ROOM: usize = 67_108_864;
 
 // The inodes of the file tree, each with whether it is a directory and, where it is none, its bytes; the inode and the
 // directory of each name there; the subvolumes; and the root block of the file tree.
@@ -211,11 +210,12 @@ fn lines_of(alloc: Global, commits: u32) -> Result<String, Fail> {
 #[test]
 fn a_workload_passes_and_leaves_the_files_of_its_plan(rt: HostRuntime) -> Result<(), Fail> {
     let alloc = rt.alloc();
-    let mut sink = MemSink::new(alloc, ROOM, Vec::new(alloc))?;
-    assert_eq!(rt; make_trace(alloc, 7, COMMITS, &mut sink), Ok(()));
-    let base = base_image(alloc)?;
-    let mut disk = disk_over(alloc, base.as_slice(), &[])?;
-    let (status, out) = run_with(alloc, REPLAY, &mut disk, sink.bytes(), &[], &[])?;
+    let old = vec![in alloc; 0xa5u8; BASE_LENGTH]?;
+    let mut disk = disk_over(alloc, &old, &[])?;
+    let (status, trace) = make_on(alloc, &["make", "7", "200", "image"], &mut disk, &[])?;
+    assert_eq!(rt; status, 0);
+    assert!(rt; disk.bytes() == base_image(alloc)?.as_slice());
+    let (status, out) = run_with(alloc, REPLAY, &mut disk, trace.bytes(), &[], &[])?;
     assert_eq!(rt; status, 0);
     assert!(rt; out.bytes() == lines_of(alloc, COMMITS)?.as_bytes());
     let want = planned(alloc, &plan(alloc, 7, COMMITS)?)?;
@@ -227,26 +227,108 @@ fn a_workload_passes_and_leaves_the_files_of_its_plan(rt: HostRuntime) -> Result
     Ok(())
 }
 
-// Each call of the sink fails in its turn, until none does.
-#[test]
-fn a_workload_that_is_cut_is_a_front_of_the_whole(rt: HostRuntime) -> Result<(), Fail> {
-    let alloc = rt.alloc();
-    let mut whole = MemSink::new(alloc, ROOM, Vec::new(alloc))?;
-    assert_eq!(rt; make_trace(alloc, 7, 3, &mut whole), Ok(()));
+// The bytes of a device before a make and after it, and the trace that the make writes.
+#[derive(Drop)]
+struct Whole {
+    old: Vec<u8>,
+    new: Vec<u8>,
+    trace: MemSink,
+}
+
+// The same of a device that is longer than the base image.
+fn whole_of(alloc: Global) -> Result<Whole, Fail> {
+    let behind = [0x3cu8; 700];
+    let mut old = vec![in alloc; 0xa5u8; BASE_LENGTH]?;
+    old.extend_from_slice(&behind)?;
+    let mut new = Vec::from_slice(alloc, base_image(alloc)?.as_slice())?;
+    new.extend_from_slice(&behind)?;
+    let trace = whole_trace(alloc, 7, 3)?;
+    Ok(Whole { old, new, trace })
+}
+
+// The words of that make.
+const MAKE: &[&str] = &["make", "7", "3", "image"];
+
+// Each call of the sink fails in its turn, and keeps so many bytes of its piece, until none fails: which turn that is.
+fn sink_turns(rt: &impl Abort, alloc: Global, whole: &Whole, keep: usize) -> Result<u64, Fail> {
     for nth in 1..1000u64 {
-        let fails = vec![in alloc; (nth, 3usize)]?;
-        let mut sink = MemSink::new(alloc, whole.bytes().len(), fails)?;
-        match make_trace(alloc, 7, 3, &mut sink) {
-            Ok(()) => {
-                assert!(rt; nth > 1 && sink.bytes() == whole.bytes());
-                return Ok(());
-            }
-            Err(fault) => {
-                assert_eq!(rt; fault, MakeFault::Write);
-                assert!(rt; whole.bytes().starts_with(sink.bytes()), "{nth}");
-            }
+        let mut disk = disk_over(alloc, &whole.old, &[])?;
+        let (status, out) = make_on(alloc, MAKE, &mut disk, &[(nth, keep)])?;
+        assert!(rt; disk.bytes() == whole.new.as_slice(), "{nth}");
+        assert!(rt; whole.trace.bytes().starts_with(out.bytes()), "{nth}");
+        if status == 0 {
+            assert_eq!(rt; out.bytes().len(), whole.trace.bytes().len());
+            return Ok(nth);
         }
+        assert_eq!(rt; status, 6);
+    }
+    Ok(0)
+}
+
+// Where three bytes of a piece are kept, the end tag is kept whole, and its call fails as well.
+#[test]
+fn a_make_that_a_sink_ends_leaves_a_front_of_its_trace(rt: HostRuntime) -> Result<(), Fail> {
+    let alloc = rt.alloc();
+    let whole = whole_of(alloc)?;
+    let turns = sink_turns(&rt, alloc, &whole, 0)?;
+    assert!(rt; turns > 10);
+    assert_eq!(rt; sink_turns(&rt, alloc, &whole, 3)?, turns);
+    Ok(())
+}
+
+// Up to which byte a device has its new bytes, where it has its old ones from there on.
+fn split_of(left: &[u8], whole: &Whole) -> Option<usize> {
+    let mut pairs = left.iter().zip(whole.new.iter());
+    let split = pairs
+        .position(|(byte, new)| byte != new)
+        .unwrap_or(left.len());
+    let rest = part(left, split as u64, left.len());
+    if left.len() == whole.old.len() && whole.old.ends_with(rest) {
+        Some(split)
+    } else {
+        None
+    }
+}
+
+// Each call of a kind fails in its turn, and keeps so many bytes of a write, until none fails. The first leaves this
+// many new bytes in front of the device, and no later one leaves fewer.
+fn disk_turns(
+    rt: &impl Abort,
+    alloc: Global,
+    whole: &Whole,
+    (op, keep, first): (DiskOp, u32, usize),
+) -> Result<(), Fail> {
+    let mut last = Some(first);
+    for nth in 1..1000u64 {
+        let mut disk = disk_over(alloc, &whole.old, &[DiskFail { op, nth, keep }])?;
+        let (status, out) = make_on(alloc, MAKE, &mut disk, &[])?;
+        let split = split_of(disk.bytes(), whole);
+        if disk.faults() == 0 {
+            assert!(rt; nth > 1 && status == 0, "{op:?} {nth}");
+            assert!(rt; disk.bytes() == whole.new.as_slice(), "{op:?} {nth}");
+            assert!(rt; out.bytes() == whole.trace.bytes(), "{op:?} {nth}");
+            return Ok(());
+        }
+        assert_eq!(rt; (status, out.bytes().len()), (4, 0), "{op:?} {nth}");
+        assert!(rt; split >= last && (nth > 1 || split == last), "{op:?} {nth}");
+        last = split;
     }
     assert!(rt; false, "a call still failed");
+    Ok(())
+}
+
+#[test]
+fn a_make_that_a_device_ends_leaves_a_front_of_the_image(rt: HostRuntime) -> Result<(), Fail> {
+    let alloc = rt.alloc();
+    let whole = whole_of(alloc)?;
+    let rows = [
+        (DiskOp::Length, 0, 0),
+        (DiskOp::Write, 0, 0),
+        (DiskOp::Write, 3, 3),
+        (DiskOp::Flush, 0, whole.new.len()),
+    ];
+    for row in rows {
+        disk_turns(&rt, alloc, &whole, row)?;
+    }
     Ok(())
 }

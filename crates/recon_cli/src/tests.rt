@@ -3,7 +3,7 @@
 use crate::fixtures::Piece::{Bytes, FirstMib, NoMagic, Place};
 use crate::fixtures::{
     ACCEPTED, AT_PLACE, CHECK, END, HEADER, Object, Piece, REPLAY, REPLAY_JSON, disk_over,
-    fails_in_turn, run_with, trace_of, wrong_replay,
+    fails_in_turn, make_on, run_with, trace_of, whole_trace, wrong_replay,
 };
 use image_maker::base_image;
 use recon_disk::Op;
@@ -176,6 +176,28 @@ fn a_make_on_a_short_device_does_nothing(rt: HostRuntime) -> Result<(), Fail> {
         let (status, out) = run_with(alloc, words, &mut disk, b"", &[1], &[(1, 5)])?;
         assert_eq!(rt; (status, out.bytes().len()), (8, 0));
         assert!(rt; disk.bytes() == bytes);
+    }
+    Ok(())
+}
+
+// Zeros in front leave a number as it is.
+#[test]
+fn a_make_takes_the_numbers_of_its_words(rt: HostRuntime) -> Result<(), Fail> {
+    let alloc = rt.alloc();
+    let rows: [(&[&str], u64, u32); 4] = [
+        (&["make", "7", "1", "x"], 7, 1),
+        (&["make", "007", "01", "x"], 7, 1),
+        (&["make", "0", "3", "x"], 0, 3),
+        (&["make", "18446744073709551615", "3", "x"], u64::MAX, 3),
+    ];
+    for (words, seed, commits) in rows {
+        let mut disk = disk_over(alloc, base_image(alloc)?.as_slice(), &[])?;
+        let (status, trace) = make_on(alloc, words, &mut disk, &[])?;
+        assert_eq!(rt; status, 0);
+        assert!(rt;
+            trace.bytes() == whole_trace(alloc, seed, commits)?.bytes(),
+            "{seed}"
+        );
     }
     Ok(())
 }
