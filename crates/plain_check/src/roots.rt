@@ -22,6 +22,7 @@ use std::collections::BTreeSet;
 use super_reader::Super;
 use verdict::{Family, Finding, Key, Rule};
 use volume_items::RootItem;
+use verdict::kinds::ROOT_ITEM;
 
 // What is expected of the root of the chunk tree.
 pub fn chunk_root(sup: &Super) -> Expect
@@ -132,13 +133,13 @@ fn has_id(root: &RootItem, id: u64) -> bool
 
 // The finding of a tree without a root item.
 fn missing_tree(id: u64) -> Finding
-    ensures { result ≡ roots_finding 2 (record { objectid = id; kind = 132; offset = 0 }) }
+    ensures { result ≡ roots_finding 2 (record { objectid = id; kind = ROOT_ITEM; offset = 0 }) }
 {
     finding(
         2,
         Key {
             objectid: id,
-            kind: 132,
+            kind: ROOT_ITEM,
             offset: 0,
         },
     )

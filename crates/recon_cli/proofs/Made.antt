@@ -8,11 +8,11 @@ use Rattle.recon_disk.specs.Calls.{Sent, and_sent}
 use Rattle.recon_disk.specs.Outside.{MayBeWritten}
 use Rattle.recon_core.specs.Sent.{StaysOutside}
 use Rattle.recon_core.proofs.Told.{told_more, run_fails}
-use Rattle.recon_cli.specs.declared.halt.Halt.{Halt}
-use Rattle.recon_cli.specs.declared.halt.Halt.TheVariants.{Device, Trace, Lines, Memory}
+use Rattle.recon_cli.specs.declared.run_fault.RunFault.{RunFault}
+use Rattle.recon_cli.specs.declared.run_fault.RunFault.TheVariants.{Device, Trace, Lines, Memory}
 use Rattle.recon_cli.specs.Making.{StaysPastBase}
 use Rattle.recon_cli.specs.Run.{HasStatusCause, HasTurnCause, faults_are}
-use Rattle.recon_cli.specs.Status.{halt_status}
+use Rattle.recon_cli.specs.Status.{fault_status}
 
 -- some calls were sent behind those before
 abbrev pub SentMore : Option (List Sent) → Option (List Sent) → Type 0
@@ -81,8 +81,8 @@ past_base_of (Some image) mid last n same is h =
     some_weaker (StaysOutside 0 n image) (StaysPastBase image) last (λ left stays. past_base image left n is stays) (subst (λ o. IfSome o (λ i. IsSomeAnd last (StaysOutside 0 n i))) same h)
 
 -- a make that stops early leaves the counts of faults as its status says
-pub stops_with_cause : (disk disk' source sink sink' : ℕ) (halt : Halt) → HasTurnCause {T = ℕ} disk disk' sink sink' (Err halt)
-    → HasStatusCause (faults_are disk source sink) (faults_are disk' source sink') (halt_status halt)
+pub stops_with_cause : (disk disk' source sink sink' : ℕ) (run_fault : RunFault) → HasTurnCause {T = ℕ} disk disk' sink sink' (Err run_fault)
+    → HasStatusCause (faults_are disk source sink) (faults_are disk' source sink') (fault_status run_fault)
 stops_with_cause disk disk' source sink sink' Device h = record { disk = h.0; source = refl; sink = h.1 }
 stops_with_cause disk disk' source sink sink' Trace h = absurd h
 stops_with_cause disk disk' source sink sink' Lines h = record { disk = h.0; source = refl; sink = h.1 }

@@ -3,13 +3,13 @@
 #![tactic(auto)]
 
 mod check;
-mod halt;
+mod run_fault;
 mod lines;
 mod making;
 mod outside;
 mod replay;
 mod run;
-mod tally;
+mod counts;
 mod turn;
 mod words;
 

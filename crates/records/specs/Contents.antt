@@ -18,6 +18,7 @@ use Rattle.records.specs.Part.{Located}
 use Rattle.records.specs.Part.Part.{SuperPart}
 use Rattle.records.specs.Walk.{Records, each, then_records, walk_of, block_reading}
 use Rattle.records.specs.Takes.{held_after, with_chunk, with_root}
+use Rattle.verdict.specs.declared.kinds.TheConstants.{ROOT_ITEM}
 
 -- the superblock of an image, or the first finding: the image has fewer than 69,632 bytes, so that no superblock lies in it, or a
 -- rule of the superblock fails
@@ -65,7 +66,7 @@ repeated_after before (root ∷ roots) =
 
 -- X2: no root item names a tree that each image has
 abbrev pub missing_row : List RootItem → ℕ → TableRow
-missing_row roots id = record { fails = not (list_any (names id) roots); finding = roots_finding 2 (record { objectid = id; kind = 132; offset = 0 }) }
+missing_row roots id = record { fails = not (list_any (names id) roots); finding = roots_finding 2 (record { objectid = id; kind = ROOT_ITEM; offset = 0 }) }
 
 -- X2 of the extent tree, the device tree, the first file tree and the tree of checksums
 abbrev pub missing_rows : List RootItem → List TableRow

@@ -16,7 +16,7 @@ invariant-records g l =
       live : l.reader.live ≡ true;
       limit : l.reader.limit ≡ record_limit;
       few : l.reader.whole ≤ l.reader.limit;
-      count : l.tally.passed + l.tally.rejected ≤ l.reader.whole;
+      count : l.counts.passed + l.counts.rejected ≤ l.reader.whole;
       same : IsSameOutside l.fn.lent l.lent;
       open_ : l.checker.closed ≡ false;
       size : l.checker.length ≡ disk.len l.lent.disk.now;
@@ -26,7 +26,7 @@ invariant-records g l =
       sink_faults : sink.faults l.lent.out.now ≡ sink.faults l.fn.lent.out.now;
       going : (first : MachineState) (bytes kept : List ℕ) → StandsFor l.fn.checker first → disk.bytes l.fn.lent.disk.now ≡ Some first.image →
           IsBytes bytes → source.left l.fn.lent.trace.now ≡ Some bytes → sink.kept l.fn.lent.out.now ≡ Some kept →
-          Going l.fn.style first bytes kept l.reader l.tally l.checker (disk.bytes l.lent.disk.now) (source.left l.lent.trace.now) (sink.kept l.lent.out.now);
+          Going l.fn.style first bytes kept l.reader l.counts l.checker (disk.bytes l.lent.disk.now) (source.left l.lent.trace.now) (sink.kept l.lent.out.now);
     }
 
 abbrev pub decreases-records : goal.decreases-records
