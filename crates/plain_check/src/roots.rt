@@ -20,9 +20,9 @@ use node_reader::Expect;
 use std::alloc::Global;
 use std::collections::BTreeSet;
 use super_reader::Super;
+use verdict::kinds::ROOT_ITEM;
 use verdict::{Family, Finding, Key, Rule};
 use volume_items::RootItem;
-use verdict::kinds::ROOT_ITEM;
 
 // What is expected of the root of the chunk tree.
 pub fn chunk_root(sup: &Super) -> Expect

@@ -3,7 +3,7 @@
 /// What a commit does. Inodes stand in the file tree 5; the inode that commit k makes has the number
 /// 256 + k.
 #[derive(Clone, Copy, Debug, PartialEq, Eq)]
-pub enum Op {
+pub enum Operation {
     /// Makes a subvolume in the top directory.
     Subvolume {
         /// The number of its tree.
