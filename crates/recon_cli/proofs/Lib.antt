@@ -1,7 +1,7 @@
 pub mod Checking
 mod FewWords
 pub mod Going
-pub mod Lines
+pub mod Handing
 pub mod Made
 mod OneForm
 pub mod Start

@@ -4,8 +4,8 @@ ghost use Rattle.std.specs.Prelude.{ℕ, ◌≡◌, ◌⊎◌, ◌++◌, List, S
 ghost use Rattle.report.specs.Lines.{text_line};
 ghost use Rattle.recon_cli.specs.Run.{ChecksAs, HasPrintCause, HasTurnCause, TookLines};
 
-use crate::run_fault::RunFault;
 use crate::lines::{Style, print, refuse};
+use crate::run_fault::RunFault;
 use plain_check::{Fault, Verdict, judge};
 use recon_disk::{Disk, Sink};
 use report::Line;

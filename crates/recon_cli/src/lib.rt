@@ -3,13 +3,13 @@
 #![tactic(auto)]
 
 mod check;
-mod run_fault;
+mod counts;
 mod lines;
 mod making;
 mod outside;
 mod replay;
 mod run;
-mod counts;
+mod run_fault;
 mod turn;
 mod words;
 

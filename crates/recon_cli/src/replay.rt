@@ -9,10 +9,10 @@ ghost use Rattle.trace_reader.specs.Fault.{fault_number};
 ghost use Rattle.recon_cli.specs.Outcome.{line_in};
 ghost use Rattle.recon_cli.specs.Run.{HasFaultPrintCause, HasFaultCause, HasPrintCause, IsOfBytes, IsOutcomeStatus, IsSameOutside, Replays, ReplaysAs, TookLines, faults_lent};
 
-use crate::run_fault::RunFault;
+use crate::counts::Counts;
 use crate::lines::{Style, print, refuse};
 use crate::outside::Outside;
-use crate::counts::Counts;
+use crate::run_fault::RunFault;
 use crate::turn::take_event;
 use plain_check::{Fault, superblock};
 use recon_core::{Checker, Started};
@@ -117,7 +117,14 @@ fn take_records<D: Disk, S: Source, K: Sink, L>(
             Ok(Item::Event(event)) => {
                 let place = reader.record_number();
                 let turn = take_event(
-                    alloc, style, checker, &mut counts, place, event, lent.disk, lent.out,
+                    alloc,
+                    style,
+                    checker,
+                    &mut counts,
+                    place,
+                    event,
+                    lent.disk,
+                    lent.out,
                     lent.steps,
                 )?;
                 if let Some(status) = turn {

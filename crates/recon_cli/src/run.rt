@@ -10,10 +10,10 @@ ghost use Rattle.recon_cli.specs.Outcome.{replay_outcome};
 ghost use Rattle.recon_cli.specs.Run.{ChecksAs, ComesOut, HadNoFault, HasStatusCause, IsCheckStatus, IsOutcomeStatus, TookLines, faults_of, record_limit};
 
 use crate::check::check;
-use crate::run_fault::status_of;
 use crate::making::make;
 use crate::outside::Outside;
 use crate::replay::replay;
+use crate::run_fault::status_of;
 use crate::words::{Form, form_of};
 use recon_disk::{Disk, Sink, Source, Steps};
 use std::alloc::Global;

@@ -7,9 +7,9 @@ ghost use Rattle.recon_core.specs.Standing.{IsBelow, StandsFor};
 ghost use Rattle.recon_cli.specs.Outcome.{answer_text, is_settle, counts_after};
 ghost use Rattle.recon_cli.specs.Run.{HasPrintCause, HasTurnCause, TookLines, Turns};
 
-use crate::run_fault::RunFault;
-use crate::lines::{Style, print};
 use crate::counts::Counts;
+use crate::lines::{Style, print};
+use crate::run_fault::RunFault;
 use recon_core::Checker;
 use recon_disk::{Disk, Sink, Steps};
 use report::Line;

@@ -3,7 +3,20 @@ use Rattle.recon_core.specs.Standing.{IsBelow}
 use Rattle.recon_cli.specs.Run.{Turns, record_limit}
 use Rattle.recon_cli.specs.Outcome.{no_counts}
 use Rattle.recon_cli.proofs.Going.{Going, going_start, going_event, going_end, going_fault, going_past, place_is, place_fits, at_event, at_end, after_is, limit_over, both_ok, each_ok, fault_cause, three_is, event_reads}
+use Rattle.recon_cli.proofs.Handing.{more_lines, no_lines}
 use Rattle.recon_cli.proofs.replay.take_records.Goals as goal
+
+pub returns-in_err-turn-in-Ok-Event-clause-lines : goal.returns-in_err-turn-in-Ok-Event-clause-lines
+returns-in_err-turn-in-Ok-Event-clause-lines g c = more_lines c.records.invariant.lines c.in_err-turn-in-Ok-Event.ensures.lines
+
+pub returns-in-Some-clause-lines : goal.returns-in-Some-clause-lines
+returns-in-Some-clause-lines g c = more_lines c.records.invariant.lines c.in_ok-turn-in-Ok-Event.ensures.lines
+
+pub returns-in-Ok-End-clause-lines : goal.returns-in-Ok-End-clause-lines
+returns-in-Ok-End-clause-lines g c = more_lines c.records.invariant.lines c.print_summary.ensures.lines
+
+pub returns-in-Err-clause-lines : goal.returns-in-Err-clause-lines
+returns-in-Err-clause-lines g c = more_lines c.records.invariant.lines c.print_fault.ensures.lines
 
 pub records-init : goal.records-init
 records-init g c =
@@ -20,6 +33,7 @@ records-init g c =
       disk_faults = refl;
       source_faults = refl;
       sink_faults = refl;
+      lines = no_lines refl;
       going = λ first bytes kept stands image lawful left printed.
           subst (λ r. Going c.args.style first bytes kept r no_counts c.args.checker.now (g.D.Disk.bytes c.args.lent.now.disk.now) (g.S.Source.left c.args.lent.now.trace.now) (g.K.Sink.kept c.args.lent.now.out.now)) (sym c.new-reader.ensures)
           (going_start c.args.style first bytes kept c.args.checker.now (g.D.Disk.bytes c.args.lent.now.disk.now) (g.S.Source.left c.args.lent.now.trace.now) (g.K.Sink.kept c.args.lent.now.out.now) stands image lawful left printed);
@@ -85,6 +99,7 @@ records-preserved g c =
       disk_faults = turn.cause.0 ∙ c.records.invariant.disk_faults;
       source_faults = event_reads (g.S.Source.faults c.records.lent.trace.now) (g.S.Source.faults c.next.new.source) c.in-Ok-Event.field-0 c.in-Ok-Event.ensures.cause ∙ c.records.invariant.source_faults;
       sink_faults = turn.cause.1 ∙ c.records.invariant.sink_faults;
+      lines = more_lines c.records.invariant.lines turn.lines;
       going = λ first bytes kept stands image lawful left printed.
           let going = c.records.invariant.going first bytes kept stands image lawful left printed in
           going_event c.args.style first bytes kept c.records.reader c.next.new.self c.records.counts c.take_event.new.counts c.records.checker c.take_event.new.checker (g.D.Disk.bytes c.records.lent.disk.now) (g.D.Disk.bytes c.take_event.new.disk)

@@ -1,5 +1,6 @@
 -- Lines that are handed to a sink one after the other.
-use Rattle.std.proofs.Common.{◌≡◌, List, [], ◌∷◌, ◌++◌, map, Option, Some, None, option_map, refl, sym, ap, ◌∙◌, append_assoc, append-nil, map-append}
+use Rattle.std.proofs.Common.{◌≡◌, List, [], ◌∷◌, ◌++◌, map, Option, Some, None, option_map, refl, sym, ap, ◌∙◌, append_assoc, append-nil, ℕ}
+use Rattle.std.proofs.lemmas.List.{map-append}
 use Rattle.recon_disk.specs.declared.sink.Sink.{Ghosts as SinkGhosts}
 use Rattle.report.specs.declared.line.Line.{Line}
 use Rattle.recon_cli.specs.declared.lines.Style.{Style}
