@@ -65,16 +65,16 @@ def by_crate(pairs):
 
 
 def listed(title, files, types, order):
-    """The list: crates from the program's call downward, their files in the order of their names."""
-    groups = by_crate(files)
+    """The list: crates from the program's call downward, their files and the types of their code by name."""
+    groups, named = by_crate(files), by_crate(types)
     lines = ['', f'{title}: {counted(len(files), "file")}, {counted(sum(files.values()), "line")}, in '
-             f'{counted(len(groups), "crate")}.', '']
-    for crate in sorted(groups, key=order.index, reverse=True):
-        names = ', '.join(f'{name} {files[crate, name]}' for name in groups[crate])
-        total = sum(files[crate, name] for name in groups[crate])
-        lines += wrapped(f'- `{crate}`, {counted(total, "line")}: {names}')
-    named = '; '.join(f'`{crate}`: {", ".join(names)}' for crate, names in by_crate(types).items())
-    return lines + ['', *wrapped(f'The types of the code that they name, {len(types)} of them: {named}.')]
+             f'{counted(len(groups), "crate")}; and {counted(len(types), "type")} of the code.', '']
+    for crate in sorted({*groups, *named}, key=order.index, reverse=True):
+        names = ', '.join(f'{name} {files[crate, name]}' for name in groups.get(crate, []))
+        total = counted(sum(files[crate, name] for name in groups.get(crate, [])), 'line')
+        text = f'- `{crate}`' + (f', {total}: {names}.' if names else '.')
+        lines += wrapped(text + (f' Types: {", ".join(named[crate])}.' if crate in named else ''))
+    return lines
 
 
 def wrapped(text):
