@@ -14,6 +14,7 @@ import tempfile
 
 os.chdir(os.path.dirname(os.path.abspath(__file__)) + '/..')
 sys.path.insert(0, 'examples')
+sys.dont_write_bytecode = True
 import base_image as base  # noqa: E402
 
 ROOT, EXTENT, CHUNK, DEVICE, FILES = base.BLOCKS[1], base.BLOCKS[2], base.BLOCKS[3], base.BLOCKS[4], base.BLOCKS[5]
