@@ -4,37 +4,16 @@ ghost use Rattle.std.specs.Prelude.{ℕ, ◌≡◌, ◌<◌, ◌≤◌, ◌⊎�
 ghost use Rattle.std.specs.Bool.{MatchBool};
 ghost use Rattle.verdict.specs.Image.{written};
 ghost use Rattle.recon_disk.specs.Calls.{Flushed, Sent, and_sent};
-ghost use Rattle.recon_core.specs.Sent.{Sends, StaysOutside};
+ghost use Rattle.recon_disk.specs.Sending.{Sends, StaysOutside};
 ghost use Rattle.recon_cli.specs.Making.{IsUnwritten, MakesAs};
 ghost use Rattle.recon_cli.specs.Run.{HasTurnCause};
 ghost use Rattle.recon_cli.specs.Status.{status_from};
 
 use crate::run_fault::RunFault;
 use image_maker::{BASE_LENGTH, base_image};
-use recon_disk::{Disk, Failed, Sink};
+use recon_disk::{Disk, Failed, Sink, write_all_at};
 use std::alloc::Global;
 use trace_maker::{MakeFault, make_trace};
-
-// The most bytes that one write to a disk has.
-const WRITE_MAX: usize = 1_048_576;
-
-// Writes an image over the front of the device, in calls of the most bytes and a shorter last one.
-fn write_image<D: Disk>(disk: &mut D, image: &[u8]) -> Result<(), Failed>
-    requires inside { length image.now ≤ D.len disk.old }
-    ensures device { Sends D.Disk disk.old disk.new result
-        (λ old. written old 0 image.now)
-        (StaysOutside 0 (length image.now)) }
-    ensures sent { OnOk result ((calls : List Sent) ×
-        (D.sent disk.new ≡ and_sent (D.sent disk.old) calls)) }
-{
-    let mut done = 0;
-    while done < image.len() {
-        let n = WRITE_MAX.min(image.len() - done);
-        disk.write(done as u64, &image[done..done + n])?;
-        done += n;
-    }
-    Ok(())
-}
 
 // Writes an image over the front of the device, and flushes it.
 fn put_image<D: Disk>(disk: &mut D, image: &[u8]) -> Result<(), Failed>
@@ -45,7 +24,7 @@ fn put_image<D: Disk>(disk: &mut D, image: &[u8]) -> Result<(), Failed>
     ensures flushed { OnOk result ((calls : List Sent) ×
         (D.sent disk.new ≡ and_sent (D.sent disk.old) (calls ++ Flushed ∷ []))) }
 {
-    write_image(disk, image)?;
+    write_all_at(disk, 0, image)?;
     disk.flush()
 }
 

@@ -1,8 +1,8 @@
 use Rattle.std.proofs.Common.{◌≡◌, ◌+◌, ◌-◌, ◌≤◌, length, take, drop, option_map}
-use Rattle.recon_core.specs.Order.{run_calls}
+use Rattle.recon_disk.specs.Calls.{run_calls}
 use Rattle.verdict.specs.Image.{written}
-use Rattle.recon_core.proofs.Ordered.{SentSoFar}
-use Rattle.recon_core.proofs.send.write_run.Given as goal
+use Rattle.recon_disk.proofs.Sending.{SentSoFar}
+use Rattle.recon_disk.proofs.writing.write_all_at.Given as goal
 
 -- a front is written so far
 abbrev pub invariant-loop-done : goal.invariant-loop-done

@@ -2,11 +2,11 @@ use Rattle.std.proofs.Common.{◌≡◌, ◌+◌, ◌-◌, ◌≤◌, length, ta
 use Rattle.std.proofs.lemmas.List.{length-take-le, length-drop}
 use Rattle.verdict.specs.Image.{written}
 use Rattle.recon_disk.specs.Outside.{counted}
-use Rattle.recon_core.specs.Order.{run_calls}
-use Rattle.recon_core.specs.Sent.{StaysOutside}
-use Rattle.recon_core.proofs.Told.{if_err, told_none, told_more, run_fails, sends_err}
-use Rattle.recon_core.proofs.Ordered.{part_sent, run_begins, run_more, run_ends}
-use Rattle.recon_core.proofs.send.write_run.Goals as goal
+use Rattle.recon_disk.specs.Calls.{run_calls}
+use Rattle.recon_disk.specs.Sending.{StaysOutside}
+use Rattle.recon_disk.proofs.Sending.{if_err, told_none, told_more, run_fails, sends_err}
+use Rattle.recon_disk.proofs.Sending.{part_sent, run_begins, run_more, run_ends}
+use Rattle.recon_disk.proofs.writing.write_all_at.Goals as goal
 
 pub loop-done-init : goal.loop-done-init
 loop-done-init g c = record { few = omega arith; size = refl; front = told_none (g.D.Disk.bytes c.args.disk.now) c.args.at c.args.bytes.now; order = run_begins (g.D.Disk.sent c.args.disk.now) c.args.at c.args.bytes.now; faults = refl }
