@@ -5,7 +5,7 @@ use Rattle.account_sums.specs.Kept.{summed_in}
 use Rattle.account_sums.specs.Sums.{rest_of}
 use Rattle.account_sums.proofs.Decided.{one_taken}
 use Rattle.account_sums.proofs.ShownSums.{on_ok_both}
-use Rattle.account_sums.proofs.summing.AccountsTaker.take.Goals as goal
+use Rattle.account_sums.proofs.summing.Accounts.add.Goals as goal
 
 pub returns : goal.returns
 returns c =
