@@ -120,5 +120,5 @@ abbrev pub walk_of : Super → Stored → Expect → Records
 walk_of sup stored e = block_and (below e.level sup stored) sup stored e
 
 -- the same, in an image by a list of chunks
-abbrev pub walk_in : Super → List Chunk → Expect → List ℕ → Records
+unfoldable pub walk_in : Super → List Chunk → Expect → List ℕ → Records
 walk_in sup chunks e image = walk_of sup (stored_in image chunks sup.nodesize) e

@@ -1,14 +1,14 @@
--- What a step of the check gives, over a disk with writes that wait. A step that has a finding stops there.
+-- What a step that reads gives, over a disk with writes that wait. A step that has a finding stops there.
 use Rattle.std.specs.Prelude.{ℕ, ◌≡◌, Bool, true, false, List, IfSome, Result, Ok, Err}
 use Rattle.std.specs.Ordering.{nat_cmp}
 use Rattle.std.specs.FinMap.{FinMap}
 use Rattle.verdict.specs.declared.finding.Finding.{Finding}
 use Rattle.recon_disk.specs.declared.disk.Disk.{Ghosts}
 use Rattle.write_cache.specs.Cache.{overlaid}
-use Rattle.plain_check.specs.declared.halt.Fault.{Fault}
-use Rattle.plain_check.specs.declared.halt.Fault.TheVariants.{Disk as FaultOfDisk, NoMemory as Want}
-use Rattle.plain_check.specs.declared.halt.Halt.{Halt}
-use Rattle.plain_check.specs.declared.halt.Halt.TheVariants.{Found, Disk, NoMemory}
+use Rattle.block_source.specs.declared.halt.Fault.{Fault}
+use Rattle.block_source.specs.declared.halt.Fault.TheVariants.{Disk as FaultOfDisk, NoMemory as Want}
+use Rattle.block_source.specs.declared.halt.Halt.{Halt}
+use Rattle.block_source.specs.declared.halt.Halt.TheVariants.{Found, Disk, NoMemory}
 
 -- whether an answer names a fault of the disk
 abbrev pub is_disk_fault : {A : Type 0} → Result A Fault → Bool

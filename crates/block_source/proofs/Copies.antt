@@ -18,9 +18,9 @@ use Rattle.std.specs.Prelude.{IfSome, Result, Ok}
 use Rattle.recon_disk.specs.declared.disk.Disk.{Ghosts}
 use Rattle.super_reader.specs.declared.Super.{Super}
 use Rattle.verdict.specs.declared.finding.Finding.{Finding}
-use Rattle.plain_check.specs.Gives.{Gives}
-use Rattle.plain_check.specs.declared.halt.Halt.{Halt}
-use Rattle.plain_check.specs.declared.halt.Halt.TheVariants.{Found as Halted, Disk, NoMemory}
+use Rattle.block_source.specs.Gives.{Gives}
+use Rattle.block_source.specs.declared.halt.Halt.{Halt}
+use Rattle.block_source.specs.declared.halt.Halt.TheVariants.{Found as Halted, Disk, NoMemory}
 use Rattle.std.proofs.Common.{sym, length, ◌*◌, ◌<◌, ◌^◌, Err, nat_lt, ◌≡◌, ℕ, ◌+◌, ◌-◌, ◌≤◌, Bool, true, false, not, cond, List, Option, Some, None, refl, ap, ◌∙◌, arith}
 use Rattle.std.specs.Prelude.{nat_le, ◌&&◌, ◌==◌, slice_index}
 use Rattle.verdict.specs.Chunks.{place, place_in, home, place_of_copies}
@@ -28,8 +28,9 @@ use Rattle.verdict.specs.declared.place.Chunk.{Chunk}
 use Rattle.verdict.specs.declared.place.Place.{Place}
 use Rattle.verdict.specs.declared.place.Place.TheVariants.{Nowhere, One, Two}
 use Rattle.write_cache.proofs.CacheLaws.{length-overlaid, range-overlaid_image}
-use Rattle.plain_check.specs.Private.{FitsIn}
-use Rattle.node_reader.specs.BlockBytes.{differs_at, bytes_at, block_bytes}
+use Rattle.block_source.specs.Private.{FitsIn}
+use Rattle.node_reader.specs.Stored.{differs_at, bytes_at, found_by, stored_in}
+use Rattle.node_reader.specs.Stored.CopyFault.{NoPlace}
 use Rattle.node_reader.proofs.Steps.{least_from_here, least_from_past, least_from_end}
 
 pub differs_is : (first second : List ℕ) (place : ℕ) → differs_at first second place ≡ not (slice_index first place == slice_index second place)
@@ -62,53 +63,20 @@ place_fits chunks a n end = fits_in (home chunks a n) a n end
 -- what waits over an image and over a range of it
 pub ruleset overlays = (length-overlaid, range-overlaid_image)
 
--- the bytes of a block at a multiple of a sector, on a device of so many bytes
-pub block_at : (m : FinMap nat_cmp ℕ) (image : List ℕ) (chunks : List Chunk) (n end : ℕ) (e : Expect) → length image ≡ end → is_multiple e.address ≡ true
-    → block_bytes (overlaid m 0 image) chunks n e ≡ bytes_at e n (overlaid m 0 image) (place chunks e.address n end)
-unfolding block_bytes
-block_at m image chunks n end e size multiple =
+-- what is stored at a multiple of a sector, on a device of so many bytes
+pub stored_at : (m : FinMap nat_cmp ℕ) (image : List ℕ) (chunks : List Chunk) (n end address : ℕ) → length image ≡ end → is_multiple address ≡ true
+    → stored_in (overlaid m 0 image) chunks n address ≡ bytes_at n (overlaid m 0 image) (place chunks address n end)
+unfolding stored_in
+stored_at m image chunks n end address size multiple =
     let whole : length (overlaid m 0 image) ≡ end = length-overlaid m 0 image ∙ size in
     rw (multiple, whole) refl
 
--- a block at another address has no place
-pub block_nowhere : (image : List ℕ) (chunks : List Chunk) (n : ℕ) (e : Expect) → is_multiple e.address ≡ false → block_bytes image chunks n e ≡ Err (block_finding e N 1 0)
-unfolding block_bytes
-block_nowhere image chunks n e other = rw other refl
+-- nothing is stored at another address
+pub stored_nowhere : (image : List ℕ) (chunks : List Chunk) (n address : ℕ) → is_multiple address ≡ false → stored_in image chunks n address ≡ Err NoPlace
+unfolding stored_in
+stored_nowhere image chunks n address other = rw other refl
 
-pub ruleset block_steps = (block_at, block_nowhere, place_fits)
-
-less : (m n : ℕ) → m < n → nat_lt m n ≡ true
-less m n h = grind arith
-
-no_less : (m n : ℕ) → n ≤ m → nat_lt m n ≡ false
-no_less m n h = grind arith
-
-in_short : (image : List ℕ) → length image < 69632 → superblock_in image ≡ Err (image_finding S 1 (length image))
-unfolding superblock_in
-in_short image short = rw (less (length image) 69632 short) refl
-
-in_long : (image : List ℕ) → 69632 ≤ length image → superblock_in image ≡ superblock_of (range 65536 4096 image)
-unfolding superblock_in
-in_long image long = rw (no_less (length image) 69632 long) refl
-
--- the finding of an image that is too short for a superblock
-pub superblock_short : (told : Option (List ℕ)) (m : FinMap nat_cmp ℕ) (len end : ℕ) (finding : Finding)
-    → IfSome told (λ image. length image ≡ len) → end ≡ len → end < 69632 → finding ≡ image_finding S 1 end
-    → IfSome told (λ image. superblock_in (overlaid m 0 image) ≡ Err finding)
-superblock_short None m len end finding size same short is = tt
-superblock_short (Some image) m len end finding size same short is =
-    let whole : length (overlaid m 0 image) ≡ end = length-overlaid m 0 image ∙ size ∙ sym same in
-    in_short (overlaid m 0 image) (omega arith) ∙ ap Err (ap (image_finding S 1) whole ∙ sym is)
-
--- the superblock of an image by the bytes that were read at its place
-pub superblock_long : (told : Option (List ℕ)) (m : FinMap nat_cmp ℕ) (len end : ℕ) (place : List ℕ) (r : Result Super Finding)
-    → IfSome told (λ image. length image ≡ len) → end ≡ len → 69632 ≤ end
-    → IfSome told (λ image. place ≡ range 65536 4096 (overlaid m 0 image)) → r ≡ superblock_of place
-    → IfSome told (λ image. superblock_in (overlaid m 0 image) ≡ r)
-superblock_long None m len end place r size same long read is = tt
-superblock_long (Some image) m len end place r size same long read is =
-    let whole : length (overlaid m 0 image) ≡ end = length-overlaid m 0 image ∙ size ∙ sym same in
-    in_long (overlaid m 0 image) (omega arith) ∙ ap superblock_of (sym read) ∙ sym is
+pub ruleset block_steps = (stored_at, stored_nowhere, place_fits)
 
 -- the same bytes give the same outcome
 gives_same : {D A : Type 0} (disk : Ghosts D) (before : D) (m : FinMap nat_cmp ℕ) (r : Result A Halt) (of same : List ℕ → Result A Finding) (told : Option (List ℕ))
@@ -123,10 +91,10 @@ gives_same disk before m (Ok value) of same (Some image) is alike gives = rw is 
 -- a block at a multiple of a sector, by what was read at its place
 pub block_read : {D : Type 0} (disk : Ghosts D) (before : D) (m : FinMap nat_cmp ℕ) (r : Result (List ℕ) Halt) (chunks : List Chunk) (n end : ℕ) (e : Expect)
     → IfSome (disk.bytes before) (λ image. length image ≡ disk.len before) → end ≡ disk.len before → is_multiple e.address ≡ true
-    → Gives disk before m r (λ image. bytes_at e n image (place chunks e.address n end)) → Gives disk before m r (λ image. block_bytes image chunks n e)
+    → Gives disk before m r (λ image. found_by e (bytes_at n image (place chunks e.address n end))) → Gives disk before m r (λ image. found_by e (stored_in image chunks n e.address))
 block_read disk before m r chunks n end e size same multiple gives =
     gives_same disk before m r _ _ (disk.bytes before) refl
-    (IfSome_then (disk.bytes before) size (λ image whole. block_at m image chunks n end e (whole ∙ sym same) multiple)) gives
+    (IfSome_then (disk.bytes before) size (λ image whole. ap (found_by e) (stored_at m image chunks n end e.address (whole ∙ sym same) multiple))) gives
 
 small : (n : ℕ) → is_node_size n ≡ true → n ≤ 65536
 small n is = grind (arith, common_steps)

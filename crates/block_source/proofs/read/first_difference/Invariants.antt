@@ -1,7 +1,7 @@
 use Rattle.std.proofs.Common.{◌≡◌, ◌-◌, length}
 use Rattle.node_reader.specs.Places.{least_from}
-use Rattle.node_reader.specs.BlockBytes.{differs_at, least_difference}
-use Rattle.plain_check.proofs.read.first_difference.Given as goal
+use Rattle.node_reader.specs.Stored.{differs_at, least_difference}
+use Rattle.block_source.proofs.read.first_difference.Given as goal
 
 -- what is left decides
 abbrev pub invariant-loop-place : goal.invariant-loop-place

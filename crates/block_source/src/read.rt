@@ -5,12 +5,11 @@ ghost use Rattle.verdict.specs.Image.{range};
 ghost use Rattle.verdict.specs.Trees.{is_node_size};
 ghost use Rattle.recon_disk.specs.Keeping.{Kept};
 ghost use Rattle.write_cache.specs.Cache.{overlaid};
-ghost use Rattle.node_reader.specs.BlockBytes.{least_difference, bytes_at, block_bytes};
+ghost use Rattle.node_reader.specs.Stored.{block_in, bytes_at, found_by, least_difference, stored_in};
 ghost use Rattle.node_reader.specs.Layout.{level_of};
-ghost use Rattle.records.specs.Walk.{block_reading};
-ghost use Rattle.plain_check.specs.Gives.{Gives, is_disk_fault, is_disk_halt};
-ghost use Rattle.plain_check.specs.Takes.{leaving};
-ghost use Rattle.plain_check.specs.Private.{FitsIn};
+ghost use Rattle.block_source.specs.Gives.{Gives, is_disk_fault, is_disk_halt};
+ghost use Rattle.block_source.specs.Takes.{leaving};
+ghost use Rattle.block_source.specs.Private.{FitsIn};
 
 use crate::Fault;
 use crate::halt::Halt;
@@ -23,7 +22,7 @@ use write_cache::WriteCache;
 
 /// Where the tree blocks of a file system are read from.
 #[derive(Clone, Copy)]
-pub struct Volume<'a> {
+pub struct BlockSource<'a> {
     /// The writes that wait, which lie over the disk's bytes.
     pub cache: &'a WriteCache,
     /// The chunks by which logical addresses stand on the disk.
@@ -57,19 +56,19 @@ pub fn read_under<D: Disk>(
 // Reads a copy of a block, of a tree block's size.
 fn read_copy<D: Disk>(
     disk: &mut D,
-    volume: &Volume<'_>,
+    source: &BlockSource<'_>,
     at: u64,
     into: &mut [u8],
 ) -> Result<(), Halt>
     requires size { is_node_size (length into.old) ≡ true }
-    requires inside { at + length into.old ≤ volume.now.end }
-    requires end { volume.now.end ≡ D.len disk.old }
-    ensures gives { Gives D.Disk disk.old volume.now.cache.now (leaving result into.new)
+    requires inside { at + length into.old ≤ source.now.end }
+    requires end { source.now.end ≡ D.len disk.old }
+    ensures gives { Gives D.Disk disk.old source.now.cache.now (leaving result into.new)
         (λ image. Ok (range at (length into.old) image)) }
     ensures kept { Kept D.Disk disk.old disk.new (is_disk_halt result) }
 {
-    let _end = volume.end;
-    read_under(disk, volume.cache, at, into)?;
+    let _end = source.end;
+    read_under(disk, source.cache, at, into)?;
     Ok(())
 }
 
@@ -90,7 +89,7 @@ fn first_difference(first: &[u8], second: &[u8]) -> Option<usize>
 // Reads the first copy of a block, or gives the finding that it has none, or that a second copy differs from it.
 fn read_copies<D: Disk>(
     disk: &mut D,
-    volume: &Volume<'_>,
+    source: &BlockSource<'_>,
     e: &Expect,
     place: Place,
     first: &mut [u8],
@@ -98,18 +97,18 @@ fn read_copies<D: Disk>(
 ) -> Result<(), Halt>
     requires size { is_node_size (length first.old) ≡ true }
     requires same { length second.old ≡ length first.old }
-    requires fits { FitsIn (length first.old) volume.now.end place }
-    requires end { volume.now.end ≡ D.len disk.old }
-    ensures gives { Gives D.Disk disk.old volume.now.cache.now (leaving result first.new)
-        (λ image. bytes_at e.now (length first.old) image place) }
+    requires fits { FitsIn (length first.old) source.now.end place }
+    requires end { source.now.end ≡ D.len disk.old }
+    ensures gives { Gives D.Disk disk.old source.now.cache.now (leaving result first.new)
+        (λ image. found_by e.now (bytes_at (length first.old) image place)) }
     ensures kept { Kept D.Disk disk.old disk.new (is_disk_halt result) }
 {
     match place {
         Place::Nowhere => Err(Halt::Found(e.finding(Family::N, 1, 0))),
-        Place::One(at) => read_copy(disk, volume, at, first),
+        Place::One(at) => read_copy(disk, source, at, first),
         Place::Two(at, other) => {
-            read_copy(disk, volume, at, first)?;
-            read_copy(disk, volume, other, second)?;
+            read_copy(disk, source, at, first)?;
+            read_copy(disk, source, other, second)?;
             match first_difference(first, second) {
                 None => Ok(()),
                 Some(place) => Err(Halt::Found(e.finding(Family::N, 2, place as u64))),
@@ -123,45 +122,47 @@ fn read_copies<D: Disk>(
 #[tactic(auto, using(crate::proofs::Copies::block_steps))]
 fn read_bytes<D: Disk>(
     disk: &mut D,
-    volume: &Volume<'_>,
+    source: &BlockSource<'_>,
     e: &Expect,
     first: &mut [u8],
     second: &mut [u8],
 ) -> Result<(), Halt>
     requires size { is_node_size (length first.old) ≡ true }
     requires same { length second.old ≡ length first.old }
-    requires end { volume.now.end ≡ D.len disk.old }
-    ensures gives { Gives D.Disk disk.old volume.now.cache.now (leaving result first.new)
-        (λ image. block_bytes image volume.now.map.now (length first.old) e.now) }
+    requires end { source.now.end ≡ D.len disk.old }
+    ensures gives { Gives D.Disk disk.old source.now.cache.now (leaving result first.new)
+        (λ image. found_by e.now
+        (stored_in image source.now.map.now (length first.old) e.now.address)) }
     ensures kept { Kept D.Disk disk.old disk.new (is_disk_halt result) }
 {
     if !is_multiple(e.address) {
         return Err(Halt::Found(e.finding(Family::N, 1, 0)));
     }
-    let place = volume.map.place(e.address, first.len() as u64, volume.end);
-    read_copies(disk, volume, e, place, first, second)
+    let place = source.map.place(e.address, first.len() as u64, source.end);
+    read_copies(disk, source, e, place, first, second)
 }
 
-// Reads the block that is expected into a buffer of a tree block's size, and lends it there. The second buffer is for
-// its second copy.
-#[tactic(auto, unfolding(records::specs::Walk::block_reading))]
+/// Reads the block that is expected into a buffer of a tree block's size, and lends it there. The second buffer is for
+/// its second copy. A finding is that of the copies (N1, N2), else that of the rules of a block.
+#[tactic(auto, unfolding(node_reader::specs::Stored::block_in))]
 pub fn read_block<'a, D: Disk>(
     disk: &mut D,
-    volume: &Volume<'_>,
+    source: &BlockSource<'_>,
     e: &Expect,
     first: &'a mut [u8],
     second: &mut [u8],
 ) -> Result<Block<'a>, Halt>
-    requires size { is_node_size volume.now.sup.now.nodesize ≡ true }
-    requires first { length first.old ≡ volume.now.sup.now.nodesize }
-    requires second { length second.old ≡ volume.now.sup.now.nodesize }
-    requires end { volume.now.end ≡ D.len disk.old }
-    ensures gives { Gives D.Disk disk.old volume.now.cache.now result
-        (λ image. block_reading volume.now.map.now volume.now.sup.now image e.now) }
+    requires size { is_node_size source.now.sup.now.nodesize ≡ true }
+    requires first { length first.old ≡ source.now.sup.now.nodesize }
+    requires second { length second.old ≡ source.now.sup.now.nodesize }
+    requires end { source.now.end ≡ D.len disk.old }
+    ensures gives { let sup = source.now.sup.now in
+        Gives D.Disk disk.old source.now.cache.now result
+        (λ image. block_in (stored_in image source.now.map.now sup.nodesize) sup.fsid e.now) }
     ensures level { IfOk result (λ block. level_of block ≡ e.now.level) }
     ensures kept { Kept D.Disk disk.old disk.new (is_disk_halt result) }
 {
-    read_bytes(disk, volume, e, first, second)?;
-    let block = node_reader::read_block(first, &volume.sup.fsid, e)?;
+    read_bytes(disk, source, e, first, second)?;
+    let block = node_reader::read_block(first, &source.sup.fsid, e)?;
     Ok(block)
 }

@@ -1,14 +1,15 @@
-//! Why a step of the check gives no value.
+//! Why a step that reads gives no value.
 
 ghost use Rattle.std.specs.Prelude.{◌≡◌};
-ghost use Rattle.plain_check.specs.declared.halt.Fault.TheVariants.{Disk as FaultOfDisk, NoMemory as Want};
-ghost use Rattle.plain_check.specs.declared.halt.Halt.TheVariants.{Found, Disk, NoMemory as Memory};
-ghost use Rattle.plain_check.specs.Gives.{halt_of, told};
+ghost use Rattle.block_source.specs.declared.halt.Fault.TheVariants.{Disk as FaultOfDisk, NoMemory as Want};
+ghost use Rattle.block_source.specs.declared.halt.Halt.TheVariants.{Found, Disk, NoMemory as Memory};
+ghost use Rattle.block_source.specs.Gives.{halt_of, told};
 
 use recon_disk::Failed;
+use std::alloc::{AllocError, AllocFailed};
 use verdict::{Finding, NoMemory};
 
-/// Why an image was not judged.
+/// Why a call that reads a disk gave no answer.
 #[derive(Clone, Copy, Debug, PartialEq, Eq)]
 pub enum Fault {
     /// A call of the disk failed.
@@ -17,14 +18,14 @@ pub enum Fault {
     NoMemory,
 }
 
-// Why a step of the check gives no value.
+/// Why a step that reads gives no value.
 #[derive(Clone, Copy, Debug, PartialEq, Eq)]
 pub enum Halt {
-    // A rule fails.
+    /// A rule fails.
     Found(Finding),
-    // A call of the disk failed.
+    /// A call of the disk failed.
     Disk,
-    // Memory was wanting.
+    /// Memory was wanting.
     NoMemory,
 }
 
@@ -52,6 +53,22 @@ impl From<NoMemory> for Halt {
     }
 }
 
+impl From<AllocError> for Halt {
+    ghost from_gives = { λ _ halt. halt ≡ Memory };
+
+    fn from(_none: AllocError) -> Halt {
+        Halt::NoMemory
+    }
+}
+
+impl<T: Drop> From<AllocFailed<T>> for Halt {
+    ghost from_gives = { λ _ halt. halt ≡ Memory };
+
+    fn from(_refused: AllocFailed<T>) -> Halt {
+        Halt::NoMemory
+    }
+}
+
 impl From<Fault> for Halt {
     ghost from_gives = { λ fault halt. halt ≡ halt_of fault };
 
@@ -71,7 +88,7 @@ impl From<Failed> for Fault {
     }
 }
 
-// What a step says to others: its value or its finding, or the fault that stopped it.
+/// What a step says to others: its value or its finding, or the fault that stopped it.
 pub fn told<T>(step: Result<T, Halt>) -> Result<Result<T, Finding>, Fault>
     ensures { result ≡ told step }
 {

@@ -1,4 +1,4 @@
--- What a step of the check gives to one that takes records.
+-- What a step that reads gives to one that takes records.
 use Rattle.std.specs.Prelude.{ℕ, ◌≡◌, List, IfSome, Result, Ok, Err}
 use Rattle.std.specs.Ordering.{nat_cmp}
 use Rattle.std.specs.FinMap.{FinMap}
@@ -8,8 +8,8 @@ use Rattle.recon_disk.specs.declared.disk.Disk.{Ghosts as DiskGhosts}
 use Rattle.records.specs.declared.take.Taker.{Ghosts as TakerGhosts}
 use Rattle.records.specs.Walk.{Records}
 use Rattle.records.specs.Takes.{held_after}
-use Rattle.plain_check.specs.declared.halt.Halt.{Halt}
-use Rattle.plain_check.specs.Gives.{IsOutcome, Gives}
+use Rattle.block_source.specs.declared.halt.Halt.{Halt}
+use Rattle.block_source.specs.Gives.{IsOutcome, Gives}
 
 -- a step that is done leaves this
 abbrev pub leaving : {A H : Type 0} → Result A Halt → H → Result H Halt
