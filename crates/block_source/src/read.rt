@@ -4,9 +4,12 @@ ghost use Rattle.std.specs.Prelude.{◌≡◌, ◌+◌, ◌^◌, ◌<◌, ◌≤
 ghost use Rattle.verdict.specs.Image.{range};
 ghost use Rattle.verdict.specs.Trees.{is_node_size};
 ghost use Rattle.recon_disk.specs.Keeping.{Kept};
+ghost use Rattle.recon_disk.specs.Outside.{counted};
+ghost use Rattle.verdict.specs.Chunks.{place};
 ghost use Rattle.write_cache.specs.Cache.{overlaid};
 ghost use Rattle.node_reader.specs.Stored.{block_in, bytes_at, found_by, least_difference, stored_in};
 ghost use Rattle.node_reader.specs.Layout.{level_of};
+ghost use Rattle.block_source.specs.Counts.{after_copies, copies_of};
 ghost use Rattle.block_source.specs.Gives.{Gives, is_disk_fault, is_disk_halt};
 ghost use Rattle.block_source.specs.Takes.{leaving};
 ghost use Rattle.block_source.specs.Private.{FitsIn};
@@ -46,6 +49,7 @@ pub fn read_under<D: Disk>(
     requires inside { at + length into.old ≤ D.len disk.old }
     ensures bytes { OnOk result (IfSome (D.bytes disk.old)
         (λ image. into.new ≡ range at (length into.old) (overlaid cache.now 0 image))) }
+    ensures reads { D.reads disk.new ≡ counted (D.reads disk.old) }
     ensures kept { Kept D.Disk disk.old disk.new (is_disk_fault result) }
 {
     disk.read(at, into)?;
@@ -65,6 +69,7 @@ fn read_copy<D: Disk>(
     requires end { source.now.end ≡ D.len disk.old }
     ensures gives { Gives D.Disk disk.old source.now.cache.now (leaving result into.new)
         (λ image. Ok (range at (length into.old) image)) }
+    ensures reads { D.reads disk.new ≡ counted (D.reads disk.old) }
     ensures kept { Kept D.Disk disk.old disk.new (is_disk_halt result) }
 {
     let _end = source.end;
@@ -101,6 +106,8 @@ fn read_copies<D: Disk>(
     requires end { source.now.end ≡ D.len disk.old }
     ensures gives { Gives D.Disk disk.old source.now.cache.now (leaving result first.new)
         (λ image. found_by e.now (bytes_at (length first.old) image place)) }
+    ensures reads { OnOk result
+        (D.reads disk.new ≡ after_copies place (D.reads disk.old)) }
     ensures kept { Kept D.Disk disk.old disk.new (is_disk_halt result) }
 {
     match place {
@@ -133,6 +140,8 @@ fn read_bytes<D: Disk>(
     ensures gives { Gives D.Disk disk.old source.now.cache.now (leaving result first.new)
         (λ image. found_by e.now
         (stored_in image source.now.map.now (length first.old) e.now.address)) }
+    ensures reads { let at = place source.now.map.now e.now.address (length first.old) source.now.end in
+        OnOk result (D.reads disk.new ≡ after_copies at (D.reads disk.old)) }
     ensures kept { Kept D.Disk disk.old disk.new (is_disk_halt result) }
 {
     if !is_multiple(e.address) {
@@ -143,7 +152,8 @@ fn read_bytes<D: Disk>(
 }
 
 /// Reads the block that is expected into a buffer of a tree block's size, and lends it there. The second buffer is for
-/// its second copy. A finding is that of the copies (N1, N2), else that of the rules of a block.
+/// its second copy. A finding is that of the copies (N1, N2), else that of the rules of a block. An
+/// Ok has read the disk once for each copy.
 #[tactic(auto, unfolding(node_reader::specs::Stored::block_in))]
 pub fn read_block<'a, D: Disk>(
     disk: &mut D,
@@ -160,6 +170,8 @@ pub fn read_block<'a, D: Disk>(
         Gives D.Disk disk.old source.now.cache.now result
         (λ image. block_in (stored_in image source.now.map.now sup.nodesize) sup.fsid e.now) }
     ensures level { IfOk result (λ block. level_of block ≡ e.now.level) }
+    ensures reads { OnOk result (D.reads disk.new ≡
+        after_copies (copies_of source.now e.now.address) (D.reads disk.old)) }
     ensures kept { Kept D.Disk disk.old disk.new (is_disk_halt result) }
 {
     read_bytes(disk, source, e, first, second)?;
