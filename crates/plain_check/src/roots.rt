@@ -13,9 +13,9 @@ ghost use Rattle.records.specs.Contents.{
   roots_fault,
   roots_finding,
 };
-ghost use Rattle.plain_check.specs.Gives.{IsOutcome};
+ghost use Rattle.block_source.specs.Gives.{IsOutcome};
 
-use crate::halt::Halt;
+use block_source::Halt;
 use node_reader::Expect;
 use std::alloc::Global;
 use std::collections::BTreeSet;
@@ -35,6 +35,7 @@ pub fn chunk_root(sup: &Super) -> Expect
         level: sup.chunk_root_level,
         low: None,
         high: None,
+        parent: 0,
     }
 }
 
@@ -49,6 +50,7 @@ pub fn top_root(sup: &Super) -> Expect
         level: sup.root_level,
         low: None,
         high: None,
+        parent: 0,
     }
 }
 
@@ -63,6 +65,7 @@ pub fn named(root: &RootItem) -> Expect
         level: root.level,
         low: None,
         high: None,
+        parent: 0,
     }
 }
 
@@ -91,9 +94,7 @@ fn repeated(alloc: Global, roots: &[RootItem]) -> Result<Option<Finding>, Halt>
         if seen.contains(&id) {
             return Ok(Some(finding(1, root.key)));
         }
-        let Ok(_) = seen.insert(id) else {
-            return Err(Halt::NoMemory);
-        };
+        seen.insert(id)?;
     }
     Ok(None)
 }
