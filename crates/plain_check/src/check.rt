@@ -30,14 +30,20 @@ use write_cache::WriteCache;
 // Checks all that the image holds which the disk's bytes make with the waiting writes over them: its superblock, the
 // chunks of the system array, the chunk tree through these, the rules on the chunk map, the root tree through the whole
 // map, the rules on the list of root items, then each tree that a root item names, in the order of their ids as
-// unsigned numbers, and last the accounts of all that these say. Gives the generation of the superblock.
+// unsigned numbers, and last the accounts of all that these say. The disk has `end` bytes. Gives the generation of the
+// superblock.
 #[tactic(auto, using(crate::proofs::Chain::checked_by))]
-pub fn check<D: Disk>(alloc: Global, disk: &mut D, cache: &WriteCache) -> Result<u64, Halt>
+pub fn check<D: Disk>(
+    alloc: Global,
+    disk: &mut D,
+    cache: &WriteCache,
+    end: u64,
+) -> Result<u64, Halt>
+    requires end { end ≡ D.len disk.old }
     ensures gives { Gives D.Disk disk.old cache.now result checked }
     ensures room { OnOk result (69632 ≤ D.len disk.old) }
     ensures kept { Kept D.Disk disk.old disk.new (is_disk_halt result) }
 {
-    let end = disk.length()?;
     let sup = read_superblock(disk, cache, end)?;
     let array = system_chunks(alloc, &sup)?;
     let base = BlockSource {
@@ -71,7 +77,11 @@ fn system_chunks(alloc: Global, sup: &Super) -> Result<ChunkMap, Halt>
 // The chunks of the chunk tree, where the rules on the chunk map keep. It is walked through the chunks of the system
 // array.
 #[tactic(auto, unfolding(records::specs::Contents::chunk_map_in), using(block_source::proofs::Copies::overlays))]
-fn chunk_map<D: Disk>(alloc: Global, disk: &mut D, volume: &BlockSource<'_>) -> Result<ChunkMap, Halt>
+fn chunk_map<D: Disk>(
+    alloc: Global,
+    disk: &mut D,
+    volume: &BlockSource<'_>,
+) -> Result<ChunkMap, Halt>
     requires size { is_node_size volume.now.sup.now.nodesize ≡ true }
     requires end { volume.now.end ≡ D.len disk.old }
     ensures gives { let sup = volume.now.sup.now in

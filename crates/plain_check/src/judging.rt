@@ -14,14 +14,31 @@ use std::alloc::Global;
 use verdict::Verdict;
 use write_cache::WriteCache;
 
-/// The full check of the disk's bytes with the waiting writes over them. The disk's bytes stay.
+/// The full check of the disk's bytes with the pending writes over them. The disk's bytes stay.
 pub fn judge<D: Disk>(alloc: Global, disk: &mut D, cache: &WriteCache) -> Result<Verdict, Fault>
     ensures verdict { IfOk result (λ verdict. IfSome (D.bytes disk.old)
         (λ image. verdict ≡ full_check (overlaid cache.now 0 image))) }
     ensures room { IfOk result (HasRoom (D.len disk.old)) }
     ensures kept { Kept D.Disk disk.old disk.new (is_disk_fault result) }
 {
-    match told(check(alloc, disk, cache))? {
+    let end = disk.length()?;
+    judge_within(alloc, disk, cache, end)
+}
+
+/// The same over a disk whose length in bytes is known, so that it is not asked for.
+pub fn judge_within<D: Disk>(
+    alloc: Global,
+    disk: &mut D,
+    cache: &WriteCache,
+    end: u64,
+) -> Result<Verdict, Fault>
+    requires { end ≡ D.len disk.old }
+    ensures verdict { IfOk result (λ verdict. IfSome (D.bytes disk.old)
+        (λ image. verdict ≡ full_check (overlaid cache.now 0 image))) }
+    ensures room { IfOk result (HasRoom (D.len disk.old)) }
+    ensures kept { Kept D.Disk disk.old disk.new (is_disk_fault result) }
+{
+    match told(check(alloc, disk, cache, end))? {
         Ok(generation) => Ok(Verdict::Accept { generation }),
         Err(finding) => Ok(Verdict::Found(finding)),
     }

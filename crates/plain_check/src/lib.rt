@@ -8,6 +8,5 @@ mod roots;
 mod takers;
 
 pub use block_source::{Fault, read_under};
-pub use judging::judge;
-pub use primary::superblock;
+pub use judging::{judge, judge_within};
 pub use verdict::Verdict;

@@ -1,13 +1,12 @@
 //! The superblock of an image.
 
-ghost use Rattle.std.specs.Prelude.{◌≡◌, ◌≤◌, IfOk, OnOk, IfSome};
+ghost use Rattle.std.specs.Prelude.{◌≡◌, ◌≤◌, IfOk, OnOk};
 ghost use Rattle.super_reader.specs.Superblock.{IsReadable};
 ghost use Rattle.recon_disk.specs.Keeping.{Kept};
-ghost use Rattle.write_cache.specs.Cache.{overlaid};
 ghost use Rattle.records.specs.Contents.{superblock_in};
-ghost use Rattle.block_source.specs.Gives.{Gives, is_disk_fault, is_disk_halt};
+ghost use Rattle.block_source.specs.Gives.{Gives, is_disk_halt};
 
-use block_source::{Fault, Halt, read_under, told};
+use block_source::{Halt, read_under};
 use recon_disk::Disk;
 use super_reader::{Super, read_super};
 use verdict::{Family, Finding, SUPERBLOCK_AT, SUPERBLOCK_SIZE};
@@ -30,18 +29,4 @@ pub fn read_superblock<D: Disk>(disk: &mut D, cache: &WriteCache, end: u64) -> R
         Ok(sup) => Ok(sup),
         Err(finding) => Err(Halt::Found(finding)),
     }
-}
-
-/// The superblock of the disk's bytes with the waiting writes over them, or the first finding of its
-/// rules.
-pub fn superblock<D: Disk>(
-    disk: &mut D,
-    cache: &WriteCache,
-) -> Result<Result<Super, Finding>, Fault>
-    ensures found { IfOk result (λ answer. IfSome (D.bytes disk.old)
-        (λ image. answer ≡ superblock_in (overlaid cache.now 0 image))) }
-    ensures kept { Kept D.Disk disk.old disk.new (is_disk_fault result) }
-{
-    let end = disk.length()?;
-    told(read_superblock(disk, cache, end))
 }

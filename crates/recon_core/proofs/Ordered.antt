@@ -6,13 +6,14 @@ use Rattle.std.proofs.Math.Nat.{add-div_right, div-eq_of_lt}
 use Rattle.std.proofs.lemmas.Bool.{cases_lt}
 use Rattle.std.proofs.lemmas.List.{append-nil, append_assoc, drop-drop, take_all, length-drop}
 use Rattle.verdict.specs.Image.{range}
-use Rattle.recon_disk.specs.Calls.{Sent, Wrote, Flushed, and_sent}
+use Rattle.recon_disk.specs.Calls.{Sent, Wrote, Flushed, and_sent, run_calls, HasSentFront}
 use Rattle.write_cache.specs.Cache.{overlaid}
 use Rattle.write_cache.proofs.CacheLaws.{range-overlaid_image}
 use Rattle.write_cache.specs.Pieces.{Piece, ArePiecesOf}
 use Rattle.recon_core.specs.Order.{piece_calls, closing_calls, HasSentOut, HasSentPart, WaitsInPlace, pieces_calls}
 use Rattle.recon_disk.specs.Calls.{cut_calls, run_calls, HasSentFront}
 use Rattle.recon_core.specs.Sent.{HasSentRuns, HasSentSomeRuns}
+use Rattle.recon_disk.proofs.Sending.{SentSoFar, each_sent, front_first, front_second, no_run, none_sent, part_more, sent_none, sent_then, some_sent}
 
 -- the two runs of a piece
 take_few : (n : ℕ) (bytes : List ℕ) → take (min n (length bytes)) bytes ≡ take n bytes

@@ -7,6 +7,7 @@ use Rattle.verdict.specs.Image.{range, written}
 use Rattle.verdict.proofs.Images.{length-written, get-written_in, get-written_before, get-written_behind}
 use Rattle.write_cache.proofs.CacheLaws.{length-range, get-range}
 use Rattle.recon_core.specs.Sent.{with_place_of}
+use Rattle.recon_disk.proofs.Sending.{same_bytes}
 
 -- an image with the superblock place of another: its length, and each byte in and outside the place
 pub length-with_place_of : (other image : List ℕ) → length other ≡ length image → 69632 ≤ length image → length (with_place_of other image) ≡ length image

@@ -21,7 +21,7 @@ use Rattle.verdict.specs.declared.finding.Verdict.TheVariants.{Accept, Found}
 use Rattle.recon_core.specs.declared.checker.Checker.{Checker}
 use Rattle.recon_core.specs.declared.checker.Started.TheVariants.{Ready, Refused}
 use Rattle.recon_core.specs.Machine.{MachineState, answer_to, image_by, judged_image, settle_step, machine_step, with_pending}
-use Rattle.recon_core.specs.Standing.{StandsFor, IsAccepted, IsBelow, AllMissPlace, Takes, BeginsOver}
+use Rattle.recon_core.specs.Standing.{BeginsWith, StandsFor, IsAccepted, IsBelow, AllMissPlace, Takes, BeginsOver}
 use Rattle.recon_core.specs.Stops.{IsLeftBy, IsJudgedStop, IsStopImage}
 use Rattle.recon_core.specs.Judged.{IsSettled, IsLeftOf}
 
@@ -50,6 +50,17 @@ begins_ready (Some image) len generation m v checker empty_ is size none open_ s
   closed = open_;
   size = same ∙ sym size;
 }
+
+-- with the generation
+pub begins_with : (told : Option (List ℕ)) (len generation : ℕ) (m : FinMap nat_cmp ℕ) (v : Verdict) (checker : Checker) → m ≡ empty → v ≡ Accept generation → IfSome told (λ image. length image ≡ len)
+    → checker.cache ≡ empty → checker.closed ≡ false → checker.length ≡ len
+    → IfSome told (λ image. v ≡ full_check (overlaid m 0 image))
+    → IfSome told (λ image. BeginsWith image (Ok (checker, generation)))
+begins_with None len generation m v checker empty_ is size none open_ same says = tt
+begins_with (Some image) len generation m v checker empty_ is size none open_ same says = (
+  begins_ready (Some image) len generation m v checker empty_ is size none open_ same says,
+  sym (sym is ∙ says ∙ ap full_check (ap (λ n. overlaid n 0 image) empty_ ∙ overlaid-empty 0 image)),
+)
 
 -- and is refused with the finding where it is not
 pub begins_refused : (told : Option (List ℕ)) (m : FinMap nat_cmp ℕ) (v : Verdict) (finding : Finding) → m ≡ empty → v ≡ Found finding

@@ -17,7 +17,7 @@ use Rattle.recon_core.specs.Standing.{IsBelow}
 use Rattle.recon_core.specs.Sent.{StaysButForPiece, with_place_of, sent_piece, IsAllOrPart}
 use Rattle.recon_disk.specs.Sending.{Sends, StaysOutside}
 use Rattle.recon_core.proofs.Places.{place_same, place_last, length-with_place_of, get-with_place_of_in, get-with_place_of_out, inside_place, outside_place, where_is}
-use Rattle.recon_disk.proofs.Sending.{written-nil, written-more}
+use Rattle.recon_disk.proofs.Sending.{written-nil, written-more, outside_then, outside_wider, written_outside}
 use Rattle.recon_core.proofs.Law.{sent_all, some_is, length-sent_piece, sent_piece-out, sent_piece-place, first_inside, get-map_of_rest, get-map_of_first, in_range, out_of_range, ranged, all_sent}
 
 -- a piece went out, or one of its two runs failed

@@ -8,7 +8,7 @@ use Rattle.verdict.specs.declared.machine.Answer.{Answer}
 use Rattle.verdict.specs.declared.machine.Answer.TheVariants.{Passed}
 use Rattle.verdict.specs.declared.machine.Event.{Event}
 use Rattle.verdict.specs.declared.machine.Event.TheVariants.{Write}
-use Rattle.recon_disk.specs.Calls.{Sent, Wrote, Flushed, and_sent}
+use Rattle.recon_disk.specs.Calls.{Sent, Wrote, Flushed, and_sent, run_calls, HasSentFront}
 use Rattle.write_cache.specs.Cache.{overlaid, with_bytes}
 use Rattle.write_cache.specs.Pieces.{Piece, ArePiecesOf}
 

@@ -6,12 +6,13 @@ use Rattle.std.specs.FinMap.{FinMap}
 use Rattle.verdict.specs.Image.{range, written}
 use Rattle.recon_disk.specs.declared.disk.Disk.{Ghosts}
 use Rattle.recon_disk.specs.Outside.{HasCause}
-use Rattle.recon_disk.specs.Calls.{Sent, and_sent}
+use Rattle.recon_disk.specs.Calls.{Sent, and_sent, HasSentFront}
 use Rattle.write_cache.specs.Cache.{overlaid}
 use Rattle.write_cache.specs.Pieces.{Piece, ArePiecesOf}
 use Rattle.recon_core.specs.Stops.{IsPartlySent}
 use Rattle.recon_core.specs.Order.{pieces_calls}
 use Rattle.recon_disk.specs.Calls.{HasSentFront}
+use Rattle.recon_disk.specs.Sending.{StaysOutside}
 
 -- the bytes outside a range stay, and those in the superblock place
 pub record StaysButForPiece (at n : ℕ) (old left : List ℕ) : Type 0 where

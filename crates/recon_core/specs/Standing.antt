@@ -1,5 +1,5 @@
 -- When a checker stands for a state of the machine, and what its events keep.
-use Rattle.std.specs.Prelude.{ℕ, ◌≡◌, ◌<◌, Bool, true, false, nat_lt, not, List, [], ◌∷◌, length, Option, Some, None, IsSome, Result, Err, if◌then◌else◌}
+use Rattle.std.specs.Prelude.{ℕ, ◌≡◌, ◌<◌, Bool, true, false, nat_lt, not, List, [], ◌∷◌, length, Option, Some, None, IsSome, Result, Ok, Err, if◌then◌else◌}
 use Rattle.std.specs.Bool.{MatchBool}
 use Rattle.std.specs.Ordering.{nat_cmp}
 use Rattle.std.specs.FinMap.{FinMap, empty, get}
@@ -13,6 +13,7 @@ use Rattle.verdict.specs.declared.machine.Stop.{Stop}
 use Rattle.verdict.specs.declared.machine.Stop.TheVariants.{PastEnd, DiskFault, Closed}
 use Rattle.write_cache.specs.Cache.{cache_of, AllInside}
 use Rattle.records.specs.FullCheck.{full_check}
+use Rattle.verdict.specs.declared.finding.Finding.{Finding}
 use Rattle.verdict.specs.declared.finding.Verdict.TheVariants.{Accept, Found}
 use Rattle.recon_core.specs.declared.checker.Checker.{Checker}
 use Rattle.recon_core.specs.declared.checker.Started.{Started}
@@ -56,9 +57,22 @@ abbrev pub BeginsOver : List ℕ → Started → Type 0
 BeginsOver image (Ready checker) = StandsFor checker (first_state image)
 BeginsOver image (Refused finding) = full_check image ≡ Found finding
 
+-- the same with the generation of the accepted image, or with the finding
+abbrev pub BeginsWith : List ℕ → Result (Checker × ℕ) Finding → Type 0
+BeginsWith image (Ok begun) = StandsFor begun.0 (first_state image) × (full_check image ≡ Accept begun.1)
+BeginsWith image (Err finding) = full_check image ≡ Found finding
+
+-- a checker over a disk of this length over which nothing happened yet
+abbrev pub IsFirst : ℕ → Checker → Type 0
+IsFirst len checker = (checker.cache ≡ empty) × (checker.closed ≡ false) × (checker.length ≡ len)
+
+abbrev pub BeginsOpen : ℕ → Result (Checker × ℕ) Finding → Type 0
+BeginsOpen len (Ok begun) = IsFirst len begun.0
+BeginsOpen len (Err finding) = Unit {0}
+
 -- how it begins over a disk of this length
 abbrev pub BeginsAt : ℕ → Started → Type 0
-BeginsAt len (Ready checker) = (checker.cache ≡ empty) × (checker.closed ≡ false) × (checker.length ≡ len)
+BeginsAt len (Ready checker) = IsFirst len checker
 BeginsAt len (Refused finding) = Unit {0}
 
 -- The refusal of an event before anything is done: the checker is closed, or the event's range passes

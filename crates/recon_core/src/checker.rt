@@ -5,7 +5,7 @@ ghost use Rattle.recon_core.specs.Judged.{stop_for};
 
 use crate::fetching::fetch;
 use crate::judging::judge_waiting;
-use plain_check::{Fault, Verdict, judge};
+use plain_check::{Fault, Verdict, judge_within};
 use recon_disk::{Disk, Steps};
 use std::alloc::Global;
 use verdict::{Answer, Event, Finding, HeldWrite, Stop, meets_superblock};
@@ -40,7 +40,7 @@ impl Checker {
     ghost use Rattle.recon_disk.specs.Keeping.{IsCounted, Kept};
     ghost use Rattle.write_cache.specs.Cache.{overlaid, with_bytes};
     ghost use Rattle.recon_core.specs.Machine.{MachineState, machine_step};
-    ghost use Rattle.recon_core.specs.Standing.{BeginsAt, BeginsOver, IsAfterWant, IsAnswerTo, IsBelow, IsFetched, IsJudgement, IsNoRefusal, StandsFor, Takes, is_disk_fault, refusal_of, waits};
+    ghost use Rattle.recon_core.specs.Standing.{BeginsAt, BeginsOpen, BeginsOver, BeginsWith, IsAfterWant, IsAnswerTo, IsBelow, IsFetched, IsJudgement, IsNoRefusal, StandsFor, Takes, is_disk_fault, refusal_of, waits};
     ghost use Rattle.recon_core.specs.Stops.{IsStopImage};
     ghost use Rattle.recon_core.specs.Judged.{Judges};
     ghost use Rattle.recon_core.specs.Order.{HasSentBy, HasSentPart, judged_with};
@@ -50,7 +50,7 @@ impl Checker {
     pub fn start<D: Disk, L>(
         alloc: Global,
         disk: &mut D,
-        _steps: &mut Steps<L>,
+        steps: &mut Steps<L>,
     ) -> Result<Started, Stop>
         ensures told { IfOk result (λ started.
             IfSome (D.bytes disk.old) (λ image. BeginsOver image started)) }
@@ -58,19 +58,40 @@ impl Checker {
         ensures stops { IsNoRefusal result }
         ensures kept { Kept D.Disk disk.old disk.new (is_disk_fault result) }
     {
+        match Checker::begin(alloc, disk, steps)? {
+            Ok((checker, _)) => Ok(Started::Ready(checker)),
+            Err(finding) => Ok(Started::Refused(finding)),
+        }
+    }
+
+    /// The same, with the generation of the superblock where the image is accepted, and the finding where it is not. The
+    /// length of the disk is asked once, and its image is read once.
+    pub fn begin<D: Disk, L>(
+        alloc: Global,
+        disk: &mut D,
+        _steps: &mut Steps<L>,
+    ) -> Result<Result<(Checker, u64), Finding>, Stop>
+        ensures told { IfOk result (λ begun.
+            IfSome (D.bytes disk.old) (λ image. BeginsWith image begun)) }
+        ensures ready { IfOk result (BeginsOpen (D.len disk.old)) }
+        ensures stops { IsNoRefusal result }
+        ensures kept { Kept D.Disk disk.old disk.new (is_disk_fault result) }
+    {
         let cache = WriteCache::new(alloc);
-        match judge(alloc, disk, &cache) {
-            Ok(Verdict::Found(finding)) => Ok(Started::Refused(finding)),
-            Ok(Verdict::Accept { .. }) => match disk.length() {
-                Ok(length) => Ok(Started::Ready(Checker {
+        let Ok(length) = disk.length() else {
+            return Err(Stop::DiskFault);
+        };
+        match judge_within(alloc, disk, &cache, length) {
+            Ok(Verdict::Found(finding)) => Ok(Err(finding)),
+            Ok(Verdict::Accept { generation }) => {
+                let checker = Checker {
                     cache,
                     closed: false,
                     length,
-                })),
-                Err(_) => Err(Stop::DiskFault),
-            },
-            Err(Fault::Disk) => Err(Stop::DiskFault),
-            Err(Fault::NoMemory) => Err(Stop::NoMemory),
+                };
+                Ok(Ok((checker, generation)))
+            }
+            Err(fault) => Err(stop_of(fault)),
         }
     }
 
@@ -178,7 +199,7 @@ impl Checker {
 
     // All that waits is judged.
     fn settle<D: Disk>(&mut self, alloc: Global, disk: &mut D) -> Result<Answer, Stop>
-        requires small { D.len disk.old < 2 ^ 64 }
+        requires length { self.old.length ≡ D.len disk.old }
         requires below { IsBelow (D.len disk.old) self.old.cache }
         ensures sort { IfOk result IsJudgement }
         ensures judged { Judges D.Disk disk.old disk.new
@@ -193,7 +214,7 @@ impl Checker {
         ensures err { OnErr result (self.new ≡ record self.old { closed = true }) }
         ensures stops { IsNoRefusal result }
     {
-        match judge_waiting(alloc, disk, &mut self.cache) {
+        match judge_waiting(alloc, disk, &mut self.cache, self.length) {
             Ok(answer) => Ok(answer),
             Err(fault) => {
                 self.closed = true;
@@ -210,6 +231,7 @@ impl Checker {
         disk: &mut D,
         write: HeldWrite,
     ) -> Result<Answer, Stop>
+        requires length { self.old.length ≡ D.len disk.old }
         requires small { D.len disk.old < 2 ^ 64 }
         requires below { IsBelow (D.len disk.old) self.old.cache }
         requires inside { write.at + length write.bytes ≤ D.len disk.old }

@@ -8,13 +8,13 @@ ghost use Rattle.recon_core.specs.Judged.{Judges};
 ghost use Rattle.recon_core.specs.Order.{HasSentBy, HasSentPart};
 
 use crate::send::let_through;
-use plain_check::{Fault, Verdict, judge};
+use plain_check::{Fault, Verdict, judge_within};
 use recon_disk::Disk;
 use std::alloc::Global;
 use verdict::Answer;
 use write_cache::WriteCache;
 
-/// Judges the image that all that waits would make. Where the full check accepts, it goes out to the
+/// Judges the image that all that waits would make, over a disk of `length` bytes. Where the full check accepts, it goes out to the
 /// disk; then nothing waits any more. After a fault all waits as before. All memory is taken before the
 /// first write.
 #[tactic(auto, unfolding(crate::specs::Order::HasSentBy, crate::specs::Order::HasSentPart))]
@@ -22,8 +22,9 @@ pub fn judge_waiting<D: Disk>(
     alloc: Global,
     disk: &mut D,
     cache: &mut WriteCache,
+    length: u64,
 ) -> Result<Answer, Fault>
-    requires small { D.len disk.old < 2 ^ 64 }
+    requires length { length ≡ D.len disk.old }
     requires below { IsBelow (D.len disk.old) cache.old }
     ensures sort { IfOk result IsJudgement }
     ensures judged { Judges D.Disk disk.old disk.new cache.old result (is_disk_fault result) }
@@ -36,15 +37,13 @@ pub fn judge_waiting<D: Disk>(
     ensures empty { OnOk result (cache.new ≡ map.empty) }
     ensures waits { OnErr result (cache.new ≡ cache.old) }
 {
-    match judge(alloc, disk, cache)? {
+    match judge_within(alloc, disk, cache, length)? {
         Verdict::Found(finding) => {
             cache.clear();
             Ok(Answer::Rejected(finding))
         }
         Verdict::Accept { generation } => {
-            let Ok(()) = let_through(disk, cache) else {
-                return Err(Fault::Disk);
-            };
+            let_through(disk, cache)?;
             cache.clear();
             Ok(Answer::Passed {
                 generation,
