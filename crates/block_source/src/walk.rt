@@ -6,6 +6,7 @@ ghost use Rattle.recon_disk.specs.Keeping.{Kept};
 ghost use Rattle.node_reader.specs.Places.{each_from};
 ghost use Rattle.node_reader.specs.Layout.{level_of, count_of, pointer_of};
 ghost use Rattle.records.specs.Walk.{children_of, high_of, walk_in};
+ghost use Rattle.block_source.specs.Counts.{ReadsCopies};
 ghost use Rattle.block_source.specs.Gives.{is_disk_fault, is_disk_halt};
 ghost use Rattle.block_source.specs.Takes.{ReadsInto, TakesAsTold};
 ghost use Rattle.block_source.specs.Private.{pointers_from};
@@ -54,6 +55,8 @@ pub fn walk_into<D: Disk, T: Taker>(
     ensures taken {
         ReadsInto D.Disk T.Taker disk.old source.now.cache.now into.old into.new result
         (walk_in source.now.sup.now source.now.map.now e.now) }
+    ensures reads { ReadsCopies D.Disk source.now disk.old disk.new result
+        (walk_in source.now.sup.now source.now.map.now e.now) }
     ensures kept { Kept D.Disk disk.old disk.new (is_disk_halt result) }
 {
     let size = source.sup.nodesize as usize;
@@ -78,6 +81,8 @@ fn walk<D: Disk, T: Taker>(
     requires second { length second.old ≡ source.now.sup.now.nodesize }
     ensures taken {
         ReadsInto D.Disk T.Taker disk.old source.now.cache.now into.old into.new result
+        (walk_in source.now.sup.now source.now.map.now e.now) }
+    ensures reads { ReadsCopies D.Disk source.now disk.old disk.new result
         (walk_in source.now.sup.now source.now.map.now e.now) }
     ensures kept { Kept D.Disk disk.old disk.new (is_disk_halt result) }
 {
