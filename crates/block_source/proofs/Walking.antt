@@ -1,5 +1,5 @@
 -- The steps of a walk that gives records to a taker.
-use Rattle.std.proofs.Common.{◌≡◌, ℕ, zero, suc, ◌+◌, ◌-◌, ◌<◌, ◌≤◌, List, [], ◌∷◌, ◌++◌, ap, refl, sym, ◌∙◌, arith, IfSome, Option, Some, None, Ok, Err, false}
+use Rattle.std.proofs.Common.{◌≡◌, ℕ, zero, suc, ◌+◌, ◌-◌, ◌<◌, ◌≤◌, List, [], ◌∷◌, ap, refl, sym, ◌∙◌, arith, IfSome, Option, Some, None, Ok, Err, false}
 use Rattle.std.specs.List.{fold}
 use Rattle.std.specs.Ordering.{nat_cmp}
 use Rattle.std.specs.FinMap.{FinMap}
@@ -8,11 +8,9 @@ use Rattle.verdict.specs.Rules.{and_then}
 use Rattle.recon_disk.specs.Keeping.{Kept}
 use Rattle.recon_disk.specs.declared.disk.Disk.{Ghosts as DiskGhosts}
 use Rattle.super_reader.specs.declared.Super.{Super}
-use Rattle.node_reader.specs.Places.{each_from}
-use Rattle.node_reader.specs.Layout.{LeafItem, count_of, item_of, pointer_of, pointers_of}
+use Rattle.node_reader.specs.Layout.{count_of, item_of, pointer_of, pointers_of}
 use Rattle.node_reader.specs.Stored.{Stored}
 use Rattle.node_reader.specs.declared.expect.Expect.{Expect}
-use Rattle.node_reader.specs.declared.expect.Pointer.{Pointer}
 use Rattle.node_reader.proofs.BlockLaws.{each_left, each_left_none}
 use Rattle.write_cache.specs.Cache.{overlaid}
 use Rattle.block_source.specs.Private.{items_from, pointers_from}

@@ -55,8 +55,7 @@ pub fn walk_into<D: Disk, T: Taker>(
 ) -> Result<(), Halt>
     requires size { is_node_size source.now.sup.now.nodesize ≡ true }
     requires end { source.now.end ≡ D.len disk.old }
-    ensures taken {
-        ReadsInto D.Disk T.Taker disk.old source.now.cache.now into.old into.new result
+    ensures taken { ReadsInto D.Disk T.Taker disk.old source.now.cache.now into.old into.new result
         (walk_in source.now.sup.now source.now.map.now e.now) }
     ensures reads { ReadsCopies D.Disk source.now disk.old disk.new result
         (walk_in source.now.sup.now source.now.map.now e.now) }
@@ -82,8 +81,7 @@ fn walk<D: Disk, T: Taker>(
     requires end { source.now.end ≡ D.len disk.old }
     requires room { length room.old ≡ (e.now.level + 1) * source.now.sup.now.nodesize }
     requires second { length second.old ≡ source.now.sup.now.nodesize }
-    ensures taken {
-        ReadsInto D.Disk T.Taker disk.old source.now.cache.now into.old into.new result
+    ensures taken { ReadsInto D.Disk T.Taker disk.old source.now.cache.now into.old into.new result
         (walk_in source.now.sup.now source.now.map.now e.now) }
     ensures reads { ReadsCopies D.Disk source.now disk.old disk.new result
         (walk_in source.now.sup.now source.now.map.now e.now) }
