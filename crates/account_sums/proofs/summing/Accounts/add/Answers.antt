@@ -1,8 +1,7 @@
-use Rattle.std.proofs.Common.{◌≡◌, ◌++◌, ◌∙◌, ap, refl}
+use Rattle.std.proofs.Common.{◌∙◌, ap, refl}
 use Rattle.accounts.specs.Tally.{sums_in, with_postings}
 use Rattle.records.specs.Part.{located}
 use Rattle.account_sums.specs.Kept.{summed_in}
-use Rattle.account_sums.specs.Sums.{rest_of}
 use Rattle.account_sums.proofs.Decided.{one_taken}
 use Rattle.account_sums.proofs.ShownSums.{on_ok_both}
 use Rattle.account_sums.proofs.summing.Accounts.add.Goals as goal
