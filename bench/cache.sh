@@ -2,12 +2,16 @@
 # Times the cache of waiting writes beside std's ordered map in plain Rust with the same rules: COUNT scattered
 # writes of 4096 bytes, RISE writes of 4096 bytes at rising offsets, and ROUNDS buffers of 16384 bytes with the
 # scattered writes laid over. Prints the user seconds of each, the least of five runs, and the ratios.
-# Usage: bench/cache.sh [COUNT] [RISE] [ROUNDS]
+# Then it times SMALL writes of 512 bytes at rising offsets, at falling ones, and in an order that joins two long
+# pieces again and again. Prints the user seconds of ten runs, and with those of the system, the least of five times
+# each, and the ratios to the rising order.
+# Usage: bench/cache.sh [COUNT] [RISE] [ROUNDS] [SMALL]
 set -euo pipefail
 top=$(cd "$(dirname "$0")/.." && pwd)
 count=${1:-100000}
 rise=${2:-262144}
 rounds=${3:-1000000}
+small=${4:-200000}
 work=$(mktemp -d)
 trap 'rm -rf "$work"' EXIT
 
@@ -126,3 +130,28 @@ compare() { # NAME WORDS..
 compare "$count scattered writes" scattered "$count" 0
 compare "$rise rising writes" rising "$rise" 0
 compare "$count scattered writes and $rounds buffers" scattered "$count" "$rounds"
+
+ten() { # PROGRAM WORDS..: the least processor time of five times ten runs in seconds, the user's alone and the whole
+    python3 - "$@" <<'PYTHON'
+import resource, subprocess, sys
+least = None
+for _ in range(5):
+    before = resource.getrusage(resource.RUSAGE_CHILDREN)
+    for _ in range(10):
+        subprocess.run(sys.argv[1:], check=True, stdout=subprocess.DEVNULL)
+    after = resource.getrusage(resource.RUSAGE_CHILDREN)
+    user = after.ru_utime - before.ru_utime
+    whole = user + after.ru_stime - before.ru_stime
+    least = (user, whole) if least is None else (min(least[0], user), min(least[1], whole))
+print(*least)
+PYTHON
+}
+
+rising=$(ten "$proved" rising "$small" 0 512)
+made=$("$proved" rising "$small" 0 512)
+echo "$rising" | awk -v name="$small small writes, rising" '{ printf "%s: user %.3f s, whole %.3f s\n", name, $1, $2 }'
+for order in falling joining; do
+    [ "$("$proved" "$order" "$small" 0 512)" = "$made" ] || { echo "$order: the answers differ"; exit 1; }
+    echo "$rising $(ten "$proved" "$order" "$small" 0 512)" | awk -v name="$small small writes, $order" \
+        '{ printf "%s: user %.3f s, ratio %.2f, whole %.3f s, ratio %.2f\n", name, $3, $3 / $1, $4, $4 / $2 }'
+done

@@ -1,3 +1,4 @@
 pub mod CacheLaws
 pub mod PutLaws
+mod RoomLaws
 pub mod RunLaws

@@ -7,7 +7,8 @@ ghost use Rattle.write_cache.specs.Lent.{pieces_left};
 ghost use Rattle.write_cache.specs.Pieces.{ArePiecesOf};
 
 use crate::pieces::Pieces;
-use crate::runs::{Runs, last_from, overwrite, put_copy, put_own};
+use crate::run::overwrite;
+use crate::runs::{Runs, last_from, put_copy, put_own};
 use std::alloc::Global;
 use std::collections::BTreeMap;
 use std::marker::Model;
@@ -69,8 +70,8 @@ impl WriteCache {
         }
     }
 
-    /// Puts the bytes of this write over what waits there. They are not copied where no piece that
-    /// waits reaches them from before. When memory is wanting, nothing changes.
+    /// Puts the bytes of this write over what waits there. They are not copied where nothing that
+    /// waits meets or touches them. When memory is wanting, nothing changes.
     #[tactic(auto, using(crate::proofs::CacheLaws::with_bytes_none))]
     pub fn hold(&mut self, write: HeldWrite) -> Result<(), NoMemory>
         requires { write.at + length write.bytes < 2 ^ 64 }

@@ -4,6 +4,7 @@
 
 mod cache;
 mod pieces;
+mod run;
 mod runs;
 
 pub use cache::WriteCache;

@@ -4,17 +4,18 @@ ghost use Rattle.std.specs.Prelude.{◌≡◌};
 ghost use Rattle.std.specs.Iterator.{item_count, YieldsFirstBy};
 ghost use Rattle.write_cache.specs.Lent.{piece_lent, pieces_left};
 
+use crate::run::Run;
 use std::collections::btree_map::Iter;
 
 /// The pieces of a cache in rising order: each item is the offset on the device where a piece begins,
 /// and the piece's bytes.
 #[derive(Drop)]
 pub struct Pieces<'a> {
-    entries: Iter<'a, u64, Vec<u8>>,
+    entries: Iter<'a, u64, Run>,
 }
 
 impl<'a> Pieces<'a> {
-    pub(crate) fn new(entries: Iter<'a, u64, Vec<u8>>) -> Pieces<'a>
+    pub(crate) fn new(entries: Iter<'a, u64, Run>) -> Pieces<'a>
         ensures { result.entries ≡ entries.entry }
     {
         Pieces { entries }

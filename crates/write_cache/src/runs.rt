@@ -1,17 +1,17 @@
 //! The ordered map from the offset where a piece begins to the piece's bytes.
 
-ghost use Rattle.std.specs.Prelude.{◌≡◌, ◌≢◌, ℕ, ◌+◌, ◌-◌, ◌≤◌, ◌<◌, ◌^◌, [], length, MatchOption, IsSome, Some, OnOk, OnErr};
+ghost use Rattle.std.specs.Prelude.{◌≡◌, ◌≢◌, ℕ, ◌+◌, ◌-◌, ◌≤◌, ◌<◌, ◌^◌, [], length, MatchOption, IsSome, Some, IfSome, OnOk, OnErr};
 ghost use Rattle.std.specs.Ordering.{nat_cmp};
 ghost use Rattle.std.specs.BTreeMap.{IsOrdered};
-ghost use Rattle.verdict.specs.Image.{written};
-ghost use Rattle.write_cache.specs.Runs.{AreKept, HoldPut, HoldStill, laid_over, run_at, NoneFrom, IsLast, IsTail, Reaches, NoneReaches, AreCleared};
+ghost use Rattle.write_cache.specs.Runs.{AreKept, HoldPut, HoldStill, laid_over, run_at, NoneFrom, IsLast, Reaches, NoneReaches, AreCleared, Meet, Joined, Replaces, AreSame};
 
+use crate::run::Run;
 use std::alloc::{AllocError, Global};
 use std::collections::BTreeMap;
 use std::mem;
 
 /// Under the offset where it begins, the bytes of each piece.
-pub(crate) type Runs = BTreeMap<u64, Vec<u8>>;
+pub(crate) type Runs = BTreeMap<u64, Run>;
 
 /// The last piece that begins at the offset `to` or before it.
 pub(crate) fn last_from(runs: &Runs, to: u64) -> Option<(u64, &[u8])>
@@ -37,13 +37,13 @@ pub(crate) fn put_copy(
     ensures ok { OnOk result (HoldPut runs.old.entries runs.new.entries at bytes.now) }
     ensures err { OnErr result (HoldStill runs.old.entries runs.new.entries) }
 {
-    match reaching(runs, at) {
-        Some(begin) => lay_over(runs, alloc, begin, at, bytes),
+    match reaching(runs, at, at + bytes.len() as u64) {
+        Some(last) => put_over(runs, alloc, last, at, bytes),
         None => begin_at(runs, at, Vec::from_slice(alloc, bytes)?),
     }
 }
 
-/// The same, where the bytes become a piece of their own if no piece before them reaches them.
+/// The same, where the bytes become a piece of their own if no piece meets or touches them.
 pub(crate) fn put_own(
     runs: &mut Runs,
     alloc: Global,
@@ -56,132 +56,154 @@ pub(crate) fn put_own(
     ensures ok { OnOk result (HoldPut runs.old.entries runs.new.entries at bytes.items) }
     ensures err { OnErr result (HoldStill runs.old.entries runs.new.entries) }
 {
-    match reaching(runs, at) {
-        Some(begin) => lay_over(runs, alloc, begin, at, bytes.as_slice()),
+    match reaching(runs, at, at + bytes.len() as u64) {
+        Some(last) => put_over(runs, alloc, last, at, bytes.as_slice()),
         None => begin_at(runs, at, bytes),
     }
 }
 
-// Where the piece begins that has the offset `at` in it or ends there.
-fn reaching(runs: &Runs, at: u64) -> Option<u64>
+// Where the last piece begins that begins at the offset `to` or before it and ends at `at` or behind it.
+fn reaching(runs: &Runs, at: u64, to: u64) -> Option<u64>
     requires { AreKept runs.now.entries }
-    ensures { MatchOption result (NoneReaches runs.now.entries at)
-        (λ begin. Reaches runs.now.entries at begin) }
+    ensures { MatchOption result (NoneReaches runs.now.entries at to)
+        (λ begin. Reaches runs.now.entries at to begin) }
 {
-    let (begin, bytes) = last_from(runs, at)?;
-    if at - begin <= bytes.len() as u64 {
+    let (begin, bytes) = last_from(runs, to)?;
+    if at.saturating_sub(begin) <= bytes.len() as u64 {
         Some(begin)
     } else {
         None
     }
 }
 
-// Lays bytes over the piece that reaches them.
-fn lay_over(
-    runs: &mut Runs,
-    alloc: Global,
-    begin: u64,
-    at: u64,
-    bytes: &[u8],
-) -> Result<(), AllocError>
+// Makes bytes a piece of their own, which no piece meets or touches.
+fn begin_at(runs: &mut Runs, at: u64, bytes: Vec<u8>) -> Result<(), AllocError>
     requires kept { AreKept runs.old.entries }
-    requires reached { Reaches runs.old.entries at begin }
-    requires some { 0 < length bytes.now }
-    requires fits { at + length bytes.now < 2 ^ 64 }
-    ensures ok { OnOk result (HoldPut runs.old.entries runs.new.entries at bytes.now) }
-    ensures err { OnErr result (HoldStill runs.old.entries runs.new.entries) }
-{
-    let end = at + bytes.len() as u64;
-    let mut piece = take_out(runs, alloc, begin);
-    let laid = lay_into(
-        &mut piece,
-        (at - begin) as usize,
-        bytes,
-        tail_from(runs, end),
-    );
-    put_back(runs, begin, piece);
-    laid?;
-    remove_between(runs, begin, end);
-    Ok(())
-}
-
-// Makes bytes a piece of its own, which no piece before them reaches.
-fn begin_at(runs: &mut Runs, at: u64, mut bytes: Vec<u8>) -> Result<(), AllocError>
-    requires kept { AreKept runs.old.entries }
-    requires apart { NoneReaches runs.old.entries at }
+    requires apart { NoneReaches runs.old.entries at (at + length bytes.items) }
     requires some { 0 < length bytes.items }
     requires fits { at + length bytes.items < 2 ^ 64 }
     ensures ok { OnOk result (HoldPut runs.old.entries runs.new.entries at bytes.items) }
     ensures err { OnErr result (HoldStill runs.old.entries runs.new.entries) }
 {
-    let end = at + bytes.len() as u64;
-    bytes.extend_from_slice(tail_from(runs, end))?;
-    runs.insert(at, bytes)?;
-    remove_between(runs, at, end);
+    runs.insert(at, Run::of(bytes))?;
     Ok(())
+}
+
+// Lays bytes over the pieces that meet or touch them, the last of which begins at `last`.
+fn put_over(
+    runs: &mut Runs,
+    alloc: Global,
+    last: u64,
+    at: u64,
+    bytes: &[u8],
+) -> Result<(), AllocError>
+    requires kept { AreKept runs.old.entries }
+    requires last { Reaches runs.old.entries at (at + length bytes.now) last }
+    requires some { 0 < length bytes.now }
+    requires fits { at + length bytes.now < 2 ^ 64 }
+    ensures ok { OnOk result (HoldPut runs.old.entries runs.new.entries at bytes.now) }
+    ensures err { OnErr result (HoldStill runs.old.entries runs.new.entries) }
+{
+    if last <= at {
+        return lay_at(runs, last, (at - last) as usize, bytes);
+    }
+    match reaching(runs, at, at) {
+        Some(begin) => join_at(runs, alloc, begin, last, at, bytes),
+        None => join_new(runs, alloc, last, at, bytes),
+    }
+}
+
+// Lays bytes over the piece that begins at an offset, from a place of it on.
+#[tactic(auto, unfolding(crate::specs::Runs::run_at))]
+fn lay_at(runs: &mut Runs, begin: u64, from: usize, bytes: &[u8]) -> Result<(), AllocError>
+    requires place { IfSome (run_at runs.old.entries begin) (λ base. from ≤ length base) }
+    requires here { IsSome (run_at runs.old.entries begin) }
+    ensures ok { OnOk result (Replaces runs.old.entries runs.new.entries begin
+        (λ base. laid_over base from bytes.now)) }
+    ensures err { OnErr result (AreSame runs.old.entries runs.new.entries) }
+    ensures ordered { IsOrdered nat_cmp runs.new }
+{
+    runs.get_mut(&begin).unwrap().lay(from, bytes)
+}
+
+// Joins the piece that begins at `begin` and reaches the offset `at`, bytes from there on, and what the piece
+// that begins at `last` has behind them. The pieces between are let go of.
+fn join_at(
+    runs: &mut Runs,
+    alloc: Global,
+    begin: u64,
+    last: u64,
+    at: u64,
+    bytes: &[u8],
+) -> Result<(), AllocError>
+    requires { Meet runs.old.entries begin last at (length bytes.now) }
+    ensures ok { OnOk result (Joined runs.old.entries runs.new.entries begin last at bytes.now) }
+    ensures err { OnErr result (AreSame runs.old.entries runs.new.entries) }
+    ensures ordered { IsOrdered nat_cmp runs.new }
+{
+    let end = at + bytes.len() as u64;
+    let mut piece = take_out(runs, alloc, begin);
+    let mut behind = take_out(runs, alloc, last);
+    let joined = piece.join(
+        alloc,
+        (at - begin) as usize,
+        bytes,
+        &mut behind,
+        (end - last) as usize,
+    );
+    put_back(runs, last, behind);
+    put_back(runs, begin, piece);
+    joined?;
+    remove_between(runs, begin, end);
+    Ok(())
+}
+
+// The same, where no piece reaches the offset `at`.
+fn join_new(
+    runs: &mut Runs,
+    alloc: Global,
+    last: u64,
+    at: u64,
+    bytes: &[u8],
+) -> Result<(), AllocError>
+    requires kept { AreKept runs.old.entries }
+    requires apart { NoneReaches runs.old.entries at at }
+    requires last { Reaches runs.old.entries at (at + length bytes.now) last }
+    requires behind { at < last }
+    requires some { 0 < length bytes.now }
+    requires fits { at + length bytes.now < 2 ^ 64 }
+    ensures ok { OnOk result (HoldPut runs.old.entries runs.new.entries at bytes.now) }
+    ensures err { OnErr result (HoldStill runs.old.entries runs.new.entries) }
+{
+    runs.insert(at, Run::of(Vec::new(alloc)))?;
+    let joined = join_at(runs, alloc, at, last, at, bytes);
+    if joined.is_err() {
+        runs.remove(&at);
+    }
+    joined
 }
 
 // Takes a piece's bytes out, and leaves none in their place.
 #[tactic(auto, unfolding(crate::specs::Runs::run_at))]
-fn take_out(runs: &mut Runs, alloc: Global, begin: u64) -> Vec<u8>
+fn take_out(runs: &mut Runs, alloc: Global, begin: u64) -> Run
     requires { IsSome (run_at runs.old.entries begin) }
-    ensures taken { run_at runs.old.entries begin ≡ Some result.items }
+    ensures taken { run_at runs.old.entries begin ≡ Some result }
     ensures left { run_at runs.new.entries begin ≡ Some [] }
     ensures others { (k : ℕ) → k ≢ begin → run_at runs.new.entries k ≡ run_at runs.old.entries k }
     ensures ordered { IsOrdered nat_cmp runs.new }
 {
-    mem::replace(runs.get_mut(&begin).unwrap(), Vec::new(alloc))
+    mem::replace(runs.get_mut(&begin).unwrap(), Run::of(Vec::new(alloc)))
 }
 
 // Puts a piece's bytes in the place of those that stand there.
 #[tactic(auto, unfolding(crate::specs::Runs::run_at))]
-fn put_back(runs: &mut Runs, begin: u64, bytes: Vec<u8>)
+fn put_back(runs: &mut Runs, begin: u64, bytes: Run)
     requires { IsSome (run_at runs.old.entries begin) }
-    ensures here { run_at runs.new.entries begin ≡ Some bytes.items }
+    ensures here { run_at runs.new.entries begin ≡ Some bytes }
     ensures others { (k : ℕ) → k ≢ begin → run_at runs.new.entries k ≡ run_at runs.old.entries k }
     ensures ordered { IsOrdered nat_cmp runs.new }
 {
     *runs.get_mut(&begin).unwrap() = bytes;
-}
-
-// The bytes behind the offset `end` of the last piece that begins there or before it.
-fn tail_from(runs: &Runs, end: u64) -> &[u8]
-    ensures { IsTail runs.now.entries end result.now }
-{
-    let Some((begin, bytes)) = last_from(runs, end) else {
-        return &[];
-    };
-    let from = (end - begin) as usize;
-    if from < bytes.len() {
-        &bytes[from..]
-    } else {
-        &[]
-    }
-}
-
-// Lays bytes over a piece from the place `from` on, and lays `tail` behind the longer of the two.
-fn lay_into(piece: &mut Vec<u8>, from: usize, bytes: &[u8], tail: &[u8]) -> Result<(), AllocError>
-    requires place { from ≤ length piece.old.items }
-    requires fits { length bytes.now + length tail.now < 2 ^ 64 }
-    ensures ok { OnOk result (piece.new.items ≡ laid_over piece.old.items from bytes.now tail.now) }
-    ensures err { OnErr result (piece.new.items ≡ piece.old.items) }
-{
-    let over = bytes.len().min(piece.len() - from);
-    let (inside, behind) = bytes.split_at(over);
-    piece.reserve(behind.len() + tail.len())?;
-    piece.extend_from_slice(behind)?;
-    piece.extend_from_slice(tail)?;
-    overwrite(piece, from, inside);
-    Ok(())
-}
-
-/// Puts these bytes over the range that begins at a place.
-#[tactic(auto, unfolding(verdict::specs::Image::written))]
-pub(crate) fn overwrite(into: &mut [u8], at: usize, from: &[u8])
-    requires { at + length from.now ≤ length into.old }
-    ensures { into.new ≡ written into.old at from.now }
-{
-    into[at..at + from.len()].copy_from_slice(from);
 }
 
 // Lets go of the pieces that begin behind the offset `after` and no further than at `to`.

@@ -7,4 +7,4 @@ returns-in_err-at-clause-found c =
 
 pub returns-clause-found : goal.returns-clause-found
 returns-clause-found c =
-    rw c.as_slice.ensures.value (last_found c.args.runs.now c.args.to c.range.result (c.range.ensures.in_range tt) (c.in_ok-at.at.now, c.in_ok-at.bytes.now) c.next_back.new.self c.in_ok-at.ensures.steps)
+    rw c.as_slice.ensures (last_found c.args.runs.now c.args.to c.range.result (c.range.ensures.in_range tt) (c.in_ok-at.at.now, c.in_ok-at.bytes.now) c.next_back.new.self c.in_ok-at.ensures.steps)
