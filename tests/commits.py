@@ -5,7 +5,7 @@ that differs. A row: what it is, the changes that the commit makes, and how the 
 has the generation 2 and copies on write the file tree, the extent tree and the root tree. What passes then stands on
 the device; what is rejected leaves it as it was.
 """
-from rows import *
+from rows import BASE, DATA_AT, Device, ENTRY, changed, data_group, fail, made, metadata_group, put, used
 
 PASSES = 'passed generation 2 '
 BELOW = 5373952

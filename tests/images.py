@@ -3,7 +3,9 @@
 Usage: tests/images.py [PROGRAM], by default crates/recon/out/recon. Prints one line, and ends with 1 at the first row
 that differs. A row: what it is, the changes of the base image, and the finding, or none where the image is accepted.
 """
-from rows import *
+from rows import (
+    BASE, CHUNKS, CHUNKS_END, DATA_AT, DEVICES, Device, EXTENTS, FILES, HELLO, LEFT, RIGHT, ROOTS, SUMS, SUPERBLOCK,
+    SYSTEM_AT, changed, data_group, drop, leaf, made, metadata_group, node, put, used, write)
 
 MOVED = 2 ** 64 - 9
 LATE = write(RIGHT + 0x50, made.number(2))

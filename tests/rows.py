@@ -1,12 +1,15 @@
 """What the tables of whole runs share: changes of an image, which examples/made_image.py makes, and runs of the built
 program over a device in a file, whose status, lines and device are compared."""
-import os, subprocess, sys, tempfile
+import os
+import subprocess
+import sys
+import tempfile
 
 sys.path.insert(0, os.path.join(os.path.dirname(os.path.abspath(__file__)), '..', 'examples'))
 import made_image as made
 
 program = os.path.realpath(sys.argv[1] if len(sys.argv) > 1 else 'crates/recon/out/recon')
-NAME = 'tests/' + os.path.basename(sys.argv[0])
+SCRIPT = 'tests/' + os.path.basename(sys.argv[0])
 
 # The addresses of the base image's blocks, and of two blocks that are free.
 ROOTS, EXTENTS, CHUNKS, DEVICES, FILES, SUMS = (made.BLOCKS[tree] for tree in (1, 2, 3, 4, 5, 7))
@@ -17,14 +20,44 @@ CHUNKS_END = 22020096
 
 
 # Changes of an image: each is a call on it.
-def put(tree, item): return lambda image: image.put(tree, item)
-def drop(tree, *key): return lambda image: image.drop(tree, key)
-def write(at, data): return lambda image: image.write(at, data)
-def used(total): return write(SUPERBLOCK + 0x78, made.number(total))
-def leaf(address, tree, *items): return lambda image: image.put_leaf(address, tree, dict(items))
-def node(address, tree, *pointers): return lambda image: image.blocks.update({address: made.node(address, tree, pointers)})
-def data_group(total, kind=1): return put(2, made.group(DATA_AT, 8388608, kind, total))
-def metadata_group(total): return put(2, made.group(METADATA_AT, 8388608, 36, total))
+def put(tree, item):
+    """An item into a tree, in the place of one with its key."""
+    return lambda image: image.put(tree, item)
+
+
+def drop(tree, *key):
+    """The item with a key away from a tree."""
+    return lambda image: image.drop(tree, key)
+
+
+def write(at, data):
+    """Bytes over a block or the superblock, at an address."""
+    return lambda image: image.write(at, data)
+
+
+def leaf(address, tree, *items):
+    """A block that is a leaf of a tree with these items alone."""
+    return lambda image: image.put_leaf(address, tree, dict(items))
+
+
+def node(address, tree, *pointers):
+    """A block that is a node of a tree with these pointers: keys and addresses."""
+    return lambda image: image.blocks.update({address: made.node(address, tree, pointers)})
+
+
+def used(total):
+    """The used bytes that the superblock says."""
+    return write(SUPERBLOCK + 0x78, made.number(total))
+
+
+def data_group(total, kind=1):
+    """The used bytes that the group of the data chunk says, and its type."""
+    return put(2, made.group(DATA_AT, 8388608, kind, total))
+
+
+def metadata_group(total):
+    """The used bytes that the group of the metadata chunk says."""
+    return put(2, made.group(METADATA_AT, 8388608, 36, total))
 
 
 def changed(image, changes):
@@ -37,11 +70,12 @@ def changed(image, changes):
 BASE = made.Image()
 ENTRY = made.entry(257, 1, b'hello')
 # The names of a file `hello`, 257, in the top directory.
-HELLO = [put(5, made.top(10)), put(5, made.hashed(256, ENTRY)), put(5, made.indexed(256, 2, ENTRY)), put(5, made.name(257, 256, 2, b'hello'))]
+HELLO = [put(5, made.top(10)), put(5, made.hashed(256, ENTRY)), put(5, made.indexed(256, 2, ENTRY)),
+         put(5, made.name(257, 256, 2, b'hello'))]
 
 
 def fail(row, why):
-    sys.exit(f'{NAME}: {row}: {why}')
+    sys.exit(f'{SCRIPT}: {row}: {why}')
 
 
 class Device:

@@ -4,7 +4,9 @@ Usage: tests/traces.py [PROGRAM], by default crates/recon/out/recon. Prints one 
 that differs. A row: what it is, the records behind the header, the status, the lines behind the image's as text, those
 as JSON or none where they are not compared, and the writes that then stand on the device: places and bytes.
 """
-from rows import *
+import os
+
+from rows import BASE, Device, SUPERBLOCK, changed, made, used
 
 write, fetch, SETTLE, END = made.write, made.fetch, made.SETTLE, made.END
 PLACE = BASE.superblock

@@ -8,7 +8,7 @@ use image_maker::{
 };
 use std::alloc::Global;
 use std::test::Fail;
-use verdict::{Event, Key};
+use verdict::{Bytes, Event, Key};
 
 /// A change of an image.
 #[derive(Clone, Copy)]
@@ -113,7 +113,7 @@ fn raise_root(alloc: Global, image: &mut [u8], tree: u64) -> Result<(), Fail> {
         }
         items.push(LeafItem {
             key: item.key,
-            bytes: verdict::Bytes::from(bytes),
+            bytes: Bytes::from(bytes),
         })?;
     }
     put_items(alloc, image, roots, 1, &items)
@@ -150,17 +150,11 @@ fn make_change(alloc: Global, image: &mut [u8], change: Change) -> Result<(), Fa
     Ok(())
 }
 
-/// Makes changes one after the other.
-pub fn make_changes(alloc: Global, image: &mut [u8], changes: &[Change]) -> Result<(), Fail> {
-    for change in changes {
-        make_change(alloc, image, *change)?;
-    }
-    Ok(())
-}
-
-/// An image with changes.
+/// An image with changes, one after the other.
 pub fn changed(alloc: Global, image: &[u8], changes: &[Change]) -> Result<Vec<u8>, Fail> {
     let mut made = Vec::from_slice(alloc, image)?;
-    make_changes(alloc, &mut made, changes)?;
+    for change in changes {
+        make_change(alloc, &mut made, *change)?;
+    }
     Ok(made)
 }

@@ -1,7 +1,7 @@
 //! Traces, made of steps.
 
 use crate::bytes::part;
-use crate::change::{Change, make_changes};
+use crate::change::{Change, changed};
 use crate::tree::BLOCK;
 use std::alloc::{AllocError, Global};
 use std::test::Fail;
@@ -73,46 +73,40 @@ fn put_superblock(trace: &mut Vec<u8>, image: &[u8]) -> Result<(), AllocError> {
     put_write(trace, 0, 65_536, part(image, 65_536, 4096))
 }
 
-// Appends the records of a step, and answers the image from which the next one begins.
-fn put_step(
-    alloc: Global,
-    trace: &mut Vec<u8>,
-    old: Vec<u8>,
-    step: Step,
-) -> Result<Vec<u8>, Fail> {
-    let changes: &[Change] = match step {
-        Step::Blocks(changes) | Step::Commit(changes) | Step::Rejected(changes) => changes,
+// The changes of a step.
+fn changes_of(step: Step) -> &'static [Change] {
+    match step {
+        Step::Blocks(changes) => changes,
+        Step::Commit(changes) => changes,
+        Step::Rejected(changes) => changes,
         Step::SuperblockFirst(changes) => changes,
         _ => &[],
-    };
-    let mut new = old.clone()?;
-    make_changes(alloc, &mut new, changes)?;
+    }
+}
+
+// Appends the records of a step that makes an image of the old one.
+fn put_step(trace: &mut Vec<u8>, step: Step, old: &[u8], new: &[u8]) -> Result<(), AllocError> {
     match step {
         Step::Write(at, bytes) => put_write(trace, 0, at, bytes)?,
-        Step::FirstMebibyte => put_write(trace, 0, 0, part(&new, 0, 1_048_576))?,
+        Step::FirstMebibyte => put_write(trace, 0, 0, part(new, 0, 1_048_576))?,
         Step::Settle => trace.push(2)?,
         Step::Fetch(at, len) => {
             trace.push(3)?;
             trace.extend_from_slice(&at.to_le_bytes())?;
             trace.extend_from_slice(&len.to_le_bytes())?
         }
-        Step::Blocks(_) => put_blocks(trace, &old, &new)?,
-        Step::Commit(_) => {
-            put_blocks(trace, &old, &new)?;
-            put_superblock(trace, &new)?
-        }
-        Step::Rejected(_) => {
-            put_blocks(trace, &old, &new)?;
-            put_superblock(trace, &new)?;
-            return Ok(old);
+        Step::Blocks(_) => put_blocks(trace, old, new)?,
+        Step::Commit(_) | Step::Rejected(_) => {
+            put_blocks(trace, old, new)?;
+            put_superblock(trace, new)?
         }
         Step::SuperblockFirst(_) => {
-            put_superblock(trace, &new)?;
-            put_blocks(trace, &old, &new)?
+            put_superblock(trace, new)?;
+            put_blocks(trace, old, new)?
         }
         Step::End => trace.push(255)?,
     }
-    Ok(new)
+    Ok(())
 }
 
 /// The trace of these steps over an image.
@@ -120,7 +114,11 @@ pub fn trace_of(alloc: Global, image: &[u8], steps: &[Step]) -> Result<Vec<u8>, 
     let mut trace = header(alloc)?;
     let mut image = Vec::from_slice(alloc, image)?;
     for step in steps {
-        image = put_step(alloc, &mut trace, image, *step)?;
+        let new = changed(alloc, &image, changes_of(*step))?;
+        put_step(&mut trace, *step, &image, &new)?;
+        if !matches!(step, Step::Rejected(_)) {
+            image = new;
+        }
     }
     Ok(trace)
 }
