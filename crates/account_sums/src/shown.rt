@@ -67,8 +67,8 @@ pub struct Shown {
     pub run: SectorRun,
 }
 
-// The sums of all sectors. The item of an inode may come behind its ranges, for all that is proved of the order of
-// records: so what files show is kept aside, and added when all inodes are known.
+// The sums of all sectors. In a walk the item of an inode comes before its ranges, but no clause here rests on the
+// order of records: so what files show is kept aside, and added when all inodes are known.
 #[derive(Debug, Drop)]
 pub struct SectorTally {
     sectors: Sectors,

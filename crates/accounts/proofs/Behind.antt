@@ -1,31 +1,30 @@
 -- Postings that are put behind others.
-use Rattle.std.proofs.Common.{◌≡◌, ℕ, zero, suc, ◌+◌, List, [], ◌∷◌, ◌++◌, length, take, refl, ap, sym, ◌∙◌, append_assoc, append-nil, subst}
+use Rattle.std.proofs.Common.{◌≡◌, ℕ, ◌+◌, ◌<◌, List, [], ◌∷◌, ◌++◌, length, take, refl, ap, sym, ◌∙◌, append_assoc, append-nil, length-append, subst, arith}
 use Rattle.std.specs.List.{flat_map}
 use Rattle.std.specs.Prelude.{Result, Ok, Err, IsOk, IsErr}
 use Rattle.std.proofs.Math.Seq.{take-append-add}
+use Rattle.std.proofs.lemmas.List.{take-append-le}
 use Rattle.verdict.specs.declared.bytes.NoMemory.{NoMemory}
 use Rattle.accounts.specs.declared.postings.Posting.{Posting}
-use Rattle.accounts.specs.Posts.{Posts}
+use Rattle.accounts.specs.Posts.{Posts, StandInPart}
 
 -- what a call that posts gives
 abbrev pub Done : Type 0
 Done = Result (Unit {0}) NoMemory
 
 -- a first part of some postings is one of these and more
-part_of_more : (first later : List Posting) (n : ℕ) → (m : ℕ) × (take n first ≡ take m (first ++ later))
-part_of_more first later zero = (0, refl)
-part_of_more [] later (suc n) = (0, refl)
-part_of_more (x ∷ first) later (suc n) =
-    let rest = part_of_more first later n in
-    (suc rest.0, ap (λ l. x ∷ l) rest.1)
+part_of_more : (old new first later : List Posting) → StandInPart old new first → StandInPart old new (first ++ later)
+part_of_more old new first later part = record {
+  count = part.count;
+  fewer = omega (arith, part.fewer, length-append first later);
+  front = part.front ∙ ap (λ l. old ++ l) (sym (take-append-le part.count first later (omega (arith, part.fewer))));
+}
 
 cut : {T : Type 0} (old new : List Posting) (before : Result T NoMemory) (result : Done) (first later : List Posting)
     → Posts old new before first → IsErr before → IsErr result → Posts old new result (first ++ later)
 cut old new (Ok t) result first later posts failed fails = absurd (cc)
 cut old new (Err e) (Ok t) first later posts failed fails = absurd (cc)
-cut old new (Err e) (Err f) first later posts failed fails =
-    let more = part_of_more first later posts.some.0 in
-    record { all = tt; some = (more.0, posts.some.1 ∙ ap (λ l. old ++ l) more.1) }
+cut old new (Err e) (Err f) first later posts failed fails = record { all = tt; some = part_of_more old new first later posts.some }
 
 -- where some postings could not be put whole, a first part of these and of more stands
 pub posts_cut : {T : Type 0} {old new : List Posting} {before : Result T NoMemory} {result : Done} {first : List Posting} (later : List Posting)
@@ -40,13 +39,15 @@ more old mid new (Ok t) (Ok u) first later posts done rest =
 more old mid new (Ok t) (Err e) first later posts done rest =
     record {
       all = tt;
-      some = (
-        length first + rest.some.0,
-        rest.some.1
-            ∙ ap (λ l. l ++ take rest.some.0 later) posts.all
-            ∙ append_assoc old first (take rest.some.0 later)
-            ∙ ap (λ l. old ++ l) (sym (take-append-add first later rest.some.0)),
-      );
+      some = record {
+        count = length first + rest.some.count;
+        fewer = omega (arith, rest.some.fewer, length-append first later);
+        front =
+            rest.some.front
+            ∙ ap (λ l. l ++ take rest.some.count later) posts.all
+            ∙ append_assoc old first (take rest.some.count later)
+            ∙ ap (λ l. old ++ l) (sym (take-append-add first later rest.some.count));
+      };
     }
 
 -- some postings were put, and others behind them

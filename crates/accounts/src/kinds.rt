@@ -5,6 +5,10 @@ ghost use Rattle.accounts.specs.Kinds as kinds;
 
 use crate::{Account, Home};
 use std::alloc::Global;
+use verdict::kinds::{
+    BLOCK_GROUP_ITEM, DEV_EXTENT, DEV_ITEM, DIR_ITEM, EXTENT_DATA_REF, INODE_ITEM, INODE_REF,
+    ROOT_BACKREF, ROOT_ITEM, ROOT_REF, SHARED_BLOCK_REF, SHARED_DATA_REF, TREE_BLOCK_REF,
+};
 use verdict::{Bytes, Key, NoMemory};
 
 // The key of three numbers.
@@ -58,14 +62,28 @@ impl Account {
     pub fn block_ref(alloc: Global, root: u64, address: u64) -> Account
         ensures { result ≡ kinds.block_ref root address }
     {
-        plain(alloc, 1, root, address, key_by(address, 176, root), 0)
+        plain(
+            alloc,
+            1,
+            root,
+            address,
+            key_by(address, TREE_BLOCK_REF, root),
+            0,
+        )
     }
 
     /// A1: the block at a logical address refers to the tree block at another.
     pub fn shared_block_ref(alloc: Global, parent: u64, address: u64) -> Account
         ensures { result ≡ kinds.shared_block_ref parent address }
     {
-        plain(alloc, 1, 0, address, key_by(address, 182, parent), 0)
+        plain(
+            alloc,
+            1,
+            0,
+            address,
+            key_by(address, SHARED_BLOCK_REF, parent),
+            0,
+        )
     }
 
     /// A2: an inode of the tree with this root id refers to the extent at a logical address, whose first byte would
@@ -73,14 +91,21 @@ impl Account {
     pub fn data_ref(alloc: Global, root: u64, address: u64, ino: u64, origin: u64) -> Account
         ensures { result ≡ kinds.data_ref root address ino origin }
     {
-        plain(alloc, 2, root, address, key_by(ino, 178, origin), 0)
+        plain(
+            alloc,
+            2,
+            root,
+            address,
+            key_by(ino, EXTENT_DATA_REF, origin),
+            0,
+        )
     }
 
     /// A2: the leaf at a logical address refers to the extent at another.
     pub fn shared_data_ref(alloc: Global, parent: u64, address: u64) -> Account
         ensures { result ≡ kinds.shared_data_ref parent address }
     {
-        plain(alloc, 2, 0, address, key_by(parent, 184, 0), 0)
+        plain(alloc, 2, 0, address, key_by(parent, SHARED_DATA_REF, 0), 0)
     }
 
     /// A3: the extent at a logical address.
@@ -108,7 +133,14 @@ impl Account {
     pub fn group(alloc: Global, start: u64, length: u64, class: u64) -> Account
         ensures { result ≡ kinds.group start length class }
     {
-        plain(alloc, 6, 0, 0, key_by(start, 192, length), class)
+        plain(
+            alloc,
+            6,
+            0,
+            0,
+            key_by(start, BLOCK_GROUP_ITEM, length),
+            class,
+        )
     }
 
     /// A6: the group of a home.
@@ -136,14 +168,21 @@ impl Account {
     pub fn inode(alloc: Global, tree: u64, ino: u64) -> Account
         ensures { result ≡ kinds.inode tree ino }
     {
-        plain(alloc, 9, tree, 0, key_by(ino, 1, 0), 0)
+        plain(alloc, 9, tree, 0, key_by(ino, INODE_ITEM, 0), 0)
     }
 
     /// A10: a type of an inode, 1 regular file to 7 symbolic link.
     pub fn inode_type(alloc: Global, tree: u64, ino: u64, sort: u8) -> Account
         ensures { result ≡ kinds.inode_type tree ino sort }
     {
-        plain(alloc, 10, tree, 0, key_by(ino, 1, 0), u64::from(sort))
+        plain(
+            alloc,
+            10,
+            tree,
+            0,
+            key_by(ino, INODE_ITEM, 0),
+            u64::from(sort),
+        )
     }
 
     /// A11: a name in a directory, with its hash: where it leads to, and the type of that.
@@ -170,7 +209,7 @@ impl Account {
             kind: 11,
             tree,
             block: 0,
-            key: key_by(dir, 84, u64::from(hash)),
+            key: key_by(dir, DIR_ITEM, u64::from(hash)),
             detail: location.objectid,
             tail: Bytes::from(tail),
         })
@@ -187,7 +226,7 @@ impl Account {
     ) -> Result<Account, NoMemory>
         ensures { IfOk result (λ account. account ≡ kinds.link tree ino dir index name.now) }
     {
-        named(alloc, 12, tree, key_by(ino, 12, dir), index, name)
+        named(alloc, 12, tree, key_by(ino, INODE_REF, dir), index, name)
     }
 
     /// A13: the name of the subvolume `child`, at an index of a directory of the tree `parent`.
@@ -202,7 +241,7 @@ impl Account {
         ensures { IfOk result (λ account.
             account ≡ kinds.subvolume_entry parent child dir index name.now) }
     {
-        named(alloc, 13, parent, key_by(child, 156, dir), index, name)
+        named(alloc, 13, parent, key_by(child, ROOT_REF, dir), index, name)
     }
 
     /// A14: the same name, from the parent and from the child.
@@ -217,14 +256,28 @@ impl Account {
         ensures { IfOk result (λ account.
             account ≡ kinds.subvolume_pair parent child dir index name.now) }
     {
-        named(alloc, 14, parent, key_by(child, 144, dir), index, name)
+        named(
+            alloc,
+            14,
+            parent,
+            key_by(child, ROOT_BACKREF, dir),
+            index,
+            name,
+        )
     }
 
     /// A15: a stripe of the chunk at a logical address, on a device from a physical offset on, of a length in bytes.
     pub fn stripe(alloc: Global, start: u64, devid: u64, physical: u64, length: u64) -> Account
         ensures { result ≡ kinds.stripe start devid physical length }
     {
-        plain(alloc, 15, 4, start, key_by(devid, 204, physical), length)
+        plain(
+            alloc,
+            15,
+            4,
+            start,
+            key_by(devid, DEV_EXTENT, physical),
+            length,
+        )
     }
 
     /// A16: the bytes that all groups use.
@@ -238,13 +291,13 @@ impl Account {
     pub fn subvolume(alloc: Global, id: u64) -> Account
         ensures { result ≡ kinds.subvolume id }
     {
-        plain(alloc, 17, 1, 0, key_by(id, 132, 0), 0)
+        plain(alloc, 17, 1, 0, key_by(id, ROOT_ITEM, 0), 0)
     }
 
     /// A18: the bytes of a device that its ranges take.
     pub fn device(alloc: Global, devid: u64) -> Account
         ensures { result ≡ kinds.device devid }
     {
-        plain(alloc, 18, 3, 0, key_by(1, 216, devid), 0)
+        plain(alloc, 18, 3, 0, key_by(1, DEV_ITEM, devid), 0)
     }
 }

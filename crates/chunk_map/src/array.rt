@@ -8,6 +8,7 @@ ghost use Rattle.volume_items.specs.SystemArray.{item_size, pair_fails, pair_of}
 
 use recon_bytes::get_u16;
 use super_reader::Super;
+use verdict::kinds::CHUNK_ITEM;
 use verdict::{Family, Finding, Key, get_key};
 use volume_items::{ChunkItem, read_chunk};
 
@@ -72,7 +73,7 @@ fn pair_at(array: &[u8], size: usize, at: usize) -> Option<Head>
     }
     let key = get_key(array, at);
     let stripes = get_u16(array, at + KEY + 44);
-    if key.objectid != 256 || key.kind != 228 {
+    if key.objectid != 256 || key.kind != CHUNK_ITEM {
         return None;
     }
     let size = 48 + 32 * stripes as usize;

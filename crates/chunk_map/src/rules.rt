@@ -7,6 +7,7 @@ ghost use Rattle.volume_items.specs.MapRules.{chunk_finding, same_chunk, array_r
 ghost use Rattle.chunk_map.specs.Order.{AllClear, MeetsNone};
 
 use crate::copies::{common, ends_by, meets};
+use verdict::kinds::CHUNK_ITEM;
 use verdict::{Chunk, Family, Finding, Key, Rule};
 
 /// The finding on the first chunk of the system array that is not one of the chunk tree (S10).
@@ -152,7 +153,7 @@ fn finding(family: Family, number: u8, start: u64, detail: u64) -> Finding
         block: 0,
         key: Key {
             objectid: 256,
-            kind: 228,
+            kind: CHUNK_ITEM,
             offset: start,
         },
         detail,

@@ -11,16 +11,8 @@ use accounts::{Account, Posting, Postings};
 use fs_items::{DirEntry, DirItem, InodeRef, NameAt};
 use recon_crc::name_hash;
 use std::alloc::Global;
+use verdict::kinds::{DIR_ITEM, INODE_ITEM, INODE_REF, ROOT_ITEM};
 use verdict::{Key, NoMemory};
-
-// The kind of a DIR_ITEM, which has its entries by their hash. A DIR_INDEX has its entry by its index.
-const DIR_ITEM: u8 = 84;
-
-// The kind of an entry's location that is an inode of the same tree.
-const INODE: u8 = 1;
-
-// The kind of an entry's location that is the root of a subvolume.
-const ROOT: u8 = 132;
 
 // Posts an amount to one sum of an account.
 pub fn add(account: Account, field: u8, amount: u64, into: &mut Postings) -> Result<(), NoMemory>
@@ -52,7 +44,7 @@ pub fn post_names(
 fn is_root_name(key: Key) -> bool
     ensures { result ≡ is_root_name key }
 {
-    key.objectid == 256 && key.kind == 12 && key.offset == 256
+    key.objectid == 256 && key.kind == INODE_REF && key.offset == 256
 }
 
 // The names of an inode.
@@ -162,19 +154,19 @@ fn post_target(
 ) -> Result<(), NoMemory>
     ensures { let at = entry.now.location in let name = entry.now.name.now in
         Posts into.old into.new result
-        (if at.kind == 1 then
+        (if at.kind == INODE_ITEM then
         to (kinds.link tree at.objectid key.objectid key.offset name) 0 1 ∷ []
-        else (if at.kind == 132 then
+        else (if at.kind == ROOT_ITEM then
         to (kinds.subvolume_entry tree at.objectid key.objectid key.offset name) 1 1 ∷ []
         else [])) }
 {
     let (dir, index, target) = (key.objectid, key.offset, entry.location.objectid);
     match entry.location.kind {
-        INODE => {
+        INODE_ITEM => {
             let account = Account::link(alloc, tree, target, dir, index, entry.name)?;
             add(account, 0, 1, into)
         }
-        ROOT => {
+        ROOT_ITEM => {
             let account = Account::subvolume_entry(alloc, tree, target, dir, index, entry.name)?;
             add(account, 1, 1, into)
         }

@@ -10,11 +10,9 @@ ghost use Rattle.volume_items.specs.RootLinkItems.{link_fields_in};
 use crate::entries::add;
 use accounts::{Account, Postings};
 use std::alloc::Global;
+use verdict::kinds::ROOT_REF;
 use verdict::{NoMemory, is_free_id};
 use volume_items::{RootItem, RootLink};
-
-// The kind of a ROOT_REF, the name of a subvolume from its parent's side. The other kind is ROOT_BACKREF.
-const ROOT_REF: u8 = 156;
 
 // A root item: how often its tree is named, where that is a subvolume.
 pub fn post_root(alloc: Global, item: &RootItem, into: &mut Postings) -> Result<(), NoMemory>

@@ -11,6 +11,7 @@ use Rattle.verdict.specs.declared.place.At.{At}
 use Rattle.extent_items.specs.References.{references_of}
 use Rattle.extent_items.specs.ReferenceRows.{reference_rows}
 use Rattle.extent_items.specs.declared.reference.Reference.{Reference}
+use Rattle.verdict.specs.declared.kinds.TheConstants.{EXTENT_ITEM}
 
 -- an extent that keeps its rules: key, count of uses, generation, flags and references
 pub record ExtentFields : Type 0 where
@@ -44,7 +45,7 @@ block_head_rows at key bytes =
 
 -- the rules up to the references, by the item's kind
 abbrev pub head_rows : At → Key → List ℕ → List TableRow
-head_rows at key bytes = if key.kind == 168 then data_head_rows at key bytes else block_head_rows at key bytes
+head_rows at key bytes = if key.kind == EXTENT_ITEM then data_head_rows at key bytes else block_head_rows at key bytes
 
 -- all rules in their order: the references begin at byte 24
 abbrev pub extent_rows : At → Key → List ℕ → List TableRow

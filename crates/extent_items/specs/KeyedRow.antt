@@ -12,21 +12,22 @@ use Rattle.verdict.specs.declared.place.At.{At}
 use Rattle.extent_items.specs.References.{tree_block_ref, extent_data_ref, shared_block_ref, shared_data_ref}
 use Rattle.extent_items.specs.declared.reference.Reference.{Reference}
 use Rattle.extent_items.specs.declared.keyed.KeyedRef.{KeyedRef}
+use Rattle.verdict.specs.declared.kinds.TheConstants.{TREE_BLOCK_REF, EXTENT_DATA_REF, SHARED_BLOCK_REF, SHARED_DATA_REF}
 
 -- the size of the item in bytes: 178 has the fields of an inline reference, 184 its count alone, 176 and 182 nothing
 abbrev pub keyed_size : ℕ → ℕ
-keyed_size kind = if kind == 176 then 0 else (if kind == 178 then 28 else (if kind == 182 then 0 else 4))
+keyed_size kind = if kind == TREE_BLOCK_REF then 0 else (if kind == EXTENT_DATA_REF then 28 else (if kind == SHARED_BLOCK_REF then 0 else 4))
 
 -- where the item has its count
 abbrev pub keyed_count_at : ℕ → ℕ
-keyed_count_at kind = if kind == 178 then 24 else 0
+keyed_count_at kind = if kind == EXTENT_DATA_REF then 24 else 0
 
 -- the reference, whose root or parent is the key's offset where the item does not have it
 unfoldable pub keyed_reference : Key → List ℕ → Reference
 keyed_reference key bytes =
-    if key.kind == 176 then tree_block_ref key.offset else
-    (if key.kind == 178 then extent_data_ref bytes else
-    (if key.kind == 182 then shared_block_ref key.offset else
+    if key.kind == TREE_BLOCK_REF then tree_block_ref key.offset else
+    (if key.kind == EXTENT_DATA_REF then extent_data_ref bytes else
+    (if key.kind == SHARED_BLOCK_REF then shared_block_ref key.offset else
     shared_data_ref key.offset (field 4 bytes 0)))
 
 -- the rules in their order: the tree lists the item, whether a block refers, which is outside the profile, the size,
@@ -34,7 +35,7 @@ keyed_reference key bytes =
 unfoldable pub keyed_rows : At → Key → List ℕ → List TableRow
 keyed_rows at key bytes =
     listed_rule at key
-    ∷ item_rule at key (key.kind == 182 || key.kind == 184) U 11 key.kind
+    ∷ item_rule at key (key.kind == SHARED_BLOCK_REF || key.kind == SHARED_DATA_REF) U 11 key.kind
     ∷ item_rule at key (not (length bytes == keyed_size key.kind)) I 1 (length bytes)
     ∷ item_rule at key ((keyed_reference key bytes).count == 0) I 3 (keyed_count_at key.kind)
     ∷ []

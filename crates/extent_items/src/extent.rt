@@ -8,15 +8,12 @@ ghost use Rattle.extent_items.specs.ReferenceRows.{block_reference_rows, data_re
 ghost use Rattle.extent_items.specs.References.{body_size};
 
 use crate::References;
-use crate::reference::{
-    EXTENT_DATA_REF, SHARED_BLOCK_REF, SHARED_DATA_REF, TREE_BLOCK_REF, body_size, count_at,
-    inline_reference,
-};
+use crate::reference::{body_size, count_at, inline_reference};
 use recon_bytes::get_u64;
+use verdict::kinds::{
+    EXTENT_DATA_REF, EXTENT_ITEM, SHARED_BLOCK_REF, SHARED_DATA_REF, TREE_BLOCK_REF,
+};
 use verdict::{At, Family, Finding, Key, is_multiple};
-
-/// The kind of the item of a data extent; that of a tree block is 169.
-const EXTENT_ITEM: u8 = 168;
 
 /// The flag of an extent with file data.
 const DATA: u64 = 1;

@@ -4,8 +4,8 @@ ghost use Rattle.std.specs.Prelude.{◌≡◌, ◌≤◌, length};
 ghost use Rattle.extent_items.specs.KeyedRow.{keyed_count_at, keyed_reference, keyed_row, keyed_rows, keyed_size};
 
 use crate::Reference;
-use crate::reference::{EXTENT_DATA_REF, SHARED_BLOCK_REF, SHARED_DATA_REF, TREE_BLOCK_REF};
 use recon_bytes::get_u32;
+use verdict::kinds::{EXTENT_DATA_REF, SHARED_BLOCK_REF, SHARED_DATA_REF, TREE_BLOCK_REF};
 use verdict::{At, Family, Finding, Key};
 
 /// A reference that is an item of its own and keeps its rules: a `TREE_BLOCK_REF` (address, 176, root),

@@ -4,18 +4,7 @@ ghost use Rattle.std.specs.Prelude.{◌≡◌, ◌≤◌, length};
 ghost use Rattle.extent_items.specs.References.{body_size, count_at, extent_data_ref, inline_reference, shared_block_ref, shared_data_ref, tree_block_ref};
 
 use recon_bytes::{get_u32, get_u64};
-
-/// A reference to a tree block by a tree: `TREE_BLOCK_REF`.
-pub(crate) const TREE_BLOCK_REF: u8 = 176;
-
-/// A reference to data by a file of a tree: `EXTENT_DATA_REF`.
-pub(crate) const EXTENT_DATA_REF: u8 = 178;
-
-/// A reference to a tree block by the node above it: `SHARED_BLOCK_REF`.
-pub(crate) const SHARED_BLOCK_REF: u8 = 182;
-
-/// A reference to data by the leaf that names it: `SHARED_DATA_REF`.
-pub(crate) const SHARED_DATA_REF: u8 = 184;
+use verdict::kinds::{EXTENT_DATA_REF, SHARED_BLOCK_REF, SHARED_DATA_REF, TREE_BLOCK_REF};
 
 /// A reference to an extent. A field that its kind lacks is 0.
 #[derive(Clone, Copy, Debug, PartialEq, Eq)]

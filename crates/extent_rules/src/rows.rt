@@ -14,21 +14,9 @@ use fs_items::FileExtent;
 use records::Rec;
 use std::alloc::Global;
 use verdict::NoMemory;
-
-/// The kind of the item of an extent with file data.
-const EXTENT_ITEM: u8 = 168;
-
-/// The kind of the item of a tree block.
-const METADATA_ITEM: u8 = 169;
-
-/// The kind of a reference to a tree block by a tree.
-const TREE_BLOCK_REF: u8 = 176;
-
-/// The kind of a reference to data by a file. That by a leaf is 184.
-const EXTENT_DATA_REF: u8 = 178;
-
-/// The kind of a reference to a tree block by the node above it.
-const SHARED_BLOCK_REF: u8 = 182;
+use verdict::kinds::{
+    EXTENT_DATA_REF, EXTENT_ITEM, METADATA_ITEM, SHARED_BLOCK_REF, TREE_BLOCK_REF,
+};
 
 /// The type of a range of a file whose data stands in its item.
 const INLINE: u8 = 0;

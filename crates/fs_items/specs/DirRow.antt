@@ -13,6 +13,7 @@ use Rattle.verdict.specs.declared.finding.Finding.{Finding}
 use Rattle.verdict.specs.declared.finding.Family.TheVariants.{I}
 use Rattle.verdict.specs.declared.place.At.{At}
 use Rattle.fs_items.specs.Parts.{places, is_name_size}
+use Rattle.verdict.specs.declared.kinds.TheConstants.{INODE_ITEM, DIR_ITEM, DIR_INDEX, ROOT_ITEM}
 
 -- an entry of a directory: the key of what it names, its type, and the name's bytes
 pub record EntryFields : Type 0 where
@@ -58,7 +59,7 @@ entries_from bytes place = map (entry_at bytes) (filter (is_whole_entry bytes) (
 
 -- what an entry may lead to: an inode, 1, or the root of a subvolume, 132
 abbrev pub is_location_kind : ℕ → Bool
-is_location_kind kind = kind == 1 || kind == 132
+is_location_kind kind = kind == INODE_ITEM || kind == ROOT_ITEM
 
 -- the types of entries: regular, directory, char, block, fifo, socket, symlink
 abbrev pub is_entry_type : ℕ → Bool
@@ -84,8 +85,8 @@ entry_head_rows at key bytes place =
 unfoldable pub entry_name_rows : At → Key → List ℕ → ℕ → List TableRow
 entry_name_rows at key bytes place =
     item_rule at key (nat_lt (length bytes) (entry_end bytes place)) I 1 (place + 30)
-    ∷ item_rule at key (key.kind == 84 && not (name_hash_of (name_in bytes place) == key.offset)) I 4 (name_hash_of (name_in bytes place))
-    ∷ item_rule at key (key.kind == 84 && stands_before bytes place) I 5 place
+    ∷ item_rule at key (key.kind == DIR_ITEM && not (name_hash_of (name_in bytes place) == key.offset)) I 4 (name_hash_of (name_in bytes place))
+    ∷ item_rule at key (key.kind == DIR_ITEM && stands_before bytes place) I 5 place
     ∷ []
 
 -- all rules on the entry at a place
@@ -101,7 +102,7 @@ index_rows at key bytes =
 abbrev pub dir_rows : At → Key → List ℕ → List TableRow
 dir_rows at key bytes =
     listed_rule at key
-    ∷ (if key.kind == 96 then index_rows at key bytes else flat_map (entry_rows at key bytes) (entry_places bytes 0))
+    ∷ (if key.kind == DIR_INDEX then index_rows at key bytes else flat_map (entry_rows at key bytes) (entry_places bytes 0))
 
 -- the fields of directory entries
 abbrev pub dir_fields : Key → List ℕ → DirFields

@@ -10,6 +10,7 @@ use Rattle.verdict.specs.declared.finding.Finding.{Finding}
 use Rattle.verdict.specs.declared.finding.Family.TheVariants.{I}
 use Rattle.verdict.specs.declared.place.At.{At}
 use Rattle.fs_items.specs.Parts.{places, is_name_size}
+use Rattle.verdict.specs.declared.kinds.TheConstants.{INODE_EXTREF}
 
 -- a name of a file: the directory, the index of the entry there, and the name's bytes
 pub record NameFields : Type 0 where
@@ -25,7 +26,7 @@ pub record InodeRefFields : Type 0 where
 -- An entry has the parent in eight bytes (kind 13 alone: kind 12 has it in the key), the index in eight, the name's
 -- length in two, and the name. Where in the entry the index stands:
 abbrev pub index_at : Key → ℕ
-index_at key = if key.kind == 13 then 8 else 0
+index_at key = if key.kind == INODE_EXTREF then 8 else 0
 
 -- the length of the name of the entry at a place, the place of the name, and the place behind it
 abbrev pub name_size : Key → List ℕ → ℕ → ℕ
@@ -44,7 +45,7 @@ name_places key bytes place = places (name_end key bytes) (length bytes) place
 -- the entry at a place
 abbrev pub name_at : Key → List ℕ → ℕ → NameFields
 name_at key bytes place = record {
-  parent = if key.kind == 13 then field 8 bytes place else key.offset;
+  parent = if key.kind == INODE_EXTREF then field 8 bytes place else key.offset;
   index = field 8 bytes (place + index_at key);
   name = range (name_place key place) (name_size key bytes place) bytes;
 }

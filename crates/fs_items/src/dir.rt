@@ -8,6 +8,7 @@ ghost use Rattle.fs_items.specs.Lent.{dir_in, entries_left};
 
 use recon_bytes::get_u16;
 use recon_crc::name_hash;
+use verdict::kinds::{DIR_INDEX, DIR_ITEM, INODE_ITEM, ROOT_ITEM};
 use verdict::{At, Family, Finding, Key, get_key};
 
 /// Directory entries, DIR_ITEM or DIR_INDEX, that keep their rules, in the bytes of their leaf.
@@ -37,12 +38,6 @@ pub struct DirEntries<'a> {
     bytes: &'a [u8],
     place: usize,
 }
-
-/// The kind of a DIR_ITEM, whose names have one hash.
-const DIR_ITEM: u8 = 84;
-
-/// The kind of a DIR_INDEX, which has one entry.
-const DIR_INDEX: u8 = 96;
 
 /// The bytes of an entry before its name.
 const HEAD_SIZE: usize = 30;
@@ -172,7 +167,7 @@ fn head_fault(at: &At, key: Key, bytes: &[u8], place: usize) -> Option<Finding>
     if bytes.len() - place < HEAD_SIZE {
         return Some(at.finding(key, Family::I, 1, detail));
     }
-    if !matches!(bytes[place + 8], 1 | 132) {
+    if !matches!(bytes[place + 8], INODE_ITEM | ROOT_ITEM) {
         return Some(at.finding(key, Family::I, 3, detail + 8));
     }
     if get_u16(bytes, place + 25) != 0 {

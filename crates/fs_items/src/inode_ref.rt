@@ -7,6 +7,7 @@ ghost use Rattle.fs_items.specs.InodeRefRow.{inode_ref_row, index_at, name_at, n
 ghost use Rattle.fs_items.specs.Lent.{inode_ref_in, name_fields, names_left};
 
 use recon_bytes::{get_u16, get_u64};
+use verdict::kinds::INODE_EXTREF;
 use verdict::{At, Family, Finding, Key};
 
 /// The names of a file, INODE_REF or INODE_EXTREF, that keep their rules, in the bytes of their leaf.
@@ -17,9 +18,6 @@ pub struct InodeRef<'a> {
     /// The item's bytes, which `names` reads.
     pub bytes: &'a [u8],
 }
-
-/// The kind of an INODE_EXTREF, whose entries have the directory.
-const EXTREF: u8 = 13;
 
 /// One name of a file.
 #[derive(Clone, Copy, Debug, PartialEq, Eq)]
@@ -158,7 +156,7 @@ fn name_at(key: Key, bytes: &[u8], place: usize) -> NameAt<'_>
     requires { name_end key bytes.now place ≤ length bytes.now }
     ensures { name_fields result ≡ name_at key bytes.now place }
 {
-    let parent = if key.kind == EXTREF {
+    let parent = if key.kind == INODE_EXTREF {
         get_u64(bytes, place)
     } else {
         key.offset
@@ -176,5 +174,5 @@ fn name_at(key: Key, bytes: &[u8], place: usize) -> NameAt<'_>
 fn index_at(key: Key) -> usize
     ensures { result ≡ index_at key }
 {
-    if key.kind == EXTREF { 8 } else { 0 }
+    if key.kind == INODE_EXTREF { 8 } else { 0 }
 }

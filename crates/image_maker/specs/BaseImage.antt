@@ -8,6 +8,7 @@ use Rattle.image_maker.specs.Items.{device_bytes}
 use Rattle.image_maker.specs.Trees.{entry, root_entry, metadata_entry, group_entry, chunk_entry, dev_extent_entry, directory_inode, directory_ref, tree_leaf}
 use Rattle.image_maker.specs.declared.items.ChunkAt.{ChunkAt}
 use Rattle.image_maker.specs.declared.trees.TreeBlock.{TreeBlock}
+use Rattle.verdict.specs.declared.kinds.TheConstants.{DEV_ITEM}
 
 -- a chunk: its start, length and type, and where its first and its second copy stand
 abbrev pub chunk : ℕ → ℕ → ℕ → ℕ → Option ℕ → ChunkAt
@@ -79,7 +80,7 @@ extent_leaf = tree_leaf extent_block
 -- the chunk tree: the device, and the chunks
 unfoldable pub chunk_leaf : List ℕ
 chunk_leaf = tree_leaf chunk_block
-    (entry 1 216 1 (device_bytes 33554432 29360128)
+    (entry 1 DEV_ITEM 1 (device_bytes 33554432 29360128)
     ∷ chunk_entry system_chunk
     ∷ chunk_entry metadata_chunk
     ∷ chunk_entry data_chunk

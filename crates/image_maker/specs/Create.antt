@@ -9,6 +9,7 @@ use Rattle.image_maker.specs.Trees.{entry, root_entry, metadata_entry, group_ent
 use Rattle.image_maker.specs.BaseImage.{tree_block, system_chunk, metadata_chunk, data_chunk, chunk_block, device_block, sum_block}
 use Rattle.image_maker.specs.declared.leaf_item.LeafItem.{LeafItem}
 use Rattle.image_maker.specs.declared.trees.TreeBlock.{TreeBlock}
+use Rattle.verdict.specs.declared.kinds.TheConstants.{INODE_ITEM, INODE_REF, DIR_ITEM, DIR_INDEX}
 
 -- the file tree's new block
 abbrev pub new_file_block : TreeBlock
@@ -28,17 +29,17 @@ hello = 104 ∷ 101 ∷ 108 ∷ 108 ∷ 111 ∷ []
 
 -- the entry of the file in the top directory: the inode 257, a file
 unfoldable pub hello_entry : List ℕ
-hello_entry = dir_entry_bytes (record { objectid = 257; kind = 1; offset = 0 }) 2 1 hello
+hello_entry = dir_entry_bytes (record { objectid = 257; kind = INODE_ITEM; offset = 0 }) 2 1 hello
 
 -- the file tree: the top directory with the file's DIR_ITEM and DIR_INDEX, the file's INODE_ITEM and INODE_REF
 unfoldable pub new_file_items : List LeafItem
 new_file_items =
     directory_inode 10
     ∷ directory_ref
-    ∷ entry 256 84 (name_hash_of hello) hello_entry
-    ∷ entry 256 96 2 hello_entry
-    ∷ entry 257 1 0 (inode_bytes 2 0 0 33188)
-    ∷ entry 257 12 256 (inode_ref_bytes 2 hello)
+    ∷ entry 256 DIR_ITEM (name_hash_of hello) hello_entry
+    ∷ entry 256 DIR_INDEX 2 hello_entry
+    ∷ entry 257 INODE_ITEM 0 (inode_bytes 2 0 0 33188)
+    ∷ entry 257 INODE_REF 256 (inode_ref_bytes 2 hello)
     ∷ []
 
 -- the file tree's leaf with further items behind the file's

@@ -4,6 +4,7 @@ use Rattle.verdict.specs.declared.key.Key.{Key}
 use Rattle.image_maker.specs.Ids.{fsid, chunk_tree_uuid, device_uuid}
 use Rattle.image_maker.specs.Numbers.{u8, u16, u32, u64, zeros}
 use Rattle.image_maker.specs.declared.items.ChunkAt.{ChunkAt}
+use Rattle.verdict.specs.declared.kinds.TheConstants.{TREE_BLOCK_REF}
 
 -- a stripe of a chunk on the device 1: device, offset, uuid
 unfoldable pub stripe_bytes : ℕ → List ℕ
@@ -38,7 +39,7 @@ root_bytes generation dirid bytenr level =
 
 -- METADATA_ITEM: number of references, generation, flags, and the one reference inline, which is of kind 176 with its tree
 unfoldable pub metadata_bytes : ℕ → ℕ → List ℕ
-metadata_bytes generation tree = u64 1 ++ u64 generation ++ u64 2 ++ u8 176 ++ u64 tree
+metadata_bytes generation tree = u64 1 ++ u64 generation ++ u64 2 ++ u8 TREE_BLOCK_REF ++ u64 tree
 
 -- BLOCK_GROUP_ITEM: bytes used, chunk objectid, type
 unfoldable pub group_bytes : ℕ → ℕ → List ℕ

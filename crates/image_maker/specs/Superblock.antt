@@ -6,6 +6,7 @@ use Rattle.verdict.specs.Image.{applied}
 use Rattle.verdict.specs.declared.machine.HeldWrite.{HeldWrite}
 use Rattle.image_maker.specs.Ids.{fsid, device_uuid}
 use Rattle.image_maker.specs.Numbers.{u8, u16, u32, u64, zeros}
+use Rattle.verdict.specs.declared.kinds.TheConstants.{CHUNK_ITEM}
 
 -- the magic: _BHRfS_M
 unfoldable pub magic : List ℕ
@@ -53,7 +54,7 @@ device_parts =
 unfoldable pub system_parts : List HeldWrite
 system_parts =
     part 0x32b (u64 256)
-    ∷ part 0x333 (u8 228)
+    ∷ part 0x333 (u8 CHUNK_ITEM)
     ∷ part 0x334 (u64 1048576)
     ∷ part 0x33c (u64 4194304)
     ∷ part 0x344 (u64 2)

@@ -10,6 +10,7 @@ use Rattle.image_maker.specs.declared.items.ChunkAt.{ChunkAt}
 use Rattle.image_maker.specs.declared.trees.TreeBlock.{TreeBlock}
 use Rattle.image_maker.specs.declared.trees.ExtentRow.{ExtentRow}
 use Rattle.image_maker.specs.declared.trees.ExtentRow.TheVariants.{Block, Group}
+use Rattle.verdict.specs.declared.kinds.TheConstants.{INODE_ITEM, INODE_REF, ROOT_ITEM, METADATA_ITEM, BLOCK_GROUP_ITEM, DEV_EXTENT, CHUNK_ITEM}
 
 -- an item by its key's objectid, kind and offset, and its bytes
 abbrev pub entry : ℕ → ℕ → ℕ → List ℕ → LeafItem
@@ -21,15 +22,15 @@ root_directory tree = if tree == 5 then 256 else 0
 
 -- the ROOT_ITEM of a tree whose one block this is
 unfoldable pub root_entry : TreeBlock → LeafItem
-root_entry b = entry b.tree 132 0 (root_bytes b.generation (root_directory b.tree) b.address 0)
+root_entry b = entry b.tree ROOT_ITEM 0 (root_bytes b.generation (root_directory b.tree) b.address 0)
 
 -- the METADATA_ITEM of a block
 unfoldable pub metadata_entry : TreeBlock → LeafItem
-metadata_entry b = entry b.address 169 0 (metadata_bytes b.generation b.tree)
+metadata_entry b = entry b.address METADATA_ITEM 0 (metadata_bytes b.generation b.tree)
 
 -- the BLOCK_GROUP_ITEM of a chunk in which so many bytes are used
 unfoldable pub group_entry : ChunkAt → ℕ → LeafItem
-group_entry c used = entry c.start 192 c.length (group_bytes used c.class)
+group_entry c used = entry c.start BLOCK_GROUP_ITEM c.length (group_bytes used c.class)
 
 -- the item of a row of an extent tree
 unfoldable pub extent_entry : ExtentRow → LeafItem
@@ -38,11 +39,11 @@ extent_entry (Group c used) = group_entry c used
 
 -- the CHUNK_ITEM of a chunk
 unfoldable pub chunk_entry : ChunkAt → LeafItem
-chunk_entry c = entry 256 228 c.start (chunk_bytes c)
+chunk_entry c = entry 256 CHUNK_ITEM c.start (chunk_bytes c)
 
 -- the DEV_EXTENT of a chunk's stripe at a device offset
 unfoldable pub dev_extent_entry : ChunkAt → ℕ → LeafItem
-dev_extent_entry c physical = entry 1 204 physical (dev_extent_bytes c)
+dev_extent_entry c physical = entry 1 DEV_EXTENT physical (dev_extent_bytes c)
 
 -- the name of a directory's parent
 abbrev pub dot_dot : List ℕ
@@ -50,11 +51,11 @@ dot_dot = 46 ∷ 46 ∷ []
 
 -- the INODE_ITEM of the top directory with names of so many bytes in it
 unfoldable pub directory_inode : ℕ → LeafItem
-directory_inode size = entry 256 1 0 (inode_bytes 1 size 16384 16877)
+directory_inode size = entry 256 INODE_ITEM 0 (inode_bytes 1 size 16384 16877)
 
 -- the INODE_REF of the top directory
 unfoldable pub directory_ref : LeafItem
-directory_ref = entry 256 12 256 (inode_ref_bytes 0 dot_dot)
+directory_ref = entry 256 INODE_REF 256 (inode_ref_bytes 0 dot_dot)
 
 -- the header of a tree's block
 abbrev pub block_header : TreeBlock → BlockHeader

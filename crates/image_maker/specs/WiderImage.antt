@@ -8,6 +8,7 @@ use Rattle.image_maker.specs.Trees.{entry, root_entry, metadata_entry, group_ent
 use Rattle.image_maker.specs.BaseImage.{tree_block, system_chunk, metadata_chunk, data_chunk, root_block, extent_block, chunk_block, device_block, file_block, sum_block, base_image_bytes}
 use Rattle.image_maker.specs.declared.leaf_item.LeafItem.{LeafItem}
 use Rattle.image_maker.specs.declared.trees.TreeBlock.{TreeBlock}
+use Rattle.verdict.specs.declared.kinds.TheConstants.{INODE_ITEM, INODE_REF, DIR_ITEM, PERSISTENT_ITEM}
 
 -- the block of the tree 9, whose items stay unread
 abbrev pub unread_block : TreeBlock
@@ -26,11 +27,11 @@ unfoldable pub wider_root_items : List LeafItem
 wider_root_items =
     root_entry extent_block
     ∷ root_entry device_block
-    ∷ entry 5 12 6 (zeros 160)
+    ∷ entry 5 INODE_REF 6 (zeros 160)
     ∷ root_entry file_block
-    ∷ entry 6 1 0 (zeros 160)
-    ∷ entry 6 12 6 (zeros 160)
-    ∷ entry 6 84 2378154706 (zeros 160)
+    ∷ entry 6 INODE_ITEM 0 (zeros 160)
+    ∷ entry 6 INODE_REF 6 (zeros 160)
+    ∷ entry 6 DIR_ITEM 2378154706 (zeros 160)
     ∷ root_entry sum_block
     ∷ root_entry unread_block
     ∷ root_entry empty_block
@@ -61,7 +62,7 @@ wider_extent_leaf = tree_leaf extent_block
 -- the device tree, with an item that stays unread
 unfoldable pub wider_device_leaf : List ℕ
 wider_device_leaf = tree_leaf device_block
-    (entry 0 249 1 (zeros 40)
+    (entry 0 PERSISTENT_ITEM 1 (zeros 40)
     ∷ dev_extent_entry system_chunk 1048576
     ∷ dev_extent_entry metadata_chunk 5242880
     ∷ dev_extent_entry metadata_chunk 13631488

@@ -14,6 +14,7 @@ use crate::trees::{
     root_tree,
 };
 use std::alloc::Global;
+use verdict::kinds::DEV_ITEM;
 use verdict::{Bytes, NoMemory};
 
 /// The length of the base image in bytes.
@@ -131,7 +132,7 @@ fn chunks(alloc: Global) -> Result<Bytes, NoMemory>
 {
     let mut leaf = leaf_of(alloc, &CHUNKS);
     let device = device_item(alloc, 33_554_432, 29_360_128)?;
-    add(&mut leaf, 1, 216, 1, &device)?;
+    add(&mut leaf, 1, DEV_ITEM, 1, &device)?;
     add_chunk(alloc, &mut leaf, &SYSTEM)?;
     add_chunk(alloc, &mut leaf, &METADATA)?;
     add_chunk(alloc, &mut leaf, &DATA)?;

@@ -13,6 +13,7 @@ use crate::superblock::superblock_of;
 use crate::trees::{ExtentRow, TreeBlock, add, add_top_directory, extent_tree, leaf_of, root_tree};
 use recon_crc::name_hash;
 use std::alloc::Global;
+use verdict::kinds::{DIR_INDEX, DIR_ITEM, INODE_ITEM, INODE_REF};
 use verdict::{Bytes, Event, Key, NoMemory};
 
 // The three new blocks, of the file tree, the extent tree and the root tree.
@@ -63,12 +64,12 @@ fn add_file(alloc: Global, leaf: &mut LeafMaker) -> Result<(), NoMemory>
         offset: 0,
     };
     let entry = dir_entry(alloc, location, 2, 1, name)?;
-    add(leaf, 256, 84, u64::from(name_hash(name)), &entry)?;
-    add(leaf, 256, 96, 2, &entry)?;
+    add(leaf, 256, DIR_ITEM, u64::from(name_hash(name)), &entry)?;
+    add(leaf, 256, DIR_INDEX, 2, &entry)?;
     let inode = inode_item(alloc, 2, 0, 0, 33188)?;
-    add(leaf, 257, 1, 0, &inode)?;
+    add(leaf, 257, INODE_ITEM, 0, &inode)?;
     let link = inode_ref_item(alloc, 2, name)?;
-    add(leaf, 257, 12, 256, &link)
+    add(leaf, 257, INODE_REF, 256, &link)
 }
 
 // Appends items, each where it fits.

@@ -6,6 +6,7 @@ ghost use Rattle.image_maker.specs.Items.{stripe_bytes, stripes_bytes, chunk_byt
 use crate::block::{CHUNK_TREE_UUID, DEVICE_UUID, FSID};
 use crate::fields::Fields;
 use std::alloc::Global;
+use verdict::kinds::TREE_BLOCK_REF;
 use verdict::{Bytes, Key, NoMemory};
 
 /// Where a chunk lies. Offsets and lengths are in bytes.
@@ -136,7 +137,7 @@ pub fn extent_item_of_block(alloc: Global, generation: u64, tree: u64) -> Result
     fields.eight(1)?;
     fields.eight(generation)?;
     fields.eight(2)?;
-    fields.one(176)?;
+    fields.one(TREE_BLOCK_REF)?;
     fields.eight(tree)?;
     Ok(fields.finish())
 }

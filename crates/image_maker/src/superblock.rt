@@ -7,6 +7,7 @@ ghost use Rattle.image_maker.specs.Superblock.{front_parts, device_parts, system
 
 use crate::block::{DEVICE_UUID, FSID, with_checksum};
 use recon_bytes::{put_u16, put_u32, put_u64};
+use verdict::kinds::CHUNK_ITEM;
 
 /// The superblock of the base image, with its checksum.
 pub fn base_superblock() -> [u8; 4096]
@@ -69,7 +70,7 @@ fn put_system_chunk(bytes: &mut [u8; 4096])
     ensures { bytes.new ≡ applied bytes.old system_parts }
 {
     put_eight(bytes, 0x32b, 256);
-    put_one(bytes, 0x333, 228);
+    put_one(bytes, 0x333, CHUNK_ITEM);
     put_eight(bytes, 0x334, 1_048_576);
     put_eight(bytes, 0x33c, 4_194_304);
     put_eight(bytes, 0x344, 2);

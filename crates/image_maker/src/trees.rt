@@ -12,6 +12,9 @@ use crate::items::{
 };
 use crate::leaf::LeafMaker;
 use std::alloc::Global;
+use verdict::kinds::{
+    BLOCK_GROUP_ITEM, CHUNK_ITEM, DEV_EXTENT, INODE_ITEM, INODE_REF, METADATA_ITEM, ROOT_ITEM,
+};
 use verdict::{Bytes, Key, NoMemory};
 
 /// The size of the tree blocks of the made images in bytes.
@@ -123,7 +126,7 @@ pub fn add_root(alloc: Global, leaf: &mut LeafMaker, block: &TreeBlock) -> Resul
 {
     let dirid = if block.tree == 5 { 256 } else { 0 };
     let item = root_item(alloc, block.generation, dirid, block.address, 0)?;
-    add(leaf, block.tree, 132, 0, &item)
+    add(leaf, block.tree, ROOT_ITEM, 0, &item)
 }
 
 /// The extent tree's leaf, with the items of these rows, which ascend.
@@ -154,11 +157,11 @@ fn add_extent(alloc: Global, leaf: &mut LeafMaker, row: &ExtentRow) -> Result<()
     match row {
         ExtentRow::Block(block) => {
             let item = extent_item_of_block(alloc, block.generation, block.tree)?;
-            add(leaf, block.address, 169, 0, &item)
+            add(leaf, block.address, METADATA_ITEM, 0, &item)
         },
         ExtentRow::Group(chunk, used) => {
             let item = group_item(alloc, *used, chunk.class)?;
-            add(leaf, chunk.start, 192, chunk.length, &item)
+            add(leaf, chunk.start, BLOCK_GROUP_ITEM, chunk.length, &item)
         },
     }
 }
@@ -175,7 +178,7 @@ pub fn add_chunk(alloc: Global, leaf: &mut LeafMaker, chunk: &ChunkAt) -> Result
         ≤ space_of (items_of leaf.old) + 137) }
 {
     let item = chunk_item(alloc, chunk)?;
-    add(leaf, 256, 228, chunk.start, &item)
+    add(leaf, 256, CHUNK_ITEM, chunk.start, &item)
 }
 
 /// Appends the DEV_EXTENT of a chunk's stripe at a device offset.
@@ -195,7 +198,7 @@ pub fn add_dev_extent(
         ≡ space_of (items_of leaf.old) + 73) }
 {
     let item = dev_extent_item(alloc, chunk)?;
-    add(leaf, 1, 204, physical, &item)
+    add(leaf, 1, DEV_EXTENT, physical, &item)
 }
 
 /// Appends the top directory's INODE_ITEM, with names of so many bytes in it, and its INODE_REF.
@@ -210,7 +213,7 @@ pub fn add_top_directory(alloc: Global, leaf: &mut LeafMaker, size: u64) -> Resu
         ≡ space_of (items_of leaf.old) + 222) }
 {
     let inode = inode_item(alloc, 1, size, 16384, 16877)?;
-    add(leaf, 256, 1, 0, &inode)?;
+    add(leaf, 256, INODE_ITEM, 0, &inode)?;
     let name = inode_ref_item(alloc, 0, b"..")?;
-    add(leaf, 256, 12, 256, &name)
+    add(leaf, 256, INODE_REF, 256, &name)
 }

@@ -15,15 +15,13 @@ use accounts::{Account, Posting, Postings};
 use fs_items::{DirEntry, DirItem, FileExtent, InodeItem, InodeRef};
 use std::alloc::Global;
 use verdict::NoMemory;
+use verdict::kinds::INODE_ITEM;
 
 // The type of a range of a file whose data stands in the item.
 const INLINE: u8 = 0;
 
 // The address of the extent of a hole.
 const HOLE: u64 = 0;
-
-// The kind of an entry's location that is an inode of the same tree.
-const INODE: u8 = 1;
 
 // Posts an amount to one sum of an inode.
 pub fn add(
@@ -212,7 +210,7 @@ fn post_target(
     ensures { Posts into.old into.new result (target_postings tree (entry_fields entry.now)) }
 {
     match entry.location.kind {
-        INODE => post_found(alloc, tree, entry.location.objectid, entry.sort, into),
+        INODE_ITEM => post_found(alloc, tree, entry.location.objectid, entry.sort, into),
         _ => Ok(()),
     }
 }

@@ -13,13 +13,14 @@ ghost use Rattle.records.specs.Contents.{
   roots_fault,
   roots_finding,
 };
-ghost use Rattle.plain_check.specs.Gives.{IsOutcome};
+ghost use Rattle.block_source.specs.Gives.{IsOutcome};
 
-use crate::halt::Halt;
+use block_source::Halt;
 use node_reader::Expect;
 use std::alloc::Global;
 use std::collections::BTreeSet;
 use super_reader::Super;
+use verdict::kinds::ROOT_ITEM;
 use verdict::{Family, Finding, Key, Rule};
 use volume_items::RootItem;
 
@@ -34,6 +35,7 @@ pub fn chunk_root(sup: &Super) -> Expect
         level: sup.chunk_root_level,
         low: None,
         high: None,
+        parent: 0,
     }
 }
 
@@ -48,6 +50,7 @@ pub fn top_root(sup: &Super) -> Expect
         level: sup.root_level,
         low: None,
         high: None,
+        parent: 0,
     }
 }
 
@@ -62,6 +65,7 @@ pub fn named(root: &RootItem) -> Expect
         level: root.level,
         low: None,
         high: None,
+        parent: 0,
     }
 }
 
@@ -90,9 +94,7 @@ fn repeated(alloc: Global, roots: &[RootItem]) -> Result<Option<Finding>, Halt>
         if seen.contains(&id) {
             return Ok(Some(finding(1, root.key)));
         }
-        let Ok(_) = seen.insert(id) else {
-            return Err(Halt::NoMemory);
-        };
+        seen.insert(id)?;
     }
     Ok(None)
 }
@@ -132,13 +134,13 @@ fn has_id(root: &RootItem, id: u64) -> bool
 
 // The finding of a tree without a root item.
 fn missing_tree(id: u64) -> Finding
-    ensures { result ≡ roots_finding 2 (record { objectid = id; kind = 132; offset = 0 }) }
+    ensures { result ≡ roots_finding 2 (record { objectid = id; kind = ROOT_ITEM; offset = 0 }) }
 {
     finding(
         2,
         Key {
             objectid: id,
-            kind: 132,
+            kind: ROOT_ITEM,
             offset: 0,
         },
     )

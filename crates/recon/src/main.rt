@@ -12,13 +12,13 @@ use std::process::ExitCode;
 use std::rt::Env;
 use why::Why;
 
-// The words behind the program's name.
-fn words<R: Env + AllocGlobal>(rt: &R) -> io::Result<Vec<String>> {
-    let mut words = Vec::new(rt.alloc());
-    for word in env::args(rt)?.skip(1) {
-        words.push(word)?;
+// The arguments behind the program's name.
+fn arguments<R: Env + AllocGlobal>(rt: &R) -> io::Result<Vec<String>> {
+    let mut arguments = Vec::new(rt.alloc());
+    for argument in env::args(rt)?.skip(1) {
+        arguments.push(argument)?;
     }
-    Ok(words)
+    Ok(arguments)
 }
 
 // Says on standard error why a run ended, and answers its status. Where the line cannot be written, nothing
@@ -28,11 +28,11 @@ fn stop(rt: &impl Eprint, why: Why) -> u8 {
     why.status()
 }
 
-// Does what the words ask for, over the last of them as IMAGE and the standard streams, and answers the
+// Does what the command line asks for, over its last argument as IMAGE and the standard streams, and answers the
 // status.
-fn run(rt: &HostRuntime, words: &[String]) -> u8 {
-    let image = match words.last() {
-        Some(word) => word.as_str(),
+fn run(rt: &HostRuntime, arguments: &[String]) -> u8 {
+    let image = match arguments.last() {
+        Some(argument) => argument.as_str(),
         None => "",
     };
     let mut disk = FileDisk::at_path(rt, image);
@@ -40,13 +40,13 @@ fn run(rt: &HostRuntime, words: &[String]) -> u8 {
     let mut out = StdSink::new(rt.stdout());
     let status = recon_run(
         rt.alloc(),
-        words,
+        arguments,
         &mut disk,
         &mut trace,
         &mut out,
         &mut Steps::new(()),
     );
-    if let Some(why) = Why::of(status, words, image, disk.is_open()) {
+    if let Some(why) = Why::of(status, arguments, image, disk.is_open()) {
         stop(rt, why);
     }
     status
@@ -57,10 +57,10 @@ fn main(rt: HostRuntime) -> ExitCode {
     let Ok(_streams) = HeldStreams::take(&rt) else {
         return ExitCode::from(stop(&rt, Why::NoFull));
     };
-    let status = match words(&rt) {
-        Ok(words) => run(&rt, &words),
+    let status = match arguments(&rt) {
+        Ok(given) => run(&rt, &given),
         Err(error) if error.kind() == ErrorKind::OutOfMemory => stop(&rt, Why::Memory),
-        Err(_) => stop(&rt, Why::NoWords),
+        Err(_) => stop(&rt, Why::NoArguments),
     };
     ExitCode::from(status)
 }

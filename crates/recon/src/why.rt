@@ -2,22 +2,27 @@
 
 use std::fmt;
 
-// The forms of words, a line of explanation each.
-const HELP: &str = "checks a Btrfs volume, and each commit to it before it is let through
-  recon check IMAGE           checks the whole volume in the file or device IMAGE
-  recon replay IMAGE < TRACE  replays recorded writes over IMAGE, and writes to it what passes
-  recon replay --json IMAGE < TRACE  the same, with each line as JSON
-  recon make SEED COMMITS IMAGE > TRACE  writes an empty volume over the first 33,554,432 bytes of IMAGE, and
-      to TRACE the writes of 1 to 200 commits on it, which are drawn from the number SEED
-IMAGE has to be readable and writable, and must not be mounted.";
+// What the program does and how it is called, a line for each command.
+const HELP: &str = "checks a Btrfs volume, and each commit to it before the commit reaches the disk
+
+usage:
+  recon check IMAGE                       check the whole volume in IMAGE
+  recon replay [--json] IMAGE < TRACE     judge recorded writes over IMAGE, and write to it what passes
+  recon make SEED COMMITS IMAGE > TRACE   write a small volume to IMAGE, and to TRACE 1 to 200 commits on it
+  recon --help                            show this text
+
+IMAGE is a file or a block device. It must be readable and writable, and must not be mounted.
+status: 0 accepted, or all passed; 1 refused, or something was rejected; 2 command line; 3 malformed trace;
+  4 device; 5 trace input; 6 output; 7 out of memory; 8 IMAGE too short for make; 9 system
+findings: docs/findings.md";
 
 /// Why a run ended before its outcome.
 #[derive(Clone, Copy)]
 pub enum Why<'a> {
-    /// There are no words, or they ask for help.
+    /// The command line is empty, or asks for help.
     Help,
-    /// The words are none of the forms.
-    NoForm,
+    /// The command line is none of the commands.
+    NoCommand,
     /// This device could not be opened for reading and writing.
     Unopened(&'a str),
     /// A call of this device failed.
@@ -26,23 +31,23 @@ pub enum Why<'a> {
     Trace,
     /// A write of a line, or of the trace that is made, failed.
     Lines,
-    /// Memory was wanting.
+    /// Out of memory.
     Memory,
     /// This device is shorter than the volume that is to be made on it.
     TooShort(&'a str),
-    /// The system does not give the words.
-    NoWords,
+    /// The system does not give the command line.
+    NoArguments,
     /// The system does not open the file that is held in the place of a closed stream.
     NoFull,
 }
 
 impl<'a> Why<'a> {
-    /// Why a run of these words ended with a status, where its lines do not say it: the last word is
+    /// Why a run of these arguments ended with a status, where its lines do not say it: the last argument is
     /// `image`, which was `opened` or not.
-    pub fn of(status: u8, words: &[String], image: &'a str, opened: bool) -> Option<Why<'a>> {
+    pub fn of(status: u8, arguments: &[String], image: &'a str, opened: bool) -> Option<Why<'a>> {
         match status {
-            2 if asks_help(words) => Some(Why::Help),
-            2 => Some(Why::NoForm),
+            2 if asks_help(arguments) => Some(Why::Help),
+            2 => Some(Why::NoCommand),
             4 if opened => Some(Why::Device(image)),
             4 => Some(Why::Unopened(image)),
             5 => Some(Why::Trace),
@@ -56,13 +61,13 @@ impl<'a> Why<'a> {
     /// The status with which the run ends.
     pub fn status(&self) -> u8 {
         match self {
-            Why::Help | Why::NoForm => 2,
+            Why::Help | Why::NoCommand => 2,
             Why::Unopened(_) | Why::Device(_) => 4,
             Why::Trace => 5,
             Why::Lines => 6,
             Why::Memory => 7,
             Why::TooShort(_) => 8,
-            Why::NoWords | Why::NoFull => 9,
+            Why::NoArguments | Why::NoFull => 9,
         }
     }
 }
@@ -71,10 +76,10 @@ impl fmt::Display for Why<'_> {
     fn fmt<W: fmt::Write>(&self, f: &mut fmt::Formatter<W>) -> fmt::Result {
         match self {
             Why::Help => write!(f, "{HELP}"),
-            Why::NoForm => {
+            Why::NoCommand => {
                 write!(
                     f,
-                    "the forms of words are: recon check IMAGE, recon replay [--json] IMAGE < TRACE, recon make SEED COMMITS IMAGE > TRACE, with a SEED of 64 bits and 1 to 200 COMMITS"
+                    "invalid command line; usage: recon check IMAGE, or recon replay [--json] IMAGE < TRACE, or recon make SEED COMMITS IMAGE > TRACE, with a SEED below 2^64 and 1 to 200 COMMITS; findings: docs/findings.md"
                 )
             }
             Why::Unopened(image) => {
@@ -86,11 +91,11 @@ impl fmt::Display for Why<'_> {
             Why::Device(image) => write!(f, "a call of the device {image:?} failed"),
             Why::Trace => write!(f, "a read of the trace from standard input failed"),
             Why::Lines => write!(f, "a write to standard output failed"),
-            Why::Memory => write!(f, "memory is wanting"),
+            Why::Memory => write!(f, "out of memory"),
             Why::TooShort(image) => {
                 write!(f, "the device {image:?} is shorter than 33554432 bytes")
             }
-            Why::NoWords => write!(f, "the system does not give the words of the command line"),
+            Why::NoArguments => write!(f, "the system does not give the command line"),
             Why::NoFull => {
                 write!(
                     f,
@@ -101,11 +106,11 @@ impl fmt::Display for Why<'_> {
     }
 }
 
-// Whether the words ask for help: there are none, or `--help` alone.
-fn asks_help(words: &[String]) -> bool {
-    match words {
+// Whether the command line asks for help: it is empty, or `--help` alone.
+fn asks_help(arguments: &[String]) -> bool {
+    match arguments {
         [] => true,
-        [word] => word.as_str() == "--help",
+        [argument] => argument.as_str() == "--help",
         _ => false,
     }
 }

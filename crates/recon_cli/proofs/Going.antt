@@ -17,12 +17,12 @@ use Rattle.trace_reader.specs.Reader.{ReaderState}
 use Rattle.trace_reader.specs.Reading.{HasReadCause, IsAfter, first_state as reader_start, front_of, after_event, TakesEvent, TakesEnd, MeetsEnding, Tells}
 use Rattle.trace_reader.specs.Trace.{IsBytes, IsTrace, IsRecords, HeaderEnds, Ending, End, Fault, header_bytes, spelling_of}
 use Rattle.trace_reader.proofs.Records.{records_end, records_more, records_exist}
-use Rattle.recon_cli.specs.declared.halt.Halt.{Halt}
-use Rattle.recon_cli.specs.declared.halt.Halt.TheVariants.{Device, Trace, Lines, Memory}
+use Rattle.recon_cli.specs.declared.run_fault.RunFault.{RunFault}
+use Rattle.recon_cli.specs.declared.run_fault.RunFault.TheVariants.{Device, Trace, Lines, Memory}
 use Rattle.recon_cli.specs.declared.lines.Style.{Style}
-use Rattle.recon_cli.specs.declared.tally.Tally.{Tally}
-use Rattle.recon_cli.specs.Outcome.{Outcome, after_text, answer_text, ended, is_settle, no_tally, outcome_from, past_end, tally_after}
-use Rattle.recon_cli.specs.Run.{ComesOut, EndsPast, HasFaultPrintCause, HasHaltCause, faults_are, GoesOn, IsNoRead, IsOfBytes, IsOutcomeStatus, Replays, record_limit}
+use Rattle.recon_cli.specs.declared.counts.Counts.{Counts}
+use Rattle.recon_cli.specs.Outcome.{Outcome, after_text, answer_text, ended, is_settle, no_counts, outcome_from, past_end, counts_after}
+use Rattle.recon_cli.specs.Run.{ComesOut, EndsPast, HasFaultPrintCause, HasFaultCause, faults_are, GoesOn, IsNoRead, IsOfBytes, IsOutcomeStatus, Replays, record_limit}
 
 -- the events and the ending of what is left at the reader
 abbrev pub FromHere : ReaderState → List ℕ → List Event → Ending → Type 0
@@ -34,7 +34,7 @@ behind rs rest = cond rs.at_header (drop 16 rest) rest
 
 -- how far a replay has come: the state, what is left, what was printed, how many bytes behind the header
 -- are taken, and how it goes on
-pub record Going (w : Style) (first : MachineState) (bytes kept : List ℕ) (rs : ReaderState) (t : Tally) (checker : Checker) (disk left sink : Option (List ℕ)) : Type 0 where
+pub record Going (w : Style) (first : MachineState) (bytes kept : List ℕ) (rs : ReaderState) (t : Counts) (checker : Checker) (disk left sink : Option (List ℕ)) : Type 0 where
   pub state : MachineState
   pub rest : List ℕ
   pub text : List ℕ
@@ -49,7 +49,7 @@ pub record Going (w : Style) (first : MachineState) (bytes kept : List ℕ) (rs 
   pub few : rs.whole ≤ rs.limit
   pub gone : behind rs rest ≡ drop (16 + n) bytes
   pub goes_on : (events : List Event) (ending : Ending) → FromHere rs rest events ending
-      → (all : List Event) × IsTrace record_limit bytes all ending × (outcome_from w first 0 no_tally all ending ≡ after_text text n (outcome_from w state rs.whole t events ending))
+      → (all : List Event) × IsTrace record_limit bytes all ending × (outcome_from w first 0 no_counts all ending ≡ after_text text n (outcome_from w state rs.whole t events ending))
 
 -- nothing printed and nothing taken before
 taken_none : (o : Option ℕ) → option_map (λ n. 0 + n) o ≡ o
@@ -99,7 +99,7 @@ lawful_rest rs rest front after h parts =
 
 -- before the first record
 pub going_start : (w : Style) (first : MachineState) (bytes kept : List ℕ) (checker : Checker) (disk left sink : Option (List ℕ)) → StandsFor checker first → disk ≡ Some first.image
-    → IsBytes bytes → left ≡ Some bytes → sink ≡ Some kept → Going w first bytes kept (reader_start record_limit) no_tally checker disk left sink
+    → IsBytes bytes → left ≡ Some bytes → sink ≡ Some kept → Going w first bytes kept (reader_start record_limit) no_counts checker disk left sink
 going_start w first bytes kept checker disk left sink stands image lawful left_is printed = record {
   state = first;
   rest = bytes;
@@ -114,29 +114,29 @@ going_start w first bytes kept checker disk left sink stands image lawful left_i
   fresh = λ h. refl;
   few = omega arith;
   gone = refl;
-  goes_on = λ events ending here. (events, here, sym (after_none (outcome_from w first 0 no_tally events ending)));
+  goes_on = λ events ending here. (events, here, sym (after_none (outcome_from w first 0 no_counts events ending)));
 }
 
 -- an event that lies inside the image
-outcome_inside : (w : Style) (s : MachineState) (k : ℕ) (t : Tally) (e : Event) (events : List Event) (ending : Ending) → nat_lt (length s.image) (end_of e) ≡ false
+outcome_inside : (w : Style) (s : MachineState) (k : ℕ) (t : Counts) (e : Event) (events : List Event) (ending : Ending) → nat_lt (length s.image) (end_of e) ≡ false
     → outcome_from w s k t (e ∷ events) ending ≡ after_text (answer_text w t (begin_of e) (is_settle e) (machine_step s e).answer) (length (spelling_of e))
-    (outcome_from w (machine_step s e).after (k + 1) (tally_after t (machine_step s e).answer) events ending)
+    (outcome_from w (machine_step s e).after (k + 1) (counts_after t (machine_step s e).answer) events ending)
 outcome_inside w s k t e events ending h =
     ap (λ b. cond b (past_end w s (k + 1) e) (after_text (answer_text w t (begin_of e) (is_settle e) (machine_step s e).answer) (length (spelling_of e))
-    (outcome_from w (machine_step s e).after (k + 1) (tally_after t (machine_step s e).answer) events ending))) h
+    (outcome_from w (machine_step s e).after (k + 1) (counts_after t (machine_step s e).answer) events ending))) h
 
-outcome_outside : (w : Style) (s : MachineState) (k : ℕ) (t : Tally) (e : Event) (events : List Event) (ending : Ending) → nat_lt (length s.image) (end_of e) ≡ true
+outcome_outside : (w : Style) (s : MachineState) (k : ℕ) (t : Counts) (e : Event) (events : List Event) (ending : Ending) → nat_lt (length s.image) (end_of e) ≡ true
     → outcome_from w s k t (e ∷ events) ending ≡ past_end w s (k + 1) e
 outcome_outside w s k t e events ending h =
     ap (λ b. cond b (past_end w s (k + 1) e) (after_text (answer_text w t (begin_of e) (is_settle e) (machine_step s e).answer) (length (spelling_of e))
-    (outcome_from w (machine_step s e).after (k + 1) (tally_after t (machine_step s e).answer) events ending))) h
+    (outcome_from w (machine_step s e).after (k + 1) (counts_after t (machine_step s e).answer) events ending))) h
 
 -- what is told where the bytes are known
 told_at : (rs new : ReaderState) (left after : Option (List ℕ)) (rest : List ℕ) (r : Result Item TraceFault) → left ≡ Some rest
     → IfSome left (λ b. Tells rs b r new after) → Tells rs rest r new after
 told_at rs new left after rest r is told = subst (λ o. IfSome o (λ b. Tells rs b r new after)) is told
 
-pub going_event : (w : Style) (first : MachineState) (bytes kept : List ℕ) (rs new : ReaderState) (t t' : Tally) (checker checker' : Checker) (disk disk' left left' sink sink' : Option (List ℕ)) (e : Event)
+pub going_event : (w : Style) (first : MachineState) (bytes kept : List ℕ) (rs new : ReaderState) (t t' : Counts) (checker checker' : Checker) (disk disk' left left' sink sink' : Option (List ℕ)) (e : Event)
     → (going : Going w first bytes kept rs t checker disk left sink)
     → IfSome left (λ b. Tells rs b (Ok (an_event e)) new left') → new ≡ after_event rs
     → GoesOn w going.state t e (kept ++ going.text) checker' t' disk' sink'
@@ -170,8 +170,8 @@ going_event w first bytes kept rs new t t' checker checker' disk disk' left left
             all.1,
             all.2
                 ∙ ap (after_text going.text going.n) (outcome_inside w s rs.whole t e events ending turn.inside)
-                ∙ after_twice going.text words going.n size (outcome_from w (machine_step s e).after (rs.whole + 1) (tally_after t (machine_step s e).answer) events ending)
-                ∙ ap (λ u. after_text (going.text ++ words) (going.n + size) (outcome_from w (machine_step s e).after (rs.whole + 1) u events ending)) (sym turn.tally),
+                ∙ after_twice going.text words going.n size (outcome_from w (machine_step s e).after (rs.whole + 1) (counts_after t (machine_step s e).answer) events ending)
+                ∙ ap (λ u. after_text (going.text ++ words) (going.n + size) (outcome_from w (machine_step s e).after (rs.whole + 1) u events ending)) (sym turn.counts),
           );
     })
 
@@ -185,14 +185,14 @@ header_here true limit whole rest ending e h = inl (h, refl)
 header_here false limit whole rest ending e h = absurd (let k : false ≡ true = e in cc)
 
 -- the outcome of all events, where the replay has come to its end with this outcome from the state on
-comes_out : (w : Style) (first : MachineState) (bytes kept : List ℕ) (rs : ReaderState) (t : Tally) (checker : Checker) (disk left sink disk' left' sink' : Option (List ℕ)) (status : ℕ)
+comes_out : (w : Style) (first : MachineState) (bytes kept : List ℕ) (rs : ReaderState) (t : Counts) (checker : Checker) (disk left sink disk' left' sink' : Option (List ℕ)) (status : ℕ)
     (going : Going w first bytes kept rs t checker disk left sink) (events : List Event) (ending : Ending) (o : Outcome)
     → FromHere rs going.rest events ending → outcome_from w going.state rs.whole t events ending ≡ o
     → sink' ≡ Some (kept ++ going.text ++ o.text) → status ≡ o.status → disk' ≡ Some o.device → IfSome o.taken (λ k. left' ≡ Some (drop (16 + going.n + k) bytes))
     → Replays w first bytes kept status disk' left' sink'
 comes_out w first bytes kept rs t checker disk left sink disk' left' sink' status going events ending o here is printed st dev taken =
     let all = going.goes_on events ending here in
-    let e : outcome_from w first 0 no_tally all.0 ending ≡ after_text going.text going.n o = all.2 ∙ ap (after_text going.text going.n) is in
+    let e : outcome_from w first 0 no_counts all.0 ending ≡ after_text going.text going.n o = all.2 ∙ ap (after_text going.text going.n) is in
     record {
       events = all.0;
       ending = ending;
@@ -206,7 +206,7 @@ comes_out w first bytes kept rs t checker disk left sink disk' left' sink' statu
     }
 
 -- at the end tag
-pub going_end : (w : Style) (first : MachineState) (bytes kept : List ℕ) (rs new : ReaderState) (t : Tally) (checker : Checker) (disk left left' sink sink' : Option (List ℕ)) (status : ℕ)
+pub going_end : (w : Style) (first : MachineState) (bytes kept : List ℕ) (rs new : ReaderState) (t : Counts) (checker : Checker) (disk left left' sink sink' : Option (List ℕ)) (status : ℕ)
     (going : Going w first bytes kept rs t checker disk left sink)
     → IfSome left (λ b. Tells rs b (Ok the_end) new left')
     → status ≡ (ended w going.state t End).status → sink' ≡ option_map (λ k. k ++ (ended w going.state t End).text) sink
@@ -234,7 +234,7 @@ meets rs new rest NoMemory after h told = absurd h
 meets rs new rest TooMany after h told = told
 
 -- at a fault of the trace's bytes
-pub going_fault : (w : Style) (first : MachineState) (bytes kept : List ℕ) (rs new : ReaderState) (t : Tally) (checker : Checker) (disk left left' sink sink' : Option (List ℕ)) (status place : ℕ) (f : TraceFault)
+pub going_fault : (w : Style) (first : MachineState) (bytes kept : List ℕ) (rs new : ReaderState) (t : Counts) (checker : Checker) (disk left left' sink sink' : Option (List ℕ)) (status place : ℕ) (f : TraceFault)
     (going : Going w first bytes kept rs t checker disk left sink)
     → IfSome left (λ b. Tells rs b (Err f) new left') → IsOfBytes f → place ≡ new.number
     → status ≡ 3 → sink' ≡ option_map (λ k. k ++ (ended w going.state t (Fault f place)).text) sink
@@ -245,7 +245,7 @@ going_fault w first bytes kept rs new t checker disk left left' sink sink' statu
     refl (printed ∙ ap (option_map (λ k. k ++ (ended w going.state t (Fault f place)).text)) going.printed) st going.image tt
 
 -- at an event that passes the end of the device
-pub going_past : (w : Style) (first : MachineState) (bytes kept : List ℕ) (rs new : ReaderState) (t : Tally) (checker : Checker) (disk disk' left left' sink sink' : Option (List ℕ)) (status place : ℕ) (e : Event)
+pub going_past : (w : Style) (first : MachineState) (bytes kept : List ℕ) (rs new : ReaderState) (t : Counts) (checker : Checker) (disk disk' left left' sink sink' : Option (List ℕ)) (status place : ℕ) (e : Event)
     (going : Going w first bytes kept rs t checker disk left sink)
     → IfSome left (λ b. Tells rs b (Ok (an_event e)) new left') → place ≡ rs.whole + 1
     → EndsPast w going.state place e (kept ++ going.text) status disk' sink'
@@ -309,8 +309,8 @@ same_faults : (d d' s s' k k' : ℕ) → d' ≡ d → s' ≡ s → k' ≡ k → 
 same_faults d d' s s' k k' a b c = ap (λ x. faults_are x s' k') a ∙ ap (λ x. faults_are d x k') b ∙ ap (λ x. faults_are d s x) c
 
 -- the cause of a run that stops at a fault of the trace
-pub fault_cause : (f : TraceFault) (r : Result ℕ Halt) (d d' s0 s s' k0 k k' : ℕ) → d' ≡ d → s ≡ s0 → k ≡ k0 → HasReadCause {T = Item} s s' (Err f) → HasFaultPrintCause f k k' r
-    → HasHaltCause (faults_are d s0 k0) (faults_are d' s' k') r
+pub fault_cause : (f : TraceFault) (r : Result ℕ RunFault) (d d' s0 s s' k0 k k' : ℕ) → d' ≡ d → s ≡ s0 → k ≡ k0 → HasReadCause {T = Item} s s' (Err f) → HasFaultPrintCause f k k' r
+    → HasFaultCause (faults_are d s0 k0) (faults_are d' s' k') r
 fault_cause f (Ok status) d d' s0 s s' k0 k k' disk source sink read print = same_faults d d' s0 s' k0 k' disk (no_read f s s' print.0 read ∙ source) (print.1 ∙ sink)
 fault_cause f (Err Device) d d' s0 s s' k0 k k' disk source sink read print = absurd print
 fault_cause f (Err Trace) d d' s0 s s' k0 k k' disk source sink read print =

@@ -1,6 +1,7 @@
 pub mod Checking
 mod FewWords
 pub mod Going
+pub mod Handing
 pub mod Made
 mod OneForm
 pub mod Start

@@ -6,48 +6,13 @@ use Rattle.verdict.specs.Image.{written}
 use Rattle.verdict.proofs.Images.{length-written, get-written_behind}
 use Rattle.recon_disk.specs.Calls.{Sent, and_sent}
 use Rattle.recon_disk.specs.Outside.{MayBeWritten}
-use Rattle.recon_core.specs.Sent.{StaysOutside}
-use Rattle.recon_core.proofs.Told.{told_more, run_fails}
-use Rattle.recon_cli.specs.declared.halt.Halt.{Halt}
-use Rattle.recon_cli.specs.declared.halt.Halt.TheVariants.{Device, Trace, Lines, Memory}
+use Rattle.recon_disk.specs.Sending.{StaysOutside}
+use Rattle.recon_disk.proofs.Sending.{told_more, run_fails}
+use Rattle.recon_cli.specs.declared.run_fault.RunFault.{RunFault}
+use Rattle.recon_cli.specs.declared.run_fault.RunFault.TheVariants.{Device, Trace, Lines, Memory}
 use Rattle.recon_cli.specs.Making.{StaysPastBase}
 use Rattle.recon_cli.specs.Run.{HasStatusCause, HasTurnCause, faults_are}
-use Rattle.recon_cli.specs.Status.{halt_status}
-
--- some calls were sent behind those before
-abbrev pub SentMore : Option (List Sent) → Option (List Sent) → Type 0
-SentMore before now = (calls : List Sent) × (now ≡ and_sent before calls)
-
-pub sent_none : (o : Option (List Sent)) → SentMore o o
-sent_none None = ([], refl)
-sent_none (Some calls) = ([], ap Some (sym (append-nil calls)))
-
-sent_twice : (o : Option (List Sent)) (xs ys : List Sent) → and_sent (and_sent o xs) ys ≡ and_sent o (xs ++ ys)
-sent_twice None xs ys = refl
-sent_twice (Some calls) xs ys = ap Some (append_assoc calls xs ys)
-
-pub sent_then : (before mid now : Option (List Sent)) (later : List Sent) → SentMore before mid → now ≡ and_sent mid later
-    → (calls : List Sent) × (now ≡ and_sent before (calls ++ later))
-sent_then before mid now later h is = (h.0, is ∙ ap (λ o. and_sent o later) h.1 ∙ sent_twice before h.0 later)
-
-pub sent_more : (before mid now : Option (List Sent)) (later : List Sent) → SentMore before mid → now ≡ and_sent mid later → SentMore before now
-sent_more before mid now later h is = let t = sent_then before mid now later h is in (t.0 ++ later, t.1)
-
--- one more call wrote its bytes, or failed
-pub front_more : (first mid last : Option (List ℕ)) (len done n : ℕ) (bytes part : List ℕ) → IfSome first (λ image. length image ≡ len)
-    → length bytes ≤ len → done + n ≤ length bytes → part ≡ take n (drop done bytes)
-    → mid ≡ option_map (λ image. written image 0 (take done bytes)) first
-    → last ≡ option_map (λ image. written image done part) mid
-    → last ≡ option_map (λ image. written image 0 (take (done + n) bytes)) first
-front_more first mid last len done n bytes part size fits few is m l =
-    told_more first mid last len 0 done n bytes part size (omega arith) few is m (l ∙ ap (λ k. option_map (λ image. written image k part) mid) (sym (zero-add done)))
-
-pub front_fails : (first mid last : Option (List ℕ)) (len done n : ℕ) (bytes part : List ℕ) → IfSome first (λ image. length image ≡ len)
-    → length bytes ≤ len → done + n ≤ length bytes → length part ≡ n
-    → mid ≡ option_map (λ image. written image 0 (take done bytes)) first → MayBeWritten mid done part last
-    → IfSome first (λ image. IsSomeAnd last (StaysOutside 0 (length bytes) image))
-front_fails first mid last len done n bytes part size fits few n_is m may =
-    run_fails first mid last len 0 done n bytes part size (omega arith) few n_is m (subst (λ k. MayBeWritten mid k part last) (sym (zero-add done)) may)
+use Rattle.recon_cli.specs.Status.{fault_status}
 
 -- all was written, and then a flush failed
 pub whole_left : (first mid last : Option (List ℕ)) (len : ℕ) (bytes : List ℕ) → IfSome first (λ image. length image ≡ len) → length bytes ≤ len
@@ -81,8 +46,8 @@ past_base_of (Some image) mid last n same is h =
     some_weaker (StaysOutside 0 n image) (StaysPastBase image) last (λ left stays. past_base image left n is stays) (subst (λ o. IfSome o (λ i. IsSomeAnd last (StaysOutside 0 n i))) same h)
 
 -- a make that stops early leaves the counts of faults as its status says
-pub stops_with_cause : (disk disk' source sink sink' : ℕ) (halt : Halt) → HasTurnCause {T = ℕ} disk disk' sink sink' (Err halt)
-    → HasStatusCause (faults_are disk source sink) (faults_are disk' source sink') (halt_status halt)
+pub stops_with_cause : (disk disk' source sink sink' : ℕ) (run_fault : RunFault) → HasTurnCause {T = ℕ} disk disk' sink sink' (Err run_fault)
+    → HasStatusCause (faults_are disk source sink) (faults_are disk' source sink') (fault_status run_fault)
 stops_with_cause disk disk' source sink sink' Device h = record { disk = h.0; source = refl; sink = h.1 }
 stops_with_cause disk disk' source sink sink' Trace h = absurd h
 stops_with_cause disk disk' source sink sink' Lines h = record { disk = h.0; source = refl; sink = h.1 }

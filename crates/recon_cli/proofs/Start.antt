@@ -15,7 +15,7 @@ use Rattle.trace_reader.specs.Trace.{IsBytes}
 use Rattle.trace_reader.proofs.Records.{one}
 use Rattle.report.specs.declared.line.Line.TheVariants.{Image, Refused}
 use Rattle.recon_cli.specs.declared.lines.Style.{Style}
-use Rattle.recon_cli.specs.Outcome.{Outcome, line_in, no_tally, outcome_from, replay_by}
+use Rattle.recon_cli.specs.Outcome.{Outcome, line_in, no_counts, outcome_from, replay_by}
 use Rattle.recon_cli.specs.Run.{ComesOut, Replays, ReplaysAs, record_limit}
 
 in_image : (image : List ℕ) (m : FinMap nat_cmp ℕ) (told : Option (List ℕ)) (r : Result Super Finding) → m ≡ empty → told ≡ Some image
@@ -50,7 +50,7 @@ replays_accepted w image bytes kept generation status disk left sink accepted la
     let only = one record_limit bytes lawful in
     let a : events ≡ run.events = (only.3 events ending spelled).0 ∙ sym (only.3 run.events run.ending run.spelled).0 in
     let b : ending ≡ run.ending = (only.3 events ending spelled).1 ∙ sym (only.3 run.events run.ending run.spelled).1 in
-    let o : Outcome = outcome_from w (first_state image) 0 no_tally run.events run.ending in
+    let o : Outcome = outcome_from w (first_state image) 0 no_counts run.events run.ending in
     let whole : ComesOut (replay_by w (Accept generation) image run.events run.ending) bytes kept status disk left sink = record {
       text = run.comes.text ∙ ap Some (append_assoc kept (line_in w (Image generation)) o.text);
       status_is = run.comes.status_is;

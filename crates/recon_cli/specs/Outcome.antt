@@ -21,7 +21,7 @@ use Rattle.report.specs.declared.line.Line.{Line}
 use Rattle.report.specs.declared.line.Line.TheVariants.{Image, Refused, Passed as passed_line, Rejected as rejected_line, Fetched as fetched_line, End as end_line, BadTrace, Past}
 use Rattle.recon_cli.specs.declared.lines.Style.{Style}
 use Rattle.recon_cli.specs.declared.lines.Style.TheVariants.{Text, Json}
-use Rattle.recon_cli.specs.declared.tally.Tally.{Tally}
+use Rattle.recon_cli.specs.declared.counts.Counts.{Counts}
 
 -- a line as it is printed, as text or as JSON
 abbrev pub line_in : Style → Line → List ℕ
@@ -62,16 +62,16 @@ is_settle Settle = true
 is_settle (Fetch at len) = false
 
 -- how many events were judged, and were let through or rejected, after an answer
-abbrev pub tally_after : Tally → Answer → Tally
-tally_after t Held = t
-tally_after t (Fetched bytes) = t
-tally_after t (Passed generation blocks hot) =
+abbrev pub counts_after : Counts → Answer → Counts
+counts_after t Held = t
+counts_after t (Fetched bytes) = t
+counts_after t (Passed generation blocks hot) =
     record { passed = t.passed + 1; rejected = t.rejected }
-tally_after t (Rejected finding) = record { passed = t.passed; rejected = t.rejected + 1 }
+counts_after t (Rejected finding) = record { passed = t.passed; rejected = t.rejected + 1 }
 
 -- the line of an answer to an event that begins at a byte and may be a settle; a write that waits has
 -- none. Judged events are numbered from 1.
-abbrev pub answer_text : Style → Tally → ℕ → Bool → Answer → List ℕ
+abbrev pub answer_text : Style → Counts → ℕ → Bool → Answer → List ℕ
 answer_text style t at settle Held = []
 answer_text style t at settle (Fetched bytes) = line_in style (fetched_line at bytes)
 answer_text style t at settle (Passed generation blocks hot) =
@@ -80,7 +80,7 @@ answer_text style t at settle (Rejected finding) =
     line_in style (rejected_line settle (t.passed + t.rejected + 1) finding)
 
 -- the outcome at the end of the trace: the summary, or the line of the trace's fault
-abbrev pub ended : Style → MachineState → Tally → Ending → Outcome
+abbrev pub ended : Style → MachineState → Counts → Ending → Outcome
 ended style s t End = record {
   text = line_in style (end_line t.passed t.rejected);
   status = if t.rejected == 0 then 0 else 1;
@@ -105,7 +105,7 @@ past_end style s place event = record {
 
 -- The outcome from a state on, after so many records, for the events that follow and the ending of the
 -- trace. The events are taken in order, up to the first that passes the end of the device.
-abbrev pub outcome_from : Style → MachineState → ℕ → Tally → List Event → Ending → Outcome
+abbrev pub outcome_from : Style → MachineState → ℕ → Counts → List Event → Ending → Outcome
 outcome_from style s k t [] ending = ended style s t ending
 outcome_from style s k t (event ∷ events) ending =
     if nat_lt (length s.image) (end_of event) then past_end style s (k + 1) event
@@ -113,11 +113,11 @@ outcome_from style s k t (event ∷ events) ending =
     (answer_text style t (begin_of event) (is_settle event) (machine_step s event).answer)
     (length (spelling_of event))
     (outcome_from style (machine_step s event).after (k + 1)
-    (tally_after t (machine_step s event).answer) events ending)
+    (counts_after t (machine_step s event).answer) events ending)
 
 -- no event was judged yet
-abbrev pub no_tally : Tally
-no_tally = record { passed = 0; rejected = 0 }
+abbrev pub no_counts : Counts
+no_counts = record { passed = 0; rejected = 0 }
 
 -- the outcome of a replay over an image that the full check accepts or not
 abbrev pub replay_by : Style → Verdict → List ℕ → List Event → Ending → Outcome
@@ -129,7 +129,7 @@ replay_by style (Found finding) image events ending = record {
 }
 replay_by style (Accept generation) image events ending =
     after_text (line_in style (Image generation)) 16
-    (outcome_from style (first_state image) 0 no_tally events ending)
+    (outcome_from style (first_state image) 0 no_counts events ending)
 
 -- the outcome of a replay of a trace, of these events and this ending, over an image
 abbrev pub replay_outcome : Style → List ℕ → List Event → Ending → Outcome

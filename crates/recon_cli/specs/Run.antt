@@ -1,5 +1,5 @@
 -- What a run of the program says of the objects that it is handed.
-use Rattle.std.specs.Prelude.{ℕ, ◌≡◌, ◌==◌, ◌-◌, ◌^◌, ◌<◌, ◌⊎◌, true, false, nat_lt, List, [], ◌++◌, length, drop, Option, Some, None, IfSome, Result, Ok, Err}
+use Rattle.std.specs.Prelude.{ℕ, ◌≡◌, ◌==◌, ◌-◌, ◌^◌, ◌<◌, ◌⊎◌, true, false, nat_lt, List, [], ◌++◌, length, drop, map, Option, Some, None, IfSome, option_map, Result, Ok, Err}
 use Rattle.recon_disk.specs.declared.disk.Disk.{Ghosts as DiskGhosts}
 use Rattle.recon_disk.specs.declared.source.Source.{Ghosts as SourceGhosts}
 use Rattle.recon_disk.specs.declared.sink.Sink.{Ghosts as SinkGhosts}
@@ -11,14 +11,15 @@ use Rattle.verdict.specs.Events.{end_of, begin_of}
 use Rattle.recon_core.specs.Machine.{MachineState, machine_step}
 use Rattle.recon_core.specs.Standing.{StandsFor}
 use Rattle.recon_cli.specs.declared.lines.Style.{Style}
-use Rattle.recon_cli.specs.declared.tally.Tally.{Tally}
-use Rattle.recon_cli.specs.Outcome.{Outcome, after_text, answer_text, no_tally, outcome_from, is_settle, past_end, replay_outcome, tally_after, verdict_status, verdict_text}
+use Rattle.recon_cli.specs.declared.counts.Counts.{Counts}
+use Rattle.recon_cli.specs.Outcome.{Outcome, after_text, answer_text, no_counts, line_in, outcome_from, is_settle, past_end, replay_outcome, counts_after, verdict_status, verdict_text}
+use Rattle.report.specs.declared.line.Line.{Line}
 use Rattle.trace_reader.specs.Trace.{Ending, IsTrace}
 use Rattle.trace_reader.specs.declared.fault.TraceFault.{TraceFault}
 use Rattle.trace_reader.specs.declared.fault.TraceFault.TheVariants.{ReadFault, NoMemory}
 use Rattle.recon_cli.specs.declared.outside.Outside.{Outside}
-use Rattle.recon_cli.specs.declared.halt.Halt.{Halt}
-use Rattle.recon_cli.specs.declared.halt.Halt.TheVariants.{Device, Trace, Lines, Memory}
+use Rattle.recon_cli.specs.declared.run_fault.RunFault.{RunFault}
+use Rattle.recon_cli.specs.declared.run_fault.RunFault.TheVariants.{Device, Trace, Lines, Memory}
 
 -- The check of an image: the sink has gained exactly the line of what the full check says, the status is
 -- that of what it says, and the disk holds the image.
@@ -70,15 +71,15 @@ faults_lent disks sources sinks lent =
 
 -- A run stops early for a fault of an object only where that object's count rose, and leaves the counts
 -- of the others. With every other end it leaves all three.
-abbrev pub HasHaltCause : {T : Type 0} → Faults → Faults → Result T Halt → Type 0
-HasHaltCause before now (Ok value) = now ≡ before
-HasHaltCause before now (Err Device) =
+abbrev pub HasFaultCause : {T : Type 0} → Faults → Faults → Result T RunFault → Type 0
+HasFaultCause before now (Ok value) = now ≡ before
+HasFaultCause before now (Err Device) =
     IsCounted true before.disk now.disk × (now.source ≡ before.source) × (now.sink ≡ before.sink)
-HasHaltCause before now (Err Trace) =
+HasFaultCause before now (Err Trace) =
     (now.disk ≡ before.disk) × IsCounted true before.source now.source × (now.sink ≡ before.sink)
-HasHaltCause before now (Err Lines) =
+HasFaultCause before now (Err Lines) =
     (now.disk ≡ before.disk) × (now.source ≡ before.source) × IsCounted true before.sink now.sink
-HasHaltCause before now (Err Memory) = now ≡ before
+HasFaultCause before now (Err Memory) = now ≡ before
 
 -- the same disk, trace, place for lines and steps are lent still
 pub record IsSameOutside {D S K L : Type 0} (old new : Outside D S K L) : Type 0 where
@@ -102,12 +103,12 @@ pub record HasStatusCause (before now : Faults) (status : ℕ) : Type 0 where
 
 -- What one event did: it goes on as the machine's step says, with the line of the answer printed, or the
 -- event passes the end of the device, which is printed, and the run ends with status 3.
-pub record GoesOn (style : Style) (s : MachineState) (t : Tally) (event : Event) (kept : List ℕ)
-    (checker : Checker) (new : Tally) (disk sink : Option (List ℕ)) : Type 0 where
+pub record GoesOn (style : Style) (s : MachineState) (t : Counts) (event : Event) (kept : List ℕ)
+    (checker : Checker) (new : Counts) (disk sink : Option (List ℕ)) : Type 0 where
   pub inside : nat_lt (length s.image) (end_of event) ≡ false
   pub stands : StandsFor checker (machine_step s event).after
   pub image : disk ≡ Some (machine_step s event).after.image
-  pub tally : new ≡ tally_after t (machine_step s event).answer
+  pub counts : new ≡ counts_after t (machine_step s event).answer
   pub printed : sink ≡ Some
       (kept ++ answer_text style t (begin_of event) (is_settle event) (machine_step s event).answer)
 
@@ -118,8 +119,8 @@ pub record EndsPast (style : Style) (s : MachineState) (place : ℕ) (event : Ev
   pub image : disk ≡ Some s.image
   pub printed : sink ≡ Some (kept ++ (past_end style s place event).text)
 
-abbrev pub Turns : Style → MachineState → ℕ → Tally → Event → List ℕ
-    → Option ℕ → Checker → Tally → Option (List ℕ) → Option (List ℕ) → Type 0
+abbrev pub Turns : Style → MachineState → ℕ → Counts → Event → List ℕ
+    → Option ℕ → Checker → Counts → Option (List ℕ) → Option (List ℕ) → Type 0
 Turns style s place t event kept None checker new disk sink =
     GoesOn style s t event kept checker new disk sink
 Turns style s place t event kept (Some status) checker new disk sink =
@@ -130,15 +131,20 @@ abbrev pub IsOutcomeStatus : ℕ → Type 0
 IsOutcomeStatus status = (status ≡ 0) ⊎ (status ≡ 1) ⊎ (status ≡ 3)
 
 -- a line is not printed for a fault of the sink only where the sink's count rose
-abbrev pub HasPrintCause : {T : Type 0} → ℕ → ℕ → Result T Halt → Type 0
+abbrev pub HasPrintCause : {T : Type 0} → ℕ → ℕ → Result T RunFault → Type 0
 HasPrintCause before now (Ok value) = now ≡ before
 HasPrintCause before now (Err Device) = ⊥
 HasPrintCause before now (Err Trace) = ⊥
 HasPrintCause before now (Err Lines) = IsCounted true before now
 HasPrintCause before now (Err Memory) = now ≡ before
 
+-- What a sink took since is whole lines, one a write, where it tells what each write gave it.
+pub record TookLines {K : Type 0} (sinks : SinkGhosts K) (style : Style) (old new : K) : Type 0 where
+  pub lines : List Line
+  pub pieces : sinks.pieces new ≡ option_map (λ before. before ++ map (line_in style) lines) (sinks.pieces old)
+
 -- the cause of what one event gives, by the counts of the disk and of the sink
-abbrev pub HasTurnCause : {T : Type 0} → ℕ → ℕ → ℕ → ℕ → Result T Halt → Type 0
+abbrev pub HasTurnCause : {T : Type 0} → ℕ → ℕ → ℕ → ℕ → Result T RunFault → Type 0
 HasTurnCause disk disk' sink sink' (Ok value) = (disk' ≡ disk) × (sink' ≡ sink)
 HasTurnCause disk disk' sink sink' (Err Device) = IsCounted true disk disk' × (sink' ≡ sink)
 HasTurnCause disk disk' sink sink' (Err Trace) = ⊥
@@ -157,7 +163,7 @@ IsNoRead ReadFault = ⊥
 IsNoRead fault = Unit {0}
 
 -- how the line of a fault is not printed: a read failed, or the sink's count rose, or memory was wanting
-abbrev pub HasFaultPrintCause : {T : Type 0} → TraceFault → ℕ → ℕ → Result T Halt → Type 0
+abbrev pub HasFaultPrintCause : {T : Type 0} → TraceFault → ℕ → ℕ → Result T RunFault → Type 0
 HasFaultPrintCause fault before now (Ok value) = IsNoRead fault × (now ≡ before)
 HasFaultPrintCause fault before now (Err Device) = ⊥
 HasFaultPrintCause fault before now (Err Trace) = (fault ≡ ReadFault) × (now ≡ before)
@@ -171,7 +177,7 @@ pub record Replays (style : Style) (first : MachineState) (bytes kept : List ℕ
   pub events : List Event
   pub ending : Ending
   pub spelled : IsTrace record_limit bytes events ending
-  pub comes : ComesOut (after_text [] 16 (outcome_from style first 0 no_tally events ending))
+  pub comes : ComesOut (after_text [] 16 (outcome_from style first 0 no_counts events ending))
       bytes kept status disk left sink
 
 -- the same as an outcome of a replay over the image, for the events and the ending that the bytes spell

@@ -3,13 +3,13 @@
 #![tactic(auto)]
 
 mod check;
-mod halt;
+mod counts;
 mod lines;
 mod making;
 mod outside;
 mod replay;
 mod run;
-mod tally;
+mod run_fault;
 mod turn;
 mod words;
 

@@ -3,9 +3,9 @@
 ghost use Rattle.std.specs.Prelude.{◌≡◌, ◌++◌, IfOk, OnOk, option_map};
 ghost use Rattle.report.specs.Lines.{IsPrintable};
 ghost use Rattle.recon_cli.specs.Outcome.{line_in};
-ghost use Rattle.recon_cli.specs.Run.{HasPrintCause};
+ghost use Rattle.recon_cli.specs.Run.{HasPrintCause, TookLines};
 
-use crate::halt::Halt;
+use crate::run_fault::RunFault;
 use recon_disk::Sink;
 use report::{Line, json_of, text_of};
 use std::alloc::Global;
@@ -32,18 +32,19 @@ fn bytes_of(alloc: Global, style: Style, line: &Line) -> Result<Bytes, NoMemory>
 }
 
 // Prints a line in one write.
-pub fn print<K: Sink>(alloc: Global, style: Style, out: &mut K, line: &Line) -> Result<(), Halt>
+pub fn print<K: Sink>(alloc: Global, style: Style, out: &mut K, line: &Line) -> Result<(), RunFault>
     requires { IsPrintable line.now }
     ensures printed { OnOk result (K.kept out.new ≡
         option_map (λ kept. kept ++ line_in style line.now) (K.kept out.old)) }
+    ensures lines { TookLines K.Sink style out.old out.new }
     ensures cause { HasPrintCause (K.faults out.old) (K.faults out.new) result }
 {
     let Ok(bytes) = bytes_of(alloc, style, line) else {
-        return Err(Halt::Memory);
+        return Err(RunFault::Memory);
     };
     match out.write(bytes.as_slice()) {
         Ok(()) => Ok(()),
-        Err(_) => Err(Halt::Lines),
+        Err(_) => Err(RunFault::Lines),
     }
 }
 
@@ -53,10 +54,11 @@ pub fn refuse<K: Sink>(
     style: Style,
     finding: Finding,
     out: &mut K,
-) -> Result<u8, Halt>
+) -> Result<u8, RunFault>
     ensures status { IfOk result (λ status. status ≡ 1) }
     ensures printed { OnOk result (K.kept out.new ≡
         option_map (λ kept. kept ++ line_in style (Line.Refused finding)) (K.kept out.old)) }
+    ensures lines { TookLines K.Sink style out.old out.new }
     ensures cause { HasPrintCause (K.faults out.old) (K.faults out.new) result }
 {
     print(alloc, style, out, &Line::Refused(finding))?;

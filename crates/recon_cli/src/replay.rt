@@ -7,12 +7,12 @@ ghost use Rattle.recon_core.specs.Standing.{IsBelow, StandsFor, first_state};
 ghost use Rattle.trace_reader.specs.Trace.{IsBytes};
 ghost use Rattle.trace_reader.specs.Fault.{fault_number};
 ghost use Rattle.recon_cli.specs.Outcome.{line_in};
-ghost use Rattle.recon_cli.specs.Run.{HasFaultPrintCause, HasHaltCause, HasPrintCause, IsOfBytes, IsOutcomeStatus, IsSameOutside, Replays, ReplaysAs, faults_lent};
+ghost use Rattle.recon_cli.specs.Run.{HasFaultPrintCause, HasFaultCause, HasPrintCause, IsOfBytes, IsOutcomeStatus, IsSameOutside, Replays, ReplaysAs, TookLines, faults_lent};
 
-use crate::halt::Halt;
+use crate::counts::Counts;
 use crate::lines::{Style, print, refuse};
 use crate::outside::Outside;
-use crate::tally::Tally;
+use crate::run_fault::RunFault;
 use crate::turn::take_event;
 use plain_check::{Fault, superblock};
 use recon_core::{Checker, Started};
@@ -29,13 +29,14 @@ const RECORD_LIMIT: u64 = 4_294_967_296;
 fn print_summary<K: Sink>(
     alloc: Global,
     style: Style,
-    tally: &Tally,
+    counts: &Counts,
     out: &mut K,
-) -> Result<u8, Halt>
-    ensures status { IfOk result (λ status. status ≡ (if tally.now.rejected == 0 then 0 else 1)) }
-    ensures printed { let line = Line.End tally.now.passed tally.now.rejected in
+) -> Result<u8, RunFault>
+    ensures status { IfOk result (λ status. status ≡ (if counts.now.rejected == 0 then 0 else 1)) }
+    ensures printed { let line = Line.End counts.now.passed counts.now.rejected in
         OnOk result (K.kept out.new ≡
         option_map (λ kept. kept ++ line_in style line) (K.kept out.old)) }
+    ensures lines { TookLines K.Sink style out.old out.new }
     ensures cause { HasPrintCause (K.faults out.old) (K.faults out.new) result }
 {
     print(
@@ -43,11 +44,11 @@ fn print_summary<K: Sink>(
         style,
         out,
         &Line::End {
-            passed: tally.passed,
-            rejected: tally.rejected,
+            passed: counts.passed,
+            rejected: counts.rejected,
         },
     )?;
-    Ok(if tally.rejected == 0 { 0 } else { 1 })
+    Ok(if counts.rejected == 0 { 0 } else { 1 })
 }
 
 // Prints the line of a trace's fault at the record of this number. A read that failed and want of memory
@@ -58,15 +59,16 @@ fn print_fault<K: Sink>(
     fault: TraceFault,
     place: u64,
     out: &mut K,
-) -> Result<u8, Halt>
+) -> Result<u8, RunFault>
     ensures printed { let line = Line.BadTrace (fault_number fault) place in
         IfOk result (λ status. (status ≡ 3) × IsOfBytes fault × (K.kept out.new ≡
         option_map (λ kept. kept ++ line_in style line) (K.kept out.old))) }
+    ensures lines { TookLines K.Sink style out.old out.new }
     ensures cause { HasFaultPrintCause fault (K.faults out.old) (K.faults out.new) result }
 {
     match fault {
-        TraceFault::ReadFault => Err(Halt::Trace),
-        TraceFault::NoMemory => Err(Halt::Memory),
+        TraceFault::ReadFault => Err(RunFault::Trace),
+        TraceFault::NoMemory => Err(RunFault::Memory),
         _ => {
             print(
                 alloc,
@@ -89,7 +91,7 @@ fn take_records<D: Disk, S: Source, K: Sink, L>(
     style: Style,
     checker: &mut Checker,
     lent: &mut Outside<'_, '_, '_, '_, D, S, K, L>,
-) -> Result<u8, Halt>
+) -> Result<u8, RunFault>
     requires open { checker.old.closed ≡ false }
     requires length { checker.old.length ≡ D.len lent.old.disk.now }
     requires below { IsBelow checker.old.length checker.old.cache }
@@ -101,11 +103,12 @@ fn take_records<D: Disk, S: Source, K: Sink, L>(
         (D.bytes lent.new.disk.now) (S.left lent.new.trace.now) (K.kept lent.new.out.now)) }
     ensures status { IfOk result IsOutcomeStatus }
     ensures same { IsSameOutside lent.old lent.new }
-    ensures cause { HasHaltCause (faults_lent D.Disk S.Source K.Sink lent.old)
+    ensures lines { TookLines K.Sink style lent.old.out.now lent.new.out.now }
+    ensures cause { HasFaultCause (faults_lent D.Disk S.Source K.Sink lent.old)
         (faults_lent D.Disk S.Source K.Sink lent.new) result }
 {
     let mut reader = TraceReader::new(RECORD_LIMIT);
-    let mut tally = Tally {
+    let mut counts = Counts {
         passed: 0,
         rejected: 0,
     };
@@ -114,14 +117,21 @@ fn take_records<D: Disk, S: Source, K: Sink, L>(
             Ok(Item::Event(event)) => {
                 let place = reader.record_number();
                 let turn = take_event(
-                    alloc, style, checker, &mut tally, place, event, lent.disk, lent.out,
+                    alloc,
+                    style,
+                    checker,
+                    &mut counts,
+                    place,
+                    event,
+                    lent.disk,
+                    lent.out,
                     lent.steps,
                 )?;
                 if let Some(status) = turn {
                     return Ok(status);
                 }
             }
-            Ok(Item::End) => return print_summary(alloc, style, &tally, lent.out),
+            Ok(Item::End) => return print_summary(alloc, style, &counts, lent.out),
             Err(fault) => {
                 return print_fault(alloc, style, fault, reader.record_number(), lent.out);
             }
@@ -135,7 +145,7 @@ fn replay_over<D: Disk, S: Source, K: Sink, L>(
     style: Style,
     mut checker: Checker,
     lent: &mut Outside<'_, '_, '_, '_, D, S, K, L>,
-) -> Result<u8, Halt>
+) -> Result<u8, RunFault>
     requires empty { checker.cache ≡ map.empty }
     requires open { checker.closed ≡ false }
     requires length { checker.length ≡ D.len lent.old.disk.now }
@@ -147,7 +157,8 @@ fn replay_over<D: Disk, S: Source, K: Sink, L>(
         (D.bytes lent.new.disk.now) (S.left lent.new.trace.now) (K.kept lent.new.out.now)) }
     ensures status { IfOk result IsOutcomeStatus }
     ensures same { IsSameOutside lent.old lent.new }
-    ensures cause { HasHaltCause (faults_lent D.Disk S.Source K.Sink lent.old)
+    ensures lines { TookLines K.Sink style lent.old.out.now lent.new.out.now }
+    ensures cause { HasFaultCause (faults_lent D.Disk S.Source K.Sink lent.old)
         (faults_lent D.Disk S.Source K.Sink lent.new) result }
 {
     match superblock(lent.disk, &checker.cache) {
@@ -157,8 +168,8 @@ fn replay_over<D: Disk, S: Source, K: Sink, L>(
             take_records(alloc, style, &mut checker, lent)
         }
         Ok(Err(finding)) => refuse(alloc, style, finding, lent.out),
-        Err(Fault::Disk) => Err(Halt::Device),
-        Err(Fault::NoMemory) => Err(Halt::Memory),
+        Err(Fault::Disk) => Err(RunFault::Device),
+        Err(Fault::NoMemory) => Err(RunFault::Memory),
     }
 }
 
@@ -167,7 +178,7 @@ pub fn replay<D: Disk, S: Source, K: Sink, L>(
     alloc: Global,
     style: Style,
     lent: &mut Outside<'_, '_, '_, '_, D, S, K, L>,
-) -> Result<u8, Halt>
+) -> Result<u8, RunFault>
     ensures outcome { (image bytes kept : List ℕ) → D.bytes lent.old.disk.now ≡ Some image →
         IsBytes bytes → S.left lent.old.trace.now ≡ Some bytes →
         K.kept lent.old.out.now ≡ Some kept →
@@ -175,14 +186,15 @@ pub fn replay<D: Disk, S: Source, K: Sink, L>(
         (D.bytes lent.new.disk.now) (S.left lent.new.trace.now) (K.kept lent.new.out.now)) }
     ensures status { IfOk result IsOutcomeStatus }
     ensures same { IsSameOutside lent.old lent.new }
-    ensures cause { HasHaltCause (faults_lent D.Disk S.Source K.Sink lent.old)
+    ensures lines { TookLines K.Sink style lent.old.out.now lent.new.out.now }
+    ensures cause { HasFaultCause (faults_lent D.Disk S.Source K.Sink lent.old)
         (faults_lent D.Disk S.Source K.Sink lent.new) result }
 {
     match Checker::start(alloc, lent.disk, lent.steps) {
         Ok(Started::Ready(checker)) => replay_over(alloc, style, checker, lent),
         Ok(Started::Refused(finding)) => refuse(alloc, style, finding, lent.out),
-        Err(Stop::DiskFault) => Err(Halt::Device),
-        Err(Stop::NoMemory) => Err(Halt::Memory),
+        Err(Stop::DiskFault) => Err(RunFault::Device),
+        Err(Stop::NoMemory) => Err(RunFault::Memory),
         Err(Stop::PastEnd { .. } | Stop::Closed) => unreachable!(),
     }
 }

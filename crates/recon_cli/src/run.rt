@@ -1,19 +1,19 @@
 //! The call that the program makes.
 
-ghost use Rattle.std.specs.Prelude.{ℕ, ◌≡◌, ◌≢◌, ◌<◌, ◌≤◌, ◌↔◌, ◌⊎◌, List, Some, map, string_bytes};
+ghost use Rattle.std.specs.Prelude.{ℕ, false, ◌≡◌, ◌<◌, ◌≤◌, ◌↔◌, ◌⊎◌, List, Some, map, string_bytes};
 ghost use Rattle.verdict.specs.declared.machine.Event.{Event as AnEvent};
 ghost use Rattle.trace_reader.specs.Trace.{Ending, IsBytes, IsTrace};
 ghost use Rattle.recon_cli.specs.declared.lines.Style.{Style};
 ghost use Rattle.recon_cli.specs.Words.{AsksToMake, IsForm, IsNoForm};
 ghost use Rattle.recon_cli.specs.Making.{IsUnwritten, MakesAs};
 ghost use Rattle.recon_cli.specs.Outcome.{replay_outcome};
-ghost use Rattle.recon_cli.specs.Run.{ChecksAs, ComesOut, HadNoFault, HasStatusCause, IsCheckStatus, IsOutcomeStatus, faults_of, record_limit};
+ghost use Rattle.recon_cli.specs.Run.{ChecksAs, ComesOut, HadNoFault, HasStatusCause, IsCheckStatus, IsOutcomeStatus, TookLines, faults_of, record_limit};
 
 use crate::check::check;
-use crate::halt::status_of;
 use crate::making::make;
 use crate::outside::Outside;
 use crate::replay::replay;
+use crate::run_fault::status_of;
 use crate::words::{Form, form_of};
 use recon_disk::{Disk, Sink, Source, Steps};
 use std::alloc::Global;
@@ -62,12 +62,18 @@ pub fn recon_run<D: Disk, S: Source, K: Sink, L>(
         ComesOut (replay_outcome style image events ending) bytes kept result
         (D.bytes disk.new) (S.left trace.new) (K.kept out.new) }
 
-    // A check of the image prints what the full check says of it. It leaves the disk's bytes and the trace.
+    // A check of the image prints what the full check says of it. It writes nothing to the disk, and leaves the trace.
     ensures check { IsForm Form.Check (map string_bytes words.now) → IsOutcomeStatus result →
         (image kept : List ℕ) → D.bytes disk.old ≡ Some image → K.kept out.old ≡ Some kept →
         ChecksAs image kept result (D.bytes disk.new) (K.kept out.new) }
     ensures checked { IsForm Form.Check (map string_bytes words.now) →
-        IsCheckStatus result × (D.bytes disk.new ≡ D.bytes disk.old) × (trace.new ≡ trace.old) }
+        IsCheckStatus result × IsUnwritten D.Disk disk.old disk.new × (trace.new ≡ trace.old) }
+
+    // A sink that tells what each write gave it has got whole lines alone, one a write, whatever the status.
+    ensures lines { (style : Style) → IsForm (Form.Replay style) (map string_bytes words.now) →
+        TookLines K.Sink style out.old out.new }
+    ensures line { IsForm Form.Check (map string_bytes words.now) →
+        TookLines K.Sink Style.Text out.old out.new }
 
     // A make leaves the base image over the front of the disk, and its other bytes, and in the sink one trace of
     // just so many commits; or it leaves what its status says. It takes nothing from the trace.
@@ -77,9 +83,9 @@ pub fn recon_run<D: Disk, S: Source, K: Sink, L>(
         (trace.new ≡ trace.old) }
 
     // A disk that is too short for the base image is left as it was, and nothing is written to the sink. The
-    // status is 8, unless the disk's length could not be learned.
+    // status is 8 exactly where the disk gives such a length when it is asked first.
     ensures short { (result ≡ 8) ↔ (AsksToMake (map string_bytes words.now) ×
-        (D.len disk.old < 33554432) × (result ≢ 4)) }
+        (D.len disk.old < 33554432) × (D.hides_length disk.old ≡ false)) }
     ensures unwritten { AsksToMake (map string_bytes words.now) → D.len disk.old < 33554432 →
         IsUnwritten D.Disk disk.old disk.new × (out.new ≡ out.old) }
 
@@ -107,7 +113,7 @@ pub fn recon_run<D: Disk, S: Source, K: Sink, L>(
         None => 2,
         Some(Form::Check) => match check(alloc, disk, out) {
             Ok(said) => said,
-            Err(halt) => status_of(halt),
+            Err(run_fault) => status_of(run_fault),
         },
         Some(Form::Replay(style)) => match replay(
             alloc,

@@ -4,12 +4,12 @@ ghost use Rattle.std.specs.Prelude.{ℕ, ◌≡◌, ◌+◌, ◌^◌, ◌<◌, �
 ghost use Rattle.verdict.specs.Events.{IsSized, begin_of};
 ghost use Rattle.recon_core.specs.Machine.{MachineState};
 ghost use Rattle.recon_core.specs.Standing.{IsBelow, StandsFor};
-ghost use Rattle.recon_cli.specs.Outcome.{answer_text, is_settle, tally_after};
-ghost use Rattle.recon_cli.specs.Run.{HasPrintCause, HasTurnCause, Turns};
+ghost use Rattle.recon_cli.specs.Outcome.{answer_text, is_settle, counts_after};
+ghost use Rattle.recon_cli.specs.Run.{HasPrintCause, HasTurnCause, TookLines, Turns};
 
-use crate::halt::Halt;
+use crate::counts::Counts;
 use crate::lines::{Style, print};
-use crate::tally::Tally;
+use crate::run_fault::RunFault;
 use recon_core::Checker;
 use recon_disk::{Disk, Sink, Steps};
 use report::Line;
@@ -32,20 +32,21 @@ fn begin_and_kind(event: &Event) -> (u64, bool)
 fn report_answer<K: Sink>(
     alloc: Global,
     style: Style,
-    tally: &mut Tally,
+    counts: &mut Counts,
     at: u64,
     settle: bool,
     answer: Answer,
     out: &mut K,
-) -> Result<(), Halt>
-    requires { tally.old.passed + tally.old.rejected + 1 < 2 ^ 64 }
+) -> Result<(), RunFault>
+    requires { counts.old.passed + counts.old.rejected + 1 < 2 ^ 64 }
     ensures printed { OnOk result (K.kept out.new ≡
-        option_map (λ kept. kept ++ answer_text style tally.old at settle answer)
+        option_map (λ kept. kept ++ answer_text style counts.old at settle answer)
         (K.kept out.old)) }
-    ensures tally { tally.new ≡ tally_after tally.old answer }
+    ensures counts { counts.new ≡ counts_after counts.old answer }
+    ensures lines { TookLines K.Sink style out.old out.new }
     ensures cause { HasPrintCause (K.faults out.old) (K.faults out.new) result }
 {
-    let number = tally.passed + tally.rejected + 1;
+    let number = counts.passed + counts.rejected + 1;
     match answer {
         Answer::Held => Ok(()),
         Answer::Fetched(bytes) => print(alloc, style, out, &Line::Fetched { at, bytes }),
@@ -54,7 +55,7 @@ fn report_answer<K: Sink>(
             blocks,
             hot,
         } => {
-            tally.passed += 1;
+            counts.passed += 1;
             print(
                 alloc,
                 style,
@@ -69,7 +70,7 @@ fn report_answer<K: Sink>(
             )
         }
         Answer::Rejected(finding) => {
-            tally.rejected += 1;
+            counts.rejected += 1;
             print(
                 alloc,
                 style,
@@ -90,36 +91,37 @@ pub fn take_event<D: Disk, K: Sink, L>(
     alloc: Global,
     style: Style,
     checker: &mut Checker,
-    tally: &mut Tally,
+    counts: &mut Counts,
     place: u64,
     event: Event,
     disk: &mut D,
     out: &mut K,
     steps: &mut Steps<L>,
-) -> Result<Option<u8>, Halt>
+) -> Result<Option<u8>, RunFault>
     requires open { checker.old.closed ≡ false }
     requires length { checker.old.length ≡ D.len disk.old }
     requires below { IsBelow checker.old.length checker.old.cache }
     requires sized { IsSized event }
-    requires room { tally.old.passed + tally.old.rejected + 1 < 2 ^ 64 }
+    requires room { counts.old.passed + counts.old.rejected + 1 < 2 ^ 64 }
     ensures turns { (state : MachineState) (kept : List ℕ) → StandsFor checker.old state →
         D.bytes disk.old ≡ Some state.image → K.kept out.old ≡ Some kept →
-        IfOk result (λ status. Turns style state place tally.old event kept status
-        checker.new tally.new (D.bytes disk.new) (K.kept out.new)) }
+        IfOk result (λ status. Turns style state place counts.old event kept status
+        checker.new counts.new (D.bytes disk.new) (K.kept out.new)) }
     ensures status { IfOk result (λ status. IfSome status (λ n. n ≡ 3)) }
     ensures open { OnOk result (checker.new.closed ≡ false) }
     ensures size { checker.new.length ≡ checker.old.length }
     ensures below { IsBelow checker.old.length checker.new.cache }
     ensures len { D.len disk.new ≡ D.len disk.old }
     ensures count { OnOk result
-        (tally.new.passed + tally.new.rejected ≤ tally.old.passed + tally.old.rejected + 1) }
+        (counts.new.passed + counts.new.rejected ≤ counts.old.passed + counts.old.rejected + 1) }
+    ensures lines { TookLines K.Sink style out.old out.new }
     ensures cause { HasTurnCause (D.faults disk.old) (D.faults disk.new)
         (K.faults out.old) (K.faults out.new) result }
 {
     let (at, settle) = begin_and_kind(&event);
     match checker.event(alloc, disk, event, steps) {
         Ok(answer) => {
-            report_answer(alloc, style, tally, at, settle, answer, out)?;
+            report_answer(alloc, style, counts, at, settle, answer, out)?;
             Ok(None)
         }
         Err(Stop::PastEnd { at, len, end }) => {
@@ -136,8 +138,8 @@ pub fn take_event<D: Disk, K: Sink, L>(
             )?;
             Ok(Some(3))
         }
-        Err(Stop::DiskFault) => Err(Halt::Device),
-        Err(Stop::NoMemory) => Err(Halt::Memory),
+        Err(Stop::DiskFault) => Err(RunFault::Device),
+        Err(Stop::NoMemory) => Err(RunFault::Memory),
         Err(Stop::Closed) => unreachable!(),
     }
 }

@@ -8,48 +8,6 @@ use Rattle.verdict.proofs.Images.{length-written, get-written_in, get-written_be
 use Rattle.write_cache.proofs.CacheLaws.{length-range, get-range}
 use Rattle.recon_core.specs.Sent.{with_place_of}
 
-same_bytes : (xs ys : List ℕ) → length xs ≡ length ys → ((i : ℕ) → i < length xs → get_or xs i 0 ≡ get_or ys i 0) → xs ≡ ys
-same_bytes xs ys = ext_get_or 0 xs ys
-
--- no byte written
-pub written-nil : (image : List ℕ) (at : ℕ) → written image at [] ≡ image
-unfolding written
-written-nil image at = grind (arith, common_steps, take-append-drop at image)
-
--- a front was written, and then the bytes behind it
-pub written-more : (image bytes : List ℕ) (at done n : ℕ) → at + length bytes ≤ length image → done + n ≤ length bytes
-    → written (written image at (take done bytes)) (at + done) (take n (drop done bytes)) ≡ written image at (take (done + n) bytes)
-written-more image bytes at done n fits few =
-    let a : length (take done bytes) ≡ done = length-take-le done bytes (omega arith) in
-    let b : length (take n (drop done bytes)) ≡ n = omega (arith, length-take n (drop done bytes), length-drop done bytes) in
-    let c : length (take (done + n) bytes) ≡ done + n = length-take-le (done + n) bytes few in
-    let front : List ℕ = written image at (take done bytes) in
-    let same : length front ≡ length image = length-written image (take done bytes) at (omega arith) in
-    let left : length (written front (at + done) (take n (drop done bytes))) ≡ length image =
-    length-written front (take n (drop done bytes)) (at + done) (omega arith) ∙ same in
-    let right : length (written image at (take (done + n) bytes)) ≡ length image = length-written image (take (done + n) bytes) at (omega arith) in
-    same_bytes _ _ (left ∙ sym right) (λ i h. elim (cases_lt i at) [
-      | inl before ↦ get-written_before front (take n (drop done bytes)) (at + done) i (omega arith) (omega arith)
-          ∙ get-written_before image (take done bytes) at i (omega arith) before
-          ∙ sym (get-written_before image (take (done + n) bytes) at i (omega arith) before)
-      | inr from ↦ elim (cases_lt i (at + done)) [
-        | inl low ↦ get-written_before front (take n (drop done bytes)) (at + done) i (omega arith) low
-            ∙ get-written_in image (take done bytes) at i (omega arith) from (omega arith)
-            ∙ get_or-take done bytes (i - at) 0 (omega arith)
-            ∙ sym (get-written_in image (take (done + n) bytes) at i (omega arith) from (omega arith) ∙ get_or-take (done + n) bytes (i - at) 0 (omega arith))
-        | inr mid ↦ elim (cases_lt i (at + done + n)) [
-          | inl high ↦ get-written_in front (take n (drop done bytes)) (at + done) i (omega arith) mid (omega arith)
-              ∙ get_or-take n (drop done bytes) (i - (at + done)) 0 (omega arith)
-              ∙ get_or-drop done bytes (i - (at + done)) 0
-              ∙ ap (λ k. get_or bytes k 0) (omega arith)
-              ∙ sym (get-written_in image (take (done + n) bytes) at i (omega arith) from (omega arith) ∙ get_or-take (done + n) bytes (i - at) 0 (omega arith))
-          | inr behind ↦ get-written_behind front (take n (drop done bytes)) (at + done) i (omega arith) (omega arith)
-              ∙ get-written_behind image (take done bytes) at i (omega arith) (omega arith)
-              ∙ sym (get-written_behind image (take (done + n) bytes) at i (omega arith) (omega arith))
-        ]
-      ]
-    ])
-
 -- an image with the superblock place of another: its length, and each byte in and outside the place
 pub length-with_place_of : (other image : List ℕ) → length other ≡ length image → 69632 ≤ length image → length (with_place_of other image) ≡ length image
 unfolding with_place_of

@@ -14,96 +14,11 @@ use Rattle.write_cache.specs.Pieces.{Piece, map_of, AreApart}
 use Rattle.write_cache.proofs.CacheLaws.{length-overlaid, get-overlaid, range-overlaid_image}
 use Rattle.recon_core.specs.Stops.{IsPartlySent}
 use Rattle.recon_core.specs.Standing.{IsBelow}
-use Rattle.recon_core.specs.Sent.{Sends, StaysOutside, StaysButForPiece, with_place_of, sent_piece, IsAllOrPart}
-use Rattle.recon_core.proofs.Places.{written-nil, written-more, place_same, place_last, length-with_place_of, get-with_place_of_in, get-with_place_of_out, inside_place, outside_place, where_is}
+use Rattle.recon_core.specs.Sent.{StaysButForPiece, with_place_of, sent_piece, IsAllOrPart}
+use Rattle.recon_disk.specs.Sending.{Sends, StaysOutside}
+use Rattle.recon_core.proofs.Places.{place_same, place_last, length-with_place_of, get-with_place_of_in, get-with_place_of_out, inside_place, outside_place, where_is}
+use Rattle.recon_disk.proofs.Sending.{written-nil, written-more}
 use Rattle.recon_core.proofs.Law.{sent_all, some_is, length-sent_piece, sent_piece-out, sent_piece-place, first_inside, get-map_of_rest, get-map_of_first, in_range, out_of_range, ranged, all_sent}
-
--- what holds of both an Ok and an Err
-pub if_ok : {T E P : Type 0} (r : Result T E) → P → OnOk r P
-if_ok (Ok x) p = p
-if_ok (Err e) p = tt
-
-pub if_err : {T E P : Type 0} (r : Result T E) → P → OnErr r P
-if_err (Ok x) p = tt
-if_err (Err e) p = p
-
--- a step that stops at a failed call
-pub sends_err : {D T E : Type 0} (disk : Ghosts D) (old new : D) (r : Result T E) (makes : List ℕ → List ℕ) (leaves : List ℕ → List ℕ → Type 0) → IsErr r
-    → IfSome (disk.bytes old) (λ image. IsSomeAnd (disk.bytes new) (leaves image)) → disk.len new ≡ disk.len old
-    → disk.faults old ≤ disk.faults new → counted (disk.faults old) ≤ disk.faults new → Sends disk old new r makes leaves
-sends_err disk old new (Ok x) makes leaves err left len grows failed = absurd (cc)
-sends_err disk old new (Err e) makes leaves err left len grows failed =
-    record { made = tt; left = left; len = len; cause = record { grows = grows; failed = failed; fine = tt } }
-
--- nothing was written yet
-pub told_none : (o : Option (List ℕ)) (at : ℕ) (bytes : List ℕ) → o ≡ option_map (λ image. written image at (take 0 bytes)) o
-told_none None at bytes = refl
-told_none (Some image) at bytes = ap Some (sym (written-nil image at))
-
--- one more call wrote its bytes
-pub told_more : (first mid last : Option (List ℕ)) (len at done n : ℕ) (bytes part : List ℕ) → IfSome first (λ image. length image ≡ len)
-    → at + length bytes ≤ len → done + n ≤ length bytes → part ≡ take n (drop done bytes)
-    → mid ≡ option_map (λ image. written image at (take done bytes)) first
-    → last ≡ option_map (λ image. written image (at + done) part) mid
-    → last ≡ option_map (λ image. written image at (take (done + n) bytes)) first
-told_more None mid last len at done n bytes part size fits few is m l = l ∙ ap (option_map (λ image. written image (at + done) part)) m
-told_more (Some image) mid last len at done n bytes part size fits few is m l =
-    l ∙ ap (option_map (λ i. written i (at + done) part)) m
-    ∙ ap (λ p. Some (written (written image at (take done bytes)) (at + done) p)) is
-    ∙ ap Some (written-more image bytes at done n (omega arith) few)
-
--- what a failed write leaves outside its range
-partly_outside : (image : List ℕ) (at : ℕ) (bytes left : List ℕ) → IsPartlyWritten image at bytes left → StaysOutside at (length bytes) image left
-partly_outside image at bytes left h = record {
-  same_length = h.same_length;
-  others = λ i out. elim out [
-    | inl low ↦ sym (get_or-take at left i 0 low) ∙ ap (λ xs. get_or xs i 0) h.before ∙ get_or-take at image i 0 low
-    | inr high ↦ ap (λ k. get_or left k 0) (omega arith) ∙ sym (get_or-drop (at + length bytes) left (i - (at + length bytes)) 0)
-        ∙ ap (λ xs. get_or xs (i - (at + length bytes)) 0) h.behind
-        ∙ get_or-drop (at + length bytes) image (i - (at + length bytes)) 0 ∙ ap (λ k. get_or image k 0) (omega arith)
-  ];
-}
-
-written_outside : (image : List ℕ) (at : ℕ) (bytes : List ℕ) → at + length bytes ≤ length image → StaysOutside at (length bytes) image (written image at bytes)
-written_outside image at bytes fits = record {
-  same_length = length-written image bytes at fits;
-  others = λ i out. elim out [
-    | inl low ↦ get-written_before image bytes at i fits low
-    | inr high ↦ get-written_behind image bytes at i fits high
-  ];
-}
-
-outside_wider : (at n b m : ℕ) (old left : List ℕ) → at ≤ b → b + m ≤ at + n → StaysOutside b m old left → StaysOutside at n old left
-outside_wider at n b m old left from to h = record {
-  same_length = h.same_length;
-  others = λ i out. h.others i (elim out [ inl low ↦ inl (omega arith) | inr high ↦ inr (omega arith) ]);
-}
-
-outside_then : (at n : ℕ) (old mid left : List ℕ) → StaysOutside at n old mid → StaysOutside at n mid left → StaysOutside at n old left
-outside_then at n old mid left a b = record {
-  same_length = b.same_length ∙ a.same_length;
-  others = λ i out. b.others i out ∙ a.others i out;
-}
-
--- a call of a run failed behind those before it
-run_left : (image : List ℕ) (last : Option (List ℕ)) (at done n : ℕ) (bytes part : List ℕ) → at + length bytes ≤ length image → done + n ≤ length bytes → length part ≡ n
-    → MayBeWritten (Some (written image at (take done bytes))) (at + done) part last
-    → IsSomeAnd last (StaysOutside at (length bytes) image)
-run_left image last at done n bytes part fits few size may =
-    let k : length (take done bytes) ≡ done = length-take-le done bytes (omega arith) in
-    let mid : List ℕ = written image at (take done bytes) in
-    subst (λ o. IsSomeAnd o (StaysOutside at (length bytes) image)) (sym may.1)
-    (outside_then at (length bytes) image mid may.0
-    (outside_wider at (length bytes) at (length (take done bytes)) image mid (omega arith) (omega arith) (written_outside image at (take done bytes) (omega arith)))
-    (outside_wider at (length bytes) (at + done) (length part) mid may.0 (omega arith) (omega arith) (partly_outside mid (at + done) part may.0 may.2)))
-
-pub run_fails : (first mid last : Option (List ℕ)) (len at done n : ℕ) (bytes part : List ℕ) → IfSome first (λ image. length image ≡ len)
-    → at + length bytes ≤ len → done + n ≤ length bytes → length part ≡ n
-    → mid ≡ option_map (λ image. written image at (take done bytes)) first → MayBeWritten mid (at + done) part last
-    → IfSome first (λ image. IsSomeAnd last (StaysOutside at (length bytes) image))
-run_fails None mid last len at done n bytes part size fits few n_is m may = tt
-run_fails (Some image) mid last len at done n bytes part size fits few n_is m may =
-    run_left image last at done n bytes part (omega arith) few n_is (subst (λ o. MayBeWritten o (at + done) part last) m may)
 
 -- a piece went out, or one of its two runs failed
 pub piece_sent : (first mid last : Option (List ℕ)) (at : ℕ) (bytes front rest : List ℕ) (spot : ℕ)

@@ -12,15 +12,6 @@ use Rattle.recon_disk.specs.Calls.{Sent, Wrote, Flushed, and_sent}
 use Rattle.write_cache.specs.Cache.{overlaid, with_bytes}
 use Rattle.write_cache.specs.Pieces.{Piece, ArePiecesOf}
 
--- so many calls, each with 1,048,576 bytes from the front of those that are left, the last with what is left
-abbrev pub cut_calls : ℕ → ℕ → List ℕ → List Sent
-cut_calls zero at bytes = []
-cut_calls (suc n) at bytes = Wrote at (take 1048576 bytes) ∷ cut_calls n (at + 1048576) (drop 1048576 bytes)
-
--- a run of bytes from an offset on, cut from its front into calls of 1,048,576 bytes and a shorter last one
-unfoldable pub run_calls : ℕ → List ℕ → List Sent
-run_calls at bytes = cut_calls ((length bytes + 1048575) / 1048576) at bytes
-
 -- the runs of a piece outside the superblock place, bytes 65536 to 69631: the one before it, and the one behind it
 unfoldable pub piece_calls : ℕ → List ℕ → List Sent
 piece_calls at bytes = run_calls at (take (65536 - at) bytes) ++ run_calls (max 69632 at) (drop (69632 - at) bytes)
@@ -50,10 +41,6 @@ pub record AreCallsOf (waiting : FinMap nat_cmp ℕ) (judged : List ℕ) (calls 
 -- exactly these calls were sent, in their order
 abbrev pub HasSentOut : FinMap nat_cmp ℕ → List ℕ → Option (List Sent) → Option (List Sent) → Type 0
 HasSentOut waiting judged before now = (calls : List Sent) × AreCallsOf waiting judged calls × (now ≡ and_sent before calls)
-
--- of these calls those in front were sent, in their order
-abbrev pub HasSentFront : List Sent → Option (List Sent) → Option (List Sent) → Type 0
-HasSentFront calls before now = (front : List Sent) × (rest : List Sent) × (calls ≡ front ++ rest) × (now ≡ and_sent before front)
 
 -- what was sent where a call failed: nothing, or a front of the calls that send out what waits
 unfoldable pub HasSentPart : FinMap nat_cmp ℕ → Option (List ℕ) → Option (List Sent) → Option (List Sent) → Type 0

@@ -10,21 +10,8 @@ use Rattle.recon_disk.specs.Calls.{Sent, and_sent}
 use Rattle.write_cache.specs.Cache.{overlaid}
 use Rattle.write_cache.specs.Pieces.{Piece, ArePiecesOf}
 use Rattle.recon_core.specs.Stops.{IsPartlySent}
-use Rattle.recon_core.specs.Order.{HasSentFront, pieces_calls}
-
--- What a step that writes to a disk gives. Where it answers, the disk's bytes are what this makes of the old ones;
--- where a call failed, this holds of the old bytes and those that are left. The length stays, and faults have their
--- cause.
-pub record Sends {D T E : Type 0} (disk : Ghosts D) (old new : D) (result : Result T E) (makes : List ℕ → List ℕ) (leaves : List ℕ → List ℕ → Type 0) : Type 0 where
-  pub made : OnOk result (disk.bytes new ≡ option_map makes (disk.bytes old))
-  pub left : OnErr result (IfSome (disk.bytes old) (λ image. IsSomeAnd (disk.bytes new) (leaves image)))
-  pub len : disk.len new ≡ disk.len old
-  pub cause : HasCause (disk.faults old) (disk.faults new) result
-
--- the bytes outside a range stay
-pub record StaysOutside (at n : ℕ) (old left : List ℕ) : Type 0 where
-  pub same_length : length left ≡ length old
-  pub others : (i : ℕ) → (i < at) ⊎ (at + n ≤ i) → slice_index left i ≡ slice_index old i
+use Rattle.recon_core.specs.Order.{pieces_calls}
+use Rattle.recon_disk.specs.Calls.{HasSentFront}
 
 -- the bytes outside a range stay, and those in the superblock place
 pub record StaysButForPiece (at n : ℕ) (old left : List ℕ) : Type 0 where

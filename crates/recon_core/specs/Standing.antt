@@ -8,6 +8,7 @@ use Rattle.verdict.specs.declared.machine.HeldWrite.{HeldWrite}
 use Rattle.verdict.specs.declared.machine.Event.{Event}
 use Rattle.verdict.specs.declared.machine.Event.TheVariants.{Write, Settle, Fetch}
 use Rattle.verdict.specs.declared.machine.Answer.{Answer}
+use Rattle.verdict.specs.declared.machine.Answer.TheVariants.{Held, Fetched, Passed, Rejected}
 use Rattle.verdict.specs.declared.machine.Stop.{Stop}
 use Rattle.verdict.specs.declared.machine.Stop.TheVariants.{PastEnd, DiskFault, Closed}
 use Rattle.write_cache.specs.Cache.{cache_of, AllInside}
@@ -89,6 +90,24 @@ abbrev pub waits : Event → Bool
 waits (Write submitter at bytes) = not (meets_superblock at (length bytes))
 waits Settle = false
 waits (Fetch at len) = false
+
+-- so many bytes, for a fetch
+abbrev pub IsFetched : ℕ → Answer → Type 0
+IsFetched len (Fetched bytes) = length bytes ≡ len
+IsFetched len other = ⊥
+
+-- what is said of a judged event: it passed, or it was rejected
+abbrev pub IsJudgement : Answer → Type 0
+IsJudgement (Passed generation blocks hot) = Unit {0}
+IsJudgement (Rejected finding) = Unit {0}
+IsJudgement other = ⊥
+
+-- The sort of answer that an event has: a write that touches no byte of the superblock place is held, a fetch gets as many
+-- bytes as it asks for, and of a commit and a settle it is said whether they passed.
+abbrev pub IsAnswerTo : Event → Answer → Type 0
+IsAnswerTo (Write submitter at bytes) answer = MatchBool (meets_superblock at (length bytes)) (IsJudgement answer) (answer ≡ Held)
+IsAnswerTo Settle answer = IsJudgement answer
+IsAnswerTo (Fetch at len) answer = IsFetched len answer
 
 -- What want of memory leaves of the checker: all stays, and after a judged event it is closed.
 abbrev pub IsAfterWant : Event → Checker → Checker → Type 0

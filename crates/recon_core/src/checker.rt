@@ -40,7 +40,7 @@ impl Checker {
     ghost use Rattle.recon_disk.specs.Keeping.{IsCounted, Kept};
     ghost use Rattle.write_cache.specs.Cache.{overlaid, with_bytes};
     ghost use Rattle.recon_core.specs.Machine.{MachineState, machine_step};
-    ghost use Rattle.recon_core.specs.Standing.{BeginsAt, BeginsOver, IsAfterWant, IsBelow, IsNoRefusal, StandsFor, Takes, is_disk_fault, refusal_of, waits};
+    ghost use Rattle.recon_core.specs.Standing.{BeginsAt, BeginsOver, IsAfterWant, IsAnswerTo, IsBelow, IsFetched, IsJudgement, IsNoRefusal, StandsFor, Takes, is_disk_fault, refusal_of, waits};
     ghost use Rattle.recon_core.specs.Stops.{IsStopImage};
     ghost use Rattle.recon_core.specs.Judged.{Judges};
     ghost use Rattle.recon_core.specs.Order.{HasSentBy, HasSentPart, judged_with};
@@ -103,6 +103,9 @@ impl Checker {
         ensures refused { IfSome (refusal_of self.old ev)
             (λ stop. (result ≡ Err stop) × (self.new ≡ self.old) × (disk.new ≡ disk.old)) }
         ensures only { refusal_of self.old ev ≡ None → IsNoRefusal result }
+
+        // The sort of answer, over any disk.
+        ensures sort { IfOk result (IsAnswerTo ev) }
 
         // The machine's step, and what a failed call of the disk leaves of it.
         ensures step { (state : MachineState) → StandsFor self.old state →
@@ -177,6 +180,7 @@ impl Checker {
     fn settle<D: Disk>(&mut self, alloc: Global, disk: &mut D) -> Result<Answer, Stop>
         requires small { D.len disk.old < 2 ^ 64 }
         requires below { IsBelow (D.len disk.old) self.old.cache }
+        ensures sort { IfOk result IsJudgement }
         ensures judged { Judges D.Disk disk.old disk.new
             self.old.cache result (is_disk_fault result) }
         ensures order { IfOk result (λ answer. HasSentBy answer
@@ -209,6 +213,7 @@ impl Checker {
         requires small { D.len disk.old < 2 ^ 64 }
         requires below { IsBelow (D.len disk.old) self.old.cache }
         requires inside { write.at + length write.bytes ≤ D.len disk.old }
+        ensures sort { IfOk result IsJudgement }
         ensures judged { Judges D.Disk disk.old disk.new
             (with_bytes self.old.cache write.at write.bytes) result (is_disk_fault result) }
         ensures order { IfOk result (λ answer. HasSentBy answer
@@ -244,6 +249,7 @@ impl Checker {
         requires few { len ≤ 65536 }
         requires inside { at + len ≤ D.len disk.old }
         requires fits { at + len < 2 ^ 64 }
+        ensures sort { IfOk result (IsFetched len) }
         ensures bytes { IfOk result (λ answer. IfSome (D.bytes disk.old)
             (λ image. answer ≡ Answer.Fetched (range at len (overlaid self.old.cache 0 image)))) }
         ensures ok { OnOk result (self.new ≡ self.old) }

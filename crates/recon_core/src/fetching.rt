@@ -1,10 +1,10 @@
 //! What reads through what waits.
 
-ghost use Rattle.std.specs.Prelude.{◌≡◌, ◌+◌, ◌^◌, ◌<◌, ◌≤◌, IfOk, IfSome};
+ghost use Rattle.std.specs.Prelude.{◌≡◌, length, ◌+◌, ◌^◌, ◌<◌, ◌≤◌, IfOk, IfSome};
 ghost use Rattle.verdict.specs.Image.{range};
 ghost use Rattle.recon_disk.specs.Keeping.{Kept};
 ghost use Rattle.write_cache.specs.Cache.{overlaid};
-ghost use Rattle.plain_check.specs.Gives.{is_disk_fault};
+ghost use Rattle.block_source.specs.Gives.{is_disk_fault};
 
 use plain_check::{Fault, read_under};
 use recon_disk::Disk;
@@ -24,6 +24,7 @@ pub fn fetch<D: Disk>(
     requires few { len ≤ 65536 }
     requires inside { at + len ≤ D.len disk.old }
     requires fits { at + len < 2 ^ 64 }
+    ensures size { IfOk result (λ bytes. length bytes ≡ len) }
     ensures bytes { IfOk result (λ bytes. IfSome (D.bytes disk.old)
         (λ image. bytes ≡ range at len (overlaid cache.now 0 image))) }
     ensures kept { Kept D.Disk disk.old disk.new (is_disk_fault result) }

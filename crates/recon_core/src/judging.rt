@@ -2,8 +2,8 @@
 
 ghost use Rattle.std.specs.Prelude.{◌≡◌, ◌^◌, ◌<◌, IfOk, OnOk, OnErr, IsErrOf};
 ghost use Rattle.std.specs.FinMap as map;
-ghost use Rattle.plain_check.specs.Gives.{is_disk_fault};
-ghost use Rattle.recon_core.specs.Standing.{IsBelow};
+ghost use Rattle.block_source.specs.Gives.{is_disk_fault};
+ghost use Rattle.recon_core.specs.Standing.{IsBelow, IsJudgement};
 ghost use Rattle.recon_core.specs.Judged.{Judges};
 ghost use Rattle.recon_core.specs.Order.{HasSentBy, HasSentPart};
 
@@ -25,6 +25,7 @@ pub fn judge_waiting<D: Disk>(
 ) -> Result<Answer, Fault>
     requires small { D.len disk.old < 2 ^ 64 }
     requires below { IsBelow (D.len disk.old) cache.old }
+    ensures sort { IfOk result IsJudgement }
     ensures judged { Judges D.Disk disk.old disk.new cache.old result (is_disk_fault result) }
     ensures order { IfOk result (λ answer.
         HasSentBy answer cache.old (D.bytes disk.old) (D.sent disk.old) (D.sent disk.new)) }

@@ -19,7 +19,7 @@ struct Recorder {
 }
 
 impl Disk for Recorder {
-    ghost use Rattle.std.specs.Prelude.{Some, map, refl};
+    ghost use Rattle.std.specs.Prelude.{Some, false, map, refl};
     ghost use Rattle.std.specs.Option.{option_map_or};
     ghost use Rattle.recon_disk.specs.Calls.{Wrote, Flushed};
 
@@ -32,6 +32,8 @@ impl Disk for Recorder {
     ghost reads = { λ d. d.reads };
 
     ghost faults = { λ d. d.faults };
+
+    ghost hides_length = { λ d. false };
 
     ghost told_length = { λ d. refl };
 

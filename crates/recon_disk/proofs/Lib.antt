@@ -1,1 +1,2 @@
 mod Partly
+pub mod Sending

@@ -3,3 +3,4 @@ pub mod Memory
 pub mod Listed
 pub mod Keeping
 pub mod Calls
+pub mod Sending

@@ -1,6 +1,6 @@
 //! A block device of fixed length.
 
-ghost use Rattle.std.specs.Prelude.{ℕ, ◌≡◌, ◌+◌, ◌<◌, ◌≤◌, List, length, Option, IfSome, IfOk, OnOk, OnErr, option_map, [], ◌∷◌};
+ghost use Rattle.std.specs.Prelude.{ℕ, Bool, is_err, ◌≡◌, ◌+◌, ◌<◌, ◌≤◌, List, length, Option, IfSome, IfOk, OnOk, OnErr, option_map, [], ◌∷◌};
 ghost use Rattle.verdict.specs.Image.{range, written};
 ghost use Rattle.recon_disk.specs.Outside.{HasCause, MayBeWritten, counted};
 ghost use Rattle.recon_disk.specs.Calls.{Sent, Wrote, Flushed, and_sent};
@@ -25,9 +25,12 @@ pub trait Disk {
     ghost reads: { Self → ℕ };
     /// How often a call failed.
     ghost faults: { Self → ℕ };
+    /// Whether the next call of `length` fails.
+    ghost hides_length: { Self → Bool };
 
     /// The device's length in bytes.
     fn length(&mut self) -> Result<u64, Failed>
+        ensures hidden { is_err result ≡ hides_length self.old }
         ensures value { IfOk result (λ n. n ≡ len self.old) }
         ensures len { len self.new ≡ len self.old }
         ensures bytes { bytes self.new ≡ bytes self.old }

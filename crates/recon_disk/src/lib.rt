@@ -7,12 +7,14 @@ mod memory;
 mod sink;
 mod source;
 mod steps;
+mod writing;
 
 pub use disk::{Disk, Failed};
 pub use memory::{Fail, MemDisk, Op};
 pub use sink::{MemSink, Sink};
 pub use source::{MemSource, Source};
 pub use steps::Steps;
+pub use writing::{WRITE_MAX, write_all_at};
 
 #[cfg(test)]
 mod tests;

@@ -97,7 +97,8 @@ fn listed(fails: &[Fail], op: Op, nth: u64) -> Option<Fail>
 }
 
 impl Disk for MemDisk {
-    ghost use Rattle.std.specs.Prelude.{◌<◌, None, IfOk, OnOk, OnErr};
+    ghost use Rattle.std.specs.Prelude.{◌<◌, None, IfOk, OnOk, OnErr, is_err, is_some};
+    ghost use Rattle.recon_disk.specs.declared.memory.Op.TheVariants.{Length};
     ghost use Rattle.verdict.specs.Image.{range};
     ghost use Rattle.recon_disk.specs.Outside.{HasCause, MayBeWritten, counted};
     ghost use Rattle.recon_disk.specs.Memory.{bytes_in, reads_of, faults_of, IsCalled, left_by, fail_of_next};
@@ -112,9 +113,12 @@ impl Disk for MemDisk {
 
     ghost faults = { λ d. d.faults };
 
+    ghost hides_length = { λ d. is_some (fail_of_next Length d) };
+
     ghost told_length = { λ d. refl };
 
     fn length(&mut self) -> Result<u64, Failed>
+        ensures hidden { is_err result ≡ is_some (fail_of_next Op.Length self.old) }
         ensures value { IfOk result (λ n. n ≡ length (bytes_in self.old)) }
         ensures len { length (bytes_in self.new) ≡ length (bytes_in self.old) }
         ensures bytes { Some (bytes_in self.new) ≡ Some (bytes_in self.old) }

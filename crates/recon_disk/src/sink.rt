@@ -1,6 +1,6 @@
 //! A stream of bytes that goes out.
 
-ghost use Rattle.std.specs.Prelude.{ℕ, ◌≡◌, ◌++◌, ◌≤◌, [], List, Option, IfOk, IfSome, OnOk, OnErr, option_map, min, vec_len, vec_capacity};
+ghost use Rattle.std.specs.Prelude.{ℕ, ◌≡◌, ◌++◌, ◌≤◌, [], ◌∷◌, List, Option, IfOk, IfSome, OnOk, OnErr, option_map, min, vec_len, vec_capacity};
 ghost use Rattle.recon_disk.specs.Outside.{HasCause, MayBeAppended};
 ghost use Rattle.recon_disk.specs.Listed.{listed_piece};
 
@@ -12,6 +12,8 @@ use verdict::NoMemory;
 pub trait Sink {
     /// The bytes so far, where the sink tells them.
     ghost kept: { Self → Option (List ℕ) };
+    /// The pieces that were taken whole, one a call, in their order, where the sink tells them.
+    ghost pieces: { Self → Option (List (List ℕ)) };
     /// How often a call failed.
     ghost faults: { Self → ℕ };
 
@@ -20,6 +22,9 @@ pub trait Sink {
         ensures appended { OnOk result (kept self.new ≡ option_map
             (λ bytes. bytes ++ from.now) (kept self.old)) }
         ensures partly { OnErr result (MayBeAppended (kept self.old) from.now (kept self.new)) }
+        ensures piece { OnOk result (pieces self.new ≡ option_map
+            (λ taken. taken ++ from.now ∷ []) (pieces self.old)) }
+        ensures no_piece { OnErr result (pieces self.new ≡ pieces self.old) }
         ensures cause { HasCause (faults self.old) (faults self.new) result };
 }
 
@@ -89,10 +94,12 @@ fn listed(fails: &[(u64, usize)], call: u64, len: usize) -> Option<usize>
 }
 
 impl Sink for MemSink {
-    ghost use Rattle.std.specs.Prelude.{Some};
+    ghost use Rattle.std.specs.Prelude.{Some, None};
     ghost use Rattle.recon_disk.specs.Memory.{bytes_kept, sink_faults, IsGiven};
 
     ghost kept = { λ s. Some s.bytes.items };
+
+    ghost pieces = { λ s. None };
 
     ghost faults = { λ s. s.faults };
 

@@ -103,7 +103,7 @@ fn write_at<F: Write + Seek>(file: &mut F, at: u64, from: &[u8]) -> bool {
 }
 
 impl<F: Read + Write + Seek + OpenFile + Drop> Disk for FileDisk<F> {
-    ghost use Rattle.std.specs.Prelude.{false, None, IfOk};
+    ghost use Rattle.std.specs.Prelude.{false, not, is_err, None, IfOk};
     ghost use Rattle.recon_disk.specs.Outside.{counted};
     ghost use Rattle.recon_host.specs.FileDisk.{is_opened, size_of, reads_of, faults_of};
 
@@ -117,10 +117,12 @@ impl<F: Read + Write + Seek + OpenFile + Drop> Disk for FileDisk<F> {
 
     ghost faults = { λ d. d.faults };
 
+    ghost hides_length = { λ d. not (is_opened d) };
+
     ghost told_length = { λ d. tt };
 
     fn length(&mut self) -> Result<u64, Failed>
-        ensures unopened { is_opened self.old ≡ false → IsErr result }
+        ensures hidden { is_err result ≡ not (is_opened self.old) }
         ensures stays { is_opened self.new ≡ is_opened self.old }
         ensures value { IfOk result (λ n. n ≡ size_of self.old) }
         ensures len { size_of self.new ≡ size_of self.old }

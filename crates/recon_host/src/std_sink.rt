@@ -39,6 +39,8 @@ impl<W: Write + Drop> Sink for StdSink<W> {
 
     ghost kept = { λ s. None };
 
+    ghost pieces = { λ s. None };
+
     ghost faults = { λ s. s.faults };
 
     fn write(&mut self, from: &[u8]) -> Result<(), Failed> {

@@ -11,10 +11,11 @@ use Rattle.accounts.specs.Kinds.{name_entry, link, subvolume_entry, subvolume_pa
 use Rattle.records.specs.Post.{to}
 use Rattle.records.specs.Part.{Part}
 use Rattle.records.specs.Part.Part.{RootPart, LinkPart, NamesPart, EntriesPart}
+use Rattle.verdict.specs.declared.kinds.TheConstants.{INODE_ITEM, INODE_REF, DIR_ITEM, ROOT_ITEM, ROOT_REF}
 
 -- the key (256, 12, 256): the names of a tree's root directory, which no directory of the tree has
 abbrev pub is_root_name : Key → Bool
-is_root_name key = key.objectid == 256 && (key.kind == 12 && key.offset == 256)
+is_root_name key = key.objectid == 256 && (key.kind == INODE_REF && key.offset == 256)
 
 -- a name of an inode
 abbrev pub link_postings : ℕ → ℕ → NameFields → List Posting
@@ -33,13 +34,13 @@ hashed_postings tree dir entry = entry_posting tree dir 0 entry ∷ []
 abbrev pub indexed_postings : ℕ → ℕ → ℕ → EntryFields → List Posting
 indexed_postings tree dir index entry =
     entry_posting tree dir 1 entry
-    ∷ (if entry.location.kind == 1 then to (link tree entry.location.objectid dir index entry.name) 0 1 ∷ [] else
-    (if entry.location.kind == 132 then to (subvolume_entry tree entry.location.objectid dir index entry.name) 1 1 ∷ [] else []))
+    ∷ (if entry.location.kind == INODE_ITEM then to (link tree entry.location.objectid dir index entry.name) 0 1 ∷ [] else
+    (if entry.location.kind == ROOT_ITEM then to (subvolume_entry tree entry.location.objectid dir index entry.name) 1 1 ∷ [] else []))
 
 -- an entry of a directory, by the item's kind
 abbrev pub dir_entry_postings : ℕ → Key → EntryFields → List Posting
 dir_entry_postings tree key entry =
-    if key.kind == 84 then hashed_postings tree key.objectid entry else indexed_postings tree key.objectid key.offset entry
+    if key.kind == DIR_ITEM then hashed_postings tree key.objectid entry else indexed_postings tree key.objectid key.offset entry
 
 -- whether a tree's id is that of a subvolume: 256 to 2^64 - 256
 abbrev pub is_subvolume_id : ℕ → Bool
@@ -52,7 +53,7 @@ root_postings item = if is_subvolume_id item.key.objectid then to (subvolume ite
 -- the name of a subvolume: of kind 156 the key is (parent, 156, child), of kind 144 (child, 144, parent)
 abbrev pub root_link_postings : RootLinkFields → List Posting
 root_link_postings item =
-    if item.key.kind == 156 then
+    if item.key.kind == ROOT_REF then
     to (subvolume_entry item.key.objectid item.key.offset item.dirid item.sequence item.name) 0 1
     ∷ to (subvolume_pair item.key.objectid item.key.offset item.dirid item.sequence item.name) 0 1
     ∷ to (subvolume item.key.offset) 1 1

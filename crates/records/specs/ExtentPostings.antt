@@ -9,13 +9,14 @@ use Rattle.accounts.specs.Kinds.{block_ref, shared_block_ref, data_ref, shared_d
 use Rattle.records.specs.Post.{to}
 use Rattle.records.specs.Part.{Part}
 use Rattle.records.specs.Part.Part.{BlockPart, ExtentPart, KeyedPart, FileExtentPart}
+use Rattle.verdict.specs.declared.kinds.TheConstants.{EXTENT_ITEM, METADATA_ITEM, TREE_BLOCK_REF, EXTENT_DATA_REF, SHARED_BLOCK_REF}
 
 -- who refers to an extent
 abbrev pub reference_account : ℕ → Reference → Account
 reference_account address reference =
-    if reference.kind == 176 then block_ref reference.root address else
-    (if reference.kind == 178 then data_ref reference.root address reference.objectid reference.offset else
-    (if reference.kind == 182 then shared_block_ref reference.parent address else
+    if reference.kind == TREE_BLOCK_REF then block_ref reference.root address else
+    (if reference.kind == EXTENT_DATA_REF then data_ref reference.root address reference.objectid reference.offset else
+    (if reference.kind == SHARED_BLOCK_REF then shared_block_ref reference.parent address else
     shared_data_ref reference.parent address))
 
 -- a reference to an extent, in its item or with an item of its own
@@ -46,13 +47,13 @@ abbrev pub range_postings : ℕ → FileExtent → List Posting
 range_postings tree range =
     if has_extent range then
     to (data_ref tree range.extent range.key.objectid (origin_of range)) 1 1
-    ∷ to (extent_form range.extent 168 range.extent_length) 1 1
+    ∷ to (extent_form range.extent EXTENT_ITEM range.extent_length) 1 1
     ∷ []
     else []
 
 -- what a record of a tree posts to A1, A2, A3 and A4
 unfoldable pub extent_postings : ℕ → Part → List Posting
-extent_postings tree (BlockPart address level) = to (block_ref tree address) 1 1 ∷ to (extent_form address 169 level) 1 1 ∷ []
+extent_postings tree (BlockPart address level) = to (block_ref tree address) 1 1 ∷ to (extent_form address METADATA_ITEM level) 1 1 ∷ []
 extent_postings tree (ExtentPart item) = extent_item_postings item
 extent_postings tree (KeyedPart item) = reference_postings item.key.objectid item.reference
 extent_postings tree (FileExtentPart range) = range_postings tree range

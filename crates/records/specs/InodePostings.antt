@@ -10,6 +10,7 @@ use Rattle.accounts.specs.Kinds.{inode, inode_type}
 use Rattle.records.specs.Post.{to}
 use Rattle.records.specs.Part.{Part}
 use Rattle.records.specs.Part.Part.{InodePart, NamesPart, XattrPart, OrphanPart, EntriesPart, FileExtentPart}
+use Rattle.verdict.specs.declared.kinds.TheConstants.{INODE_ITEM}
 
 -- the type that a mode's type bits say, as directory entries number the types: 1 regular file, 2 directory, 3 character device,
 -- 4 block device, 5 FIFO, 6 socket, 7 symbolic link; 0 for other bits, which no inode has that was read
@@ -45,7 +46,7 @@ inode_name_postings tree ino name = to (inode tree ino) 1 1 ∷ to (inode tree i
 -- what a directory's entry leads to, where that is an inode of the same tree
 abbrev pub target_postings : ℕ → EntryFields → List Posting
 target_postings tree entry =
-    if entry.location.kind == 1 then
+    if entry.location.kind == INODE_ITEM then
     to (inode tree entry.location.objectid) 1 1
     ∷ to (inode_type tree entry.location.objectid entry.sort) 0 1
     ∷ []

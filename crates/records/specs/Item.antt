@@ -25,6 +25,7 @@ use Rattle.fs_items.specs.FileExtentRow.{file_extent_row}
 use Rattle.fs_items.specs.SumsRow.{sum_row}
 use Rattle.records.specs.Part.{Part}
 use Rattle.records.specs.Part.Part.{RootPart, LinkPart, DevicePart, ChunkPart, DevExtentPart, ExtentPart, KeyedPart, GroupPart, InodePart, NamesPart, XattrPart, OrphanPart, EntriesPart, FileExtentPart, SumsPart, UnreadPart}
+use Rattle.verdict.specs.declared.kinds.TheConstants.{INODE_ITEM, INODE_REF, INODE_EXTREF, XATTR_ITEM, ORPHAN_ITEM, DIR_ITEM, DIR_INDEX, EXTENT_DATA, EXTENT_CSUM, ROOT_ITEM, ROOT_BACKREF, ROOT_REF, EXTENT_ITEM, METADATA_ITEM, TREE_BLOCK_REF, EXTENT_DATA_REF, SHARED_BLOCK_REF, SHARED_DATA_REF, BLOCK_GROUP_ITEM, DEV_EXTENT, DEV_ITEM, CHUNK_ITEM, PERSISTENT_ITEM}
 
 -- an item that a row has, as a record
 abbrev pub as_part : {A : Type 0} → (A → Part) → Result A Finding → Result Part Finding
@@ -38,55 +39,55 @@ unlisted at key = Err (item_finding at key U 9 key.kind)
 -- and 84, stay unread
 unfoldable pub root_tree_record : At → Key → List ℕ → Result Part Finding
 root_tree_record at key bytes =
-    if key.kind == 132 then as_part RootPart (root_row at key bytes) else
-    (if key.kind == 156 || key.kind == 144 then as_part LinkPart (root_link_row at key bytes) else
-    (if key.kind == 1 || key.kind == 12 || key.kind == 84 then Ok (UnreadPart bytes) else
+    if key.kind == ROOT_ITEM then as_part RootPart (root_row at key bytes) else
+    (if key.kind == ROOT_REF || key.kind == ROOT_BACKREF then as_part LinkPart (root_link_row at key bytes) else
+    (if key.kind == INODE_ITEM || key.kind == INODE_REF || key.kind == DIR_ITEM then Ok (UnreadPart bytes) else
     unlisted at key))
 
 -- the extent tree: extents, references with items of their own, and block groups
 unfoldable pub extent_tree_record : At → Key → List ℕ → Result Part Finding
 extent_tree_record at key bytes =
-    if key.kind == 168 || key.kind == 169 then as_part ExtentPart (extent_row at key bytes) else
-    (if key.kind == 176 || key.kind == 178 || key.kind == 182 || key.kind == 184 then as_part KeyedPart (keyed_row at key bytes) else
-    (if key.kind == 192 then as_part GroupPart (group_row at key bytes) else
+    if key.kind == EXTENT_ITEM || key.kind == METADATA_ITEM then as_part ExtentPart (extent_row at key bytes) else
+    (if key.kind == TREE_BLOCK_REF || key.kind == EXTENT_DATA_REF || key.kind == SHARED_BLOCK_REF || key.kind == SHARED_DATA_REF then as_part KeyedPart (keyed_row at key bytes) else
+    (if key.kind == BLOCK_GROUP_ITEM then as_part GroupPart (group_row at key bytes) else
     unlisted at key))
 
 -- the chunk tree: the device and the chunks
 unfoldable pub chunk_tree_record : At → Key → List ℕ → Result Part Finding
 chunk_tree_record at key bytes =
-    if key.kind == 216 then as_part DevicePart (device_row at key bytes) else
-    (if key.kind == 228 then as_part ChunkPart (chunk_row at key bytes) else
+    if key.kind == DEV_ITEM then as_part DevicePart (device_row at key bytes) else
+    (if key.kind == CHUNK_ITEM then as_part ChunkPart (chunk_row at key bytes) else
     unlisted at key)
 
 -- the device tree: ranges of the device; its statistics, kind 249, stay unread
 unfoldable pub device_tree_record : At → Key → List ℕ → Result Part Finding
 device_tree_record at key bytes =
-    if key.kind == 204 then as_part DevExtentPart (dev_extent_row at key bytes) else
-    (if key.kind == 249 then Ok (UnreadPart bytes) else
+    if key.kind == DEV_EXTENT then as_part DevExtentPart (dev_extent_row at key bytes) else
+    (if key.kind == PERSISTENT_ITEM then Ok (UnreadPart bytes) else
     unlisted at key)
 
 -- a tree of files, first by inodes, then by directories and data
 unfoldable pub inode_record : At → Key → List ℕ → Result Part Finding
 inode_record at key bytes =
-    if key.kind == 1 then as_part InodePart (inode_row at key bytes) else
-    (if key.kind == 12 || key.kind == 13 then as_part NamesPart (inode_ref_row at key bytes) else
-    (if key.kind == 24 then as_part XattrPart (xattr_row at key bytes) else
-    (if key.kind == 48 then as_part OrphanPart (orphan_row at key bytes) else
+    if key.kind == INODE_ITEM then as_part InodePart (inode_row at key bytes) else
+    (if key.kind == INODE_REF || key.kind == INODE_EXTREF then as_part NamesPart (inode_ref_row at key bytes) else
+    (if key.kind == XATTR_ITEM then as_part XattrPart (xattr_row at key bytes) else
+    (if key.kind == ORPHAN_ITEM then as_part OrphanPart (orphan_row at key bytes) else
     unlisted at key)))
 
 unfoldable pub file_tree_record : At → Key → List ℕ → Result Part Finding
 file_tree_record at key bytes =
-    if key.kind == 84 || key.kind == 96 then as_part EntriesPart (dir_row at key bytes) else
-    (if key.kind == 108 then as_part FileExtentPart (file_extent_row at key bytes) else
+    if key.kind == DIR_ITEM || key.kind == DIR_INDEX then as_part EntriesPart (dir_row at key bytes) else
+    (if key.kind == EXTENT_DATA then as_part FileExtentPart (file_extent_row at key bytes) else
     inode_record at key bytes)
 
 -- the tree of checksums
 unfoldable pub sums_tree_record : At → Key → List ℕ → Result Part Finding
-sums_tree_record at key bytes = if key.kind == 128 then as_part SumsPart (sum_row at key bytes) else unlisted at key
+sums_tree_record at key bytes = if key.kind == EXTENT_CSUM then as_part SumsPart (sum_row at key bytes) else unlisted at key
 
 -- the tree of block groups
 unfoldable pub groups_tree_record : At → Key → List ℕ → Result Part Finding
-groups_tree_record at key bytes = if key.kind == 192 then as_part GroupPart (group_row at key bytes) else unlisted at key
+groups_tree_record at key bytes = if key.kind == BLOCK_GROUP_ITEM then as_part GroupPart (group_row at key bytes) else unlisted at key
 
 -- by the sort of the tree
 abbrev pub record_in : TreeSort → At → Key → List ℕ → Result Part Finding

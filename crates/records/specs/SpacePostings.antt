@@ -15,6 +15,7 @@ use Rattle.accounts.specs.Kinds.{sector, group, group_of, group_class, outside, 
 use Rattle.records.specs.Post.{to}
 use Rattle.records.specs.Part.{Part}
 use Rattle.records.specs.Part.Part.{SuperPart, ChunkPart, DevicePart, DevExtentPart, GroupPart, ExtentPart, FileExtentPart, SumsPart}
+use Rattle.verdict.specs.declared.kinds.TheConstants.{EXTENT_ITEM}
 
 -- the size of a sector in bytes
 abbrev pub sector_size : ℕ
@@ -52,7 +53,7 @@ group_postings item =
 
 -- whether an extent is of file data, and else a tree block
 abbrev pub is_data : ExtentFields → Bool
-is_data item = item.key.kind == 168
+is_data item = item.key.kind == EXTENT_ITEM
 
 -- the bytes of an extent: those that its key says, or a tree block
 abbrev pub extent_length : Context → ExtentFields → ℕ

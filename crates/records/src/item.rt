@@ -21,6 +21,12 @@ use extent_items::{read_extent, read_group, read_keyed};
 use fs_items::{
     read_dir, read_file_extent, read_inode, read_inode_ref, read_orphan, read_sums, read_xattr,
 };
+use verdict::kinds::{
+    BLOCK_GROUP_ITEM, CHUNK_ITEM, DEV_EXTENT, DEV_ITEM, DIR_INDEX, DIR_ITEM, EXTENT_CSUM,
+    EXTENT_DATA, EXTENT_DATA_REF, EXTENT_ITEM, INODE_EXTREF, INODE_ITEM, INODE_REF, METADATA_ITEM,
+    ORPHAN_ITEM, PERSISTENT_ITEM, ROOT_BACKREF, ROOT_ITEM, ROOT_REF, SHARED_BLOCK_REF,
+    SHARED_DATA_REF, TREE_BLOCK_REF, XATTR_ITEM,
+};
 use verdict::{At, Family, Finding, Key, TreeSort};
 use volume_items::{read_chunk, read_dev_extent, read_device, read_root, read_root_link};
 
@@ -58,9 +64,9 @@ fn in_root_tree<'a>(at: &At, key: Key, bytes: &'a [u8]) -> Result<Rec<'a>, Findi
     ensures lawful { IfOk result (λ one. IsLawful (part_of one)) }
 {
     match key.kind {
-        132 => Ok(Rec::RootItem(read_root(at, key, bytes)?)),
-        144 | 156 => Ok(Rec::RootLink(read_root_link(at, key, bytes)?)),
-        1 | 12 | 84 => Ok(Rec::Unread(bytes)),
+        ROOT_ITEM => Ok(Rec::RootItem(read_root(at, key, bytes)?)),
+        ROOT_BACKREF | ROOT_REF => Ok(Rec::RootLink(read_root_link(at, key, bytes)?)),
+        INODE_ITEM | INODE_REF | DIR_ITEM => Ok(Rec::Unread(bytes)),
         _ => Err(unlisted(at, key)),
     }
 }
@@ -72,9 +78,11 @@ fn in_extent_tree<'a>(at: &At, key: Key, bytes: &'a [u8]) -> Result<Rec<'a>, Fin
     ensures lawful { IfOk result (λ one. IsLawful (part_of one)) }
 {
     match key.kind {
-        168 | 169 => Ok(Rec::ExtentItem(read_extent(at, key, bytes)?)),
-        176 | 178 | 182 | 184 => Ok(Rec::KeyedRef(read_keyed(at, key, bytes)?)),
-        192 => Ok(Rec::GroupItem(read_group(at, key, bytes)?)),
+        EXTENT_ITEM | METADATA_ITEM => Ok(Rec::ExtentItem(read_extent(at, key, bytes)?)),
+        TREE_BLOCK_REF | EXTENT_DATA_REF | SHARED_BLOCK_REF | SHARED_DATA_REF => Ok(Rec::KeyedRef(
+            read_keyed(at, key, bytes)?,
+        )),
+        BLOCK_GROUP_ITEM => Ok(Rec::GroupItem(read_group(at, key, bytes)?)),
         _ => Err(unlisted(at, key)),
     }
 }
@@ -86,8 +94,8 @@ fn in_chunk_tree<'a>(at: &At, key: Key, bytes: &'a [u8]) -> Result<Rec<'a>, Find
     ensures lawful { IfOk result (λ one. IsLawful (part_of one)) }
 {
     match key.kind {
-        216 => Ok(Rec::DeviceItem(read_device(at, key, bytes)?)),
-        228 => Ok(Rec::ChunkItem(read_chunk(at, key, bytes)?)),
+        DEV_ITEM => Ok(Rec::DeviceItem(read_device(at, key, bytes)?)),
+        CHUNK_ITEM => Ok(Rec::ChunkItem(read_chunk(at, key, bytes)?)),
         _ => Err(unlisted(at, key)),
     }
 }
@@ -99,8 +107,8 @@ fn in_device_tree<'a>(at: &At, key: Key, bytes: &'a [u8]) -> Result<Rec<'a>, Fin
     ensures lawful { IfOk result (λ one. IsLawful (part_of one)) }
 {
     match key.kind {
-        204 => Ok(Rec::DevExtent(read_dev_extent(at, key, bytes)?)),
-        249 => Ok(Rec::Unread(bytes)),
+        DEV_EXTENT => Ok(Rec::DevExtent(read_dev_extent(at, key, bytes)?)),
+        PERSISTENT_ITEM => Ok(Rec::Unread(bytes)),
         _ => Err(unlisted(at, key)),
     }
 }
@@ -112,8 +120,8 @@ fn in_file_tree<'a>(at: &At, key: Key, bytes: &'a [u8]) -> Result<Rec<'a>, Findi
     ensures lawful { IfOk result (λ one. IsLawful (part_of one)) }
 {
     match key.kind {
-        84 | 96 => Ok(Rec::DirItem(read_dir(at, key, bytes)?)),
-        108 => Ok(Rec::FileExtent(read_file_extent(at, key, bytes)?)),
+        DIR_ITEM | DIR_INDEX => Ok(Rec::DirItem(read_dir(at, key, bytes)?)),
+        EXTENT_DATA => Ok(Rec::FileExtent(read_file_extent(at, key, bytes)?)),
         _ => of_inode(at, key, bytes),
     }
 }
@@ -125,10 +133,10 @@ fn of_inode<'a>(at: &At, key: Key, bytes: &'a [u8]) -> Result<Rec<'a>, Finding>
     ensures lawful { IfOk result (λ one. IsLawful (part_of one)) }
 {
     match key.kind {
-        1 => Ok(Rec::InodeItem(read_inode(at, key, bytes)?)),
-        12 | 13 => Ok(Rec::InodeRef(read_inode_ref(at, key, bytes)?)),
-        24 => Ok(Rec::Xattr(read_xattr(at, key, bytes)?)),
-        48 => Ok(Rec::Orphan(read_orphan(at, key, bytes)?)),
+        INODE_ITEM => Ok(Rec::InodeItem(read_inode(at, key, bytes)?)),
+        INODE_REF | INODE_EXTREF => Ok(Rec::InodeRef(read_inode_ref(at, key, bytes)?)),
+        XATTR_ITEM => Ok(Rec::Xattr(read_xattr(at, key, bytes)?)),
+        ORPHAN_ITEM => Ok(Rec::Orphan(read_orphan(at, key, bytes)?)),
         _ => Err(unlisted(at, key)),
     }
 }
@@ -140,7 +148,7 @@ fn in_sums_tree<'a>(at: &At, key: Key, bytes: &'a [u8]) -> Result<Rec<'a>, Findi
     ensures lawful { IfOk result (λ one. IsLawful (part_of one)) }
 {
     match key.kind {
-        128 => Ok(Rec::SumRun(read_sums(at, key, bytes)?)),
+        EXTENT_CSUM => Ok(Rec::SumRun(read_sums(at, key, bytes)?)),
         _ => Err(unlisted(at, key)),
     }
 }
@@ -152,7 +160,7 @@ fn in_groups_tree<'a>(at: &At, key: Key, bytes: &'a [u8]) -> Result<Rec<'a>, Fin
     ensures lawful { IfOk result (λ one. IsLawful (part_of one)) }
 {
     match key.kind {
-        192 => Ok(Rec::GroupItem(read_group(at, key, bytes)?)),
+        BLOCK_GROUP_ITEM => Ok(Rec::GroupItem(read_group(at, key, bytes)?)),
         _ => Err(unlisted(at, key)),
     }
 }

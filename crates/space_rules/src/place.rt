@@ -15,9 +15,7 @@ use extent_items::ExtentItem;
 use sector_runs::{SECTOR, SectorRun, SectorUse};
 use std::alloc::Global;
 use verdict::NoMemory;
-
-/// The kind of the item of an extent with file data; that of a tree block is 169.
-const EXTENT_ITEM: u8 = 168;
+use verdict::kinds::EXTENT_ITEM;
 
 /// The type bit of chunks with file data.
 const DATA: u64 = 1;

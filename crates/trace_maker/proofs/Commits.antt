@@ -7,7 +7,7 @@ use Rattle.verdict.specs.declared.machine.Event.{Event}
 use Rattle.verdict.specs.declared.machine.Event.TheVariants.{Write, Settle, Fetch}
 use Rattle.verdict.specs.Events.{meets_superblock}
 use Rattle.trace_reader.specs.Trace.{IsSpelled, spelling_of, spelling_of_all}
-use Rattle.trace_maker.specs.declared.op.Op.{Op}
+use Rattle.trace_maker.specs.declared.operation.Operation.{Operation}
 use Rattle.trace_maker.specs.Made.{is_commit, IsWriteBy, IsSuperblockWrite, IsCommitOf, AreCommits, carried_out}
 use Rattle.volume_maker.specs.Volume.{Standing}
 
@@ -47,14 +47,14 @@ counts_none (x ∷ xs) h =
     ∙ ap (λ (b : Bool). cond b 1 0 + count_by is_commit xs) (All-head P x xs h)
     ∙ ap (λ (n : ℕ). 0 + n) (counts_none xs (All-tail P x xs h))
 
-pub spelled_commit : (k : ℕ) (s : Standing) (op : Op) (es : List Event) → IsCommitOf k s op es → All IsSpelled es
+pub spelled_commit : (k : ℕ) (s : Standing) (op : Operation) (es : List Event) → IsCommitOf k s op es → All IsSpelled es
 spelled_commit k s op es c =
     let P : List Event → Type 0 = λ l. All IsSpelled l in
     subst P (sym c.parts) (All-push IsSpelled (c.data_writes ++ c.blocks) c.superblock
     (All-append IsSpelled c.data_writes c.blocks (All-weaker (IsWriteBy 1) IsSpelled (spelled_write 1) c.data_writes c.lawful_data) (All-weaker (IsWriteBy 0) IsSpelled (spelled_write 0) c.blocks c.lawful_blocks))
     (spelled_last c.superblock c.lawful))
 
-pub one_commit : (k : ℕ) (s : Standing) (op : Op) (es : List Event) → IsCommitOf k s op es → count_by is_commit es ≡ 1
+pub one_commit : (k : ℕ) (s : Standing) (op : Operation) (es : List Event) → IsCommitOf k s op es → count_by is_commit es ≡ 1
 one_commit k s op es c =
     let P : Event → Type 0 = λ e. is_commit e ≡ false in
     let data_count : count_by is_commit c.data_writes ≡ 0 = counts_none c.data_writes (All-weaker (IsWriteBy 1) P (beside_write 1) c.data_writes c.lawful_data) in
@@ -70,18 +70,18 @@ spelling_append [] ys = refl
 spelling_append (x ∷ xs) ys = ap (λ (r : List ℕ). spelling_of x ++ r) (spelling_append xs ys) ∙ sym (append_assoc (spelling_of x) (spelling_of_all xs) (spelling_of_all ys))
 
 -- what stands after the commits of these operations, which are numbered from k on
-abbrev pub standing_after : ℕ → List Op → Standing → Standing
+abbrev pub standing_after : ℕ → List Operation → Standing → Standing
 standing_after k [] s = s
 standing_after k (op ∷ ops) s = standing_after (k + 1) ops (carried_out k op s)
 
-pub standing_more : (k : ℕ) (ops : List Op) (op : Op) (s : Standing)
+pub standing_more : (k : ℕ) (ops : List Operation) (op : Operation) (s : Standing)
     → standing_after k (ops ++ op ∷ []) s ≡ carried_out (k + length ops) op (standing_after k ops s)
 standing_more k [] op s = ap (λ n. carried_out n op s) (omega arith)
 standing_more k (o ∷ ops) op s =
     let s' = standing_after (k + 1) ops (carried_out k o s) in
     standing_more (k + 1) ops op (carried_out k o s) ∙ ap (λ n. carried_out n op s') (omega arith)
 
-pub commits_more : (k : ℕ) (s : Standing) (ops : List Op) (op : Op) (es now : List Event) → AreCommits k s ops es
+pub commits_more : (k : ℕ) (s : Standing) (ops : List Operation) (op : Operation) (es now : List Event) → AreCommits k s ops es
     → IsCommitOf (k + length ops) (standing_after k ops s) op now → AreCommits k s (ops ++ op ∷ []) (es ++ now)
 commits_more k s [] op es now h c =
     let P : ℕ → Type 0 = λ n. IsCommitOf n s op now in

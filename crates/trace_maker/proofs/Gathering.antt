@@ -13,7 +13,7 @@ use Rattle.volume_maker.specs.declared.tree.Tree.{Tree}
 use Rattle.volume_maker.specs.declared.trees.Trees.{Trees}
 use Rattle.volume_maker.specs.Live.{all_blocks, blocks_of, device_block, kept_blocks}
 use Rattle.trace_reader.specs.Trace.{IsBytes}
-use Rattle.trace_maker.specs.declared.op.Op.{Op}
+use Rattle.trace_maker.specs.declared.operation.Operation.{Operation}
 use Rattle.trace_maker.specs.Made.{IsWriteBy, IsSuperblockWrite, IsPlaceOf, IsDataOf, data_of, IsCommitOf}
 use Rattle.trace_maker.specs.Writes.{HasMore, IsWriteOf}
 use Rattle.volume_maker.specs.Volume.{Standing}
@@ -72,7 +72,7 @@ pub whole_superblock : (at : ℕ) (bytes : List ℕ) → at ≡ 65536 → length
 whole_superblock at bytes e n h = (refl, e, n, (omega arith, omega arith, (omega arith, omega arith), h))
 
 -- the writes of a commit, put together
-pub whole_commit : (k : ℕ) (standing : Standing) (op : Op) (sector : ℕ) (data_writes front events : List Event) (last : Event)
+pub whole_commit : (k : ℕ) (standing : Standing) (op : Operation) (sector : ℕ) (data_writes front events : List Event) (last : Event)
     → IsPlaceOf op standing sector → IsDataOf k op sector data_writes → All (IsWriteBy 1) data_writes
     → (g : ℕ) (blocks : List BlockAt) (mid : List Event) → HasMore g blocks 0 data_writes mid → HasMore g blocks 8388608 mid front
     → events ≡ front ++ last ∷ [] → IsSuperblockWrite last → IsCommitOf k standing op events
@@ -95,7 +95,7 @@ if_made P (Ok b) s e h = subst P (sym e) h
 if_made P (Err x) s e h = tt
 
 -- the writes of data, where there is some
-pub some_data : (k sector : ℕ) (op : Op) (events : List Event) (write : Event) → events ≡ write ∷ [] → write ≡ Write 1 (22020096 + 4096 * sector) (data_of k op) → IsDataOf k op sector events
+pub some_data : (k sector : ℕ) (op : Operation) (events : List Event) (write : Event) → events ≡ write ∷ [] → write ≡ Write 1 (22020096 + 4096 * sector) (data_of k op) → IsDataOf k op sector events
 some_data k sector op events write e h = inr (e ∙ ap (λ (w : Event). w ∷ []) h)
 
 leaf_stands : (t : Tree) (leaf : Block) → Contains t.leaves.items leaf → Contains (blocks_of t) leaf.at

@@ -1,48 +1,51 @@
 -- A trace as it goes out.
-use Rattle.std.proofs.Common.{◌≡◌, ℕ, ◌+◌, ◌<◌, List, [], ◌∷◌, ◌++◌, length, get_or, take, drop, Option, Some, None, Result, Ok, Err, OnOk, OnErr, refl, sym, ap, ◌∙◌, subst, append_assoc, append-nil, arith}
+use Rattle.std.proofs.Common.{◌≡◌, ℕ, ◌+◌, ◌-◌, ◌<◌, ◌≤◌, inr, List, [], ◌∷◌, ◌++◌, length, get_or, take, drop, Option, Some, None, Result, Ok, Err, OnOk, OnErr, refl, sym, ap, ◌∙◌, subst, append_assoc, append-nil, length-append, arith}
 use Rattle.std.specs.List.{All, count_by}
 use Rattle.std.proofs.lemmas.List.{take_all, length-take-le, take-append-drop, take_more}
 use Rattle.std.proofs.lemmas.List.Elements.{All-nil, All-append}
 use Rattle.verdict.specs.declared.machine.Event.{Event}
 use Rattle.recon_disk.specs.Outside.{MayBeAppended}
 use Rattle.trace_reader.specs.Trace.{IsSpelled, header_bytes, spelling_of, spelling_of_all}
-use Rattle.trace_maker.specs.declared.op.Op.{Op}
+use Rattle.trace_maker.specs.declared.operation.Operation.{Operation}
 use Rattle.trace_maker.specs.Plan.{plan_of}
-use Rattle.trace_maker.specs.Made.{Gained, IsFront, IsMade, IsCommitOf, AreCommits, is_commit, carried_out}
+use Rattle.trace_maker.specs.Made.{most_records, Gained, IsFront, IsMade, IsCommitOf, AreCommits, is_commit, carried_out}
 use Rattle.volume_maker.specs.Volume.{Standing, nothing_stands}
 use Rattle.trace_maker.proofs.Commits.{standing_after, standing_more, counts_append, spelled_commit, one_commit, spelling_append, commits_more}
 use Rattle.trace_maker.proofs.Sinking.{and_then, and_nothing, and_then_both, whole_appended, more_appended, later_appended, front_gained}
 
--- The header and the records of the commits of the first i operations are gained.
-pub record SoFar (ops : List Op) (i : ℕ) (standing : Standing) (kept now : Option (List ℕ)) : Type 0 where
+-- The header and the records of the commits of the first i operations are gained, and the trace has room for so many more.
+pub record SoFar (ops : List Operation) (i : ℕ) (room : ℕ) (standing : Standing) (kept now : Option (List ℕ)) : Type 0 where
   pub events : List Event
   pub stands : standing ≡ standing_after 1 (take i ops) nothing_stands
   pub lawful : All IsSpelled events
   pub planned : AreCommits 1 nothing_stands (take i ops) events
   pub counted : count_by is_commit events ≡ i
+  pub few : length events + room ≤ most_records
   pub gained : now ≡ and_then kept (header_bytes ++ spelling_of_all events)
 
-pub start : (ops : List Op) (standing : Standing) (kept now : Option (List ℕ)) → standing ≡ nothing_stands → now ≡ and_then kept header_bytes
-    → SoFar ops 0 standing kept now
+pub start : (ops : List Operation) (standing : Standing) (kept now : Option (List ℕ)) → standing ≡ nothing_stands → now ≡ and_then kept header_bytes
+    → SoFar ops 0 most_records standing kept now
 start ops standing kept now s e = record {
   events = [];
   stands = s;
   lawful = All-nil IsSpelled;
   planned = refl;
   counted = refl;
+  few = omega arith;
   gained = e;
 }
 
-pub more : (ops : List Op) (i : ℕ) (op : Op) (now : List Event) (standing later : Standing) (kept mid after : Option (List ℕ)) → SoFar ops i standing kept mid
+pub more : (ops : List Operation) (i room left : ℕ) (op : Operation) (now : List Event) (standing later : Standing) (kept mid after : Option (List ℕ)) → SoFar ops i room standing kept mid
+    → length now ≤ room → left ≡ room - length now
     → i < length ops → take (i + 1) ops ≡ take i ops ++ op ∷ [] → IsCommitOf (i + 1) standing op now → later ≡ carried_out (i + 1) op standing
-    → after ≡ and_then mid (spelling_of_all now) → SoFar ops (i + 1) later kept after
-more ops i op now standing later kept mid after s h t c l e =
+    → after ≡ and_then mid (spelling_of_all now) → SoFar ops (i + 1) left later kept after
+more ops i room left op now standing later kept mid after s fits rest h t c l e =
     let before = standing_after 1 (take i ops) nothing_stands in
     let size : length (take i ops) ≡ i = length-take-le i ops (omega arith) in
     let number : i + 1 ≡ 1 + length (take i ops) = omega arith in
     let P : ℕ → Type 0 = λ n. IsCommitOf n before op now in
     let R : Standing → Type 0 = λ x. IsCommitOf (i + 1) x op now in
-    let Q : List Op → Type 0 = λ l. AreCommits 1 nothing_stands l (s.events ++ now) in
+    let Q : List Operation → Type 0 = λ l. AreCommits 1 nothing_stands l (s.events ++ now) in
     let one = one_commit (i + 1) standing op now c in
     record {
       events = s.events ++ now;
@@ -51,6 +54,7 @@ more ops i op now standing later kept mid after s h t c l e =
       lawful = All-append IsSpelled s.events now s.lawful (spelled_commit (i + 1) standing op now c);
       planned = subst Q (sym t) (commits_more 1 nothing_stands (take i ops) op s.events now s.planned (subst P number (subst R s.stands c)));
       counted = counts_append s.events now ∙ omega (arith, s.counted);
+      few = omega (arith, s.few, length-append s.events now);
       gained =
           and_then_both kept mid after (header_bytes ++ spelling_of_all s.events) (spelling_of_all now) s.gained e
           ∙ ap (λ (b : List ℕ). and_then kept b) (append_assoc header_bytes (spelling_of_all s.events) (spelling_of_all now)
@@ -58,9 +62,9 @@ more ops i op now standing later kept mid after s h t c l e =
     }
 
 -- the sink failed, or memory was wanting, with a front of the records of this commit gained
-pub failed : (ops : List Op) (i : ℕ) (op : Op) (now : List Event) (standing : Standing) (kept mid after : Option (List ℕ)) → SoFar ops i standing kept mid
+pub failed : (ops : List Operation) (i room : ℕ) (op : Operation) (now : List Event) (standing : Standing) (kept mid after : Option (List ℕ)) → SoFar ops i room standing kept mid
     → IsCommitOf (i + 1) standing op now → MayBeAppended mid (spelling_of_all now) after → Gained IsFront kept after
-failed ops i op now standing kept mid after s c m =
+failed ops i room op now standing kept mid after s c m =
     let all = header_bytes ++ spelling_of_all s.events in
     let P : List ℕ → Type 0 = λ b. MayBeAppended kept b after in
     front_gained kept after (s.events ++ now) (All-append IsSpelled s.events now s.lawful (spelled_commit (i + 1) standing op now c))
@@ -70,13 +74,13 @@ failed ops i op now standing kept mid after s c m =
     (later_appended kept mid after all (spelling_of_all now) s.gained m)))
 
 -- memory was wanting before the next commit
-pub stopped : (ops : List Op) (i : ℕ) (standing : Standing) (kept now : Option (List ℕ)) → SoFar ops i standing kept now → Gained IsFront kept now
-stopped ops i standing kept now s =
+pub stopped : (ops : List Operation) (i room : ℕ) (standing : Standing) (kept now : Option (List ℕ)) → SoFar ops i room standing kept now → Gained IsFront kept now
+stopped ops i room standing kept now s =
     front_gained kept now s.events s.lawful (more_appended kept now (header_bytes ++ spelling_of_all s.events) (255 ∷ []) (whole_appended kept now (header_bytes ++ spelling_of_all s.events) s.gained))
 
 -- the sink failed at the end tag
-pub cut : (ops : List Op) (i : ℕ) (standing : Standing) (kept mid after : Option (List ℕ)) → SoFar ops i standing kept mid → MayBeAppended mid (255 ∷ []) after → Gained IsFront kept after
-cut ops i standing kept mid after s m =
+pub cut : (ops : List Operation) (i room : ℕ) (standing : Standing) (kept mid after : Option (List ℕ)) → SoFar ops i room standing kept mid → MayBeAppended mid (255 ∷ []) after → Gained IsFront kept after
+cut ops i room standing kept mid after s m =
     front_gained kept after s.events s.lawful (later_appended kept mid after (header_bytes ++ spelling_of_all s.events) (255 ∷ []) s.gained m)
 
 -- nothing is gained
@@ -90,23 +94,30 @@ header_cut kept after m =
     front_gained kept after [] (All-nil IsSpelled) (more_appended kept after header_bytes (255 ∷ []) m)
 
 gains_made : (seed commits : ℕ) (events : List Event) (kept after : Option (List ℕ)) → All IsSpelled events
-    → AreCommits 1 nothing_stands (plan_of seed commits) events → count_by is_commit events ≡ commits
+    → AreCommits 1 nothing_stands (plan_of seed commits) events → count_by is_commit events ≡ commits → length events ≤ most_records
     → after ≡ and_then kept (header_bytes ++ spelling_of_all events ++ 255 ∷ []) → Gained (IsMade seed commits) kept after
-gains_made seed commits events None after lawful planned counted e = e
-gains_made seed commits events (Some k) after lawful planned counted e = (
+gains_made seed commits events None after lawful planned counted few e = e
+gains_made seed commits events (Some k) after lawful planned counted few e = (
   header_bytes ++ spelling_of_all events ++ 255 ∷ [],
   e,
-  record { events = events; spelled = refl; lawful = lawful; planned = planned; counted = counted },
+  record {
+    events = events;
+    trace = inr (refl, record { rest = 255 ∷ []; spelled = refl; lawful = lawful; few = omega (arith, few); ends = refl });
+    spelled = refl;
+    lawful = lawful;
+    planned = planned;
+    counted = counted;
+  },
 )
 
 -- the whole trace is gained
-pub ended : (seed commits : ℕ) (ops : List Op) (i : ℕ) (standing : Standing) (kept mid after : Option (List ℕ)) → SoFar ops i standing kept mid
+pub ended : (seed commits : ℕ) (ops : List Operation) (i room : ℕ) (standing : Standing) (kept mid after : Option (List ℕ)) → SoFar ops i room standing kept mid
     → ops ≡ plan_of seed commits → length ops ≡ commits → i ≡ commits → after ≡ and_then mid (255 ∷ []) → Gained (IsMade seed commits) kept after
-ended seed commits ops i standing kept mid after s e n h f =
-    let P : List Op → Type 0 = λ l. AreCommits 1 nothing_stands l s.events in
+ended seed commits ops i room standing kept mid after s e n h f =
+    let P : List Operation → Type 0 = λ l. AreCommits 1 nothing_stands l s.events in
     gains_made seed commits s.events kept after s.lawful
     (subst P (take_all i ops (omega arith) ∙ e) s.planned)
-    (s.counted ∙ h)
+    (s.counted ∙ h) (omega (arith, s.few))
     (and_then_both kept mid after (header_bytes ++ spelling_of_all s.events) (255 ∷ []) s.gained f)
 
 spelling_more : (es : List Event) (i : ℕ) (e : Event) → i < length es → e ≡ get_or es i e

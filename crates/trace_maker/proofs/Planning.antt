@@ -1,6 +1,6 @@
 -- A plan, one commit after the other.
 use Rattle.std.proofs.Common.{◌≡◌, ℕ, zero, suc, ◌+◌, ◌-◌, ◌<◌, List, [], ◌∷◌, ◌++◌, length, refl, sym, ◌∙◌, subst, append_assoc, append-nil, arith}
-use Rattle.trace_maker.specs.declared.op.Op.{Op}
+use Rattle.trace_maker.specs.declared.operation.Operation.{Operation}
 use Rattle.trace_maker.specs.Plan.{Planned, plan_commit, plan_from}
 
 -- the operation of the next commit stands in front of those behind it
@@ -9,7 +9,7 @@ unfolding plan_from
 next_plan n m k p e = rw e refl
 
 -- one more operation of the plan
-pub plan_more : (ops : List Op) (op : Op) (after p : Planned) (commits before : ℕ) (whole : List Op) → before < commits
+pub plan_more : (ops : List Operation) (op : Operation) (after p : Planned) (commits before : ℕ) (whole : List Operation) → before < commits
     → op ≡ (plan_commit (before + 1) p).0 → after ≡ (plan_commit (before + 1) p).1
     → ops ++ plan_from (commits - before) (before + 1) p ≡ whole
     → (ops ++ op ∷ []) ++ plan_from (commits - (before + 1)) ((before + 1) + 1) after ≡ whole
@@ -19,7 +19,7 @@ plan_more ops op after p commits before whole h e f told =
     rw append_assoc (rw (e, f) (rw (← next) told))
 
 -- no commit is left
-pub plan_done : (ops whole : List Op) (n k : ℕ) (p : Planned) → n ≡ 0 → ops ++ plan_from n k p ≡ whole → ops ≡ whole
+pub plan_done : (ops whole : List Operation) (n k : ℕ) (p : Planned) → n ≡ 0 → ops ++ plan_from n k p ≡ whole → ops ≡ whole
 unfolding plan_from
 plan_done ops whole n k p e told =
     let P : ℕ → Type 0 = λ m. ops ++ plan_from m k p ≡ whole in

@@ -6,7 +6,7 @@ mod draw;
 mod fault;
 mod make;
 mod maker;
-mod op;
+mod operation;
 mod planner;
 mod record;
 mod workload;
@@ -14,7 +14,7 @@ mod writes;
 
 pub use fault::MakeFault;
 pub use make::make_trace;
-pub use op::Op;
+pub use operation::Operation;
 pub use workload::plan;
 
 #[cfg(test)]

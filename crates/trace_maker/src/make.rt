@@ -18,6 +18,9 @@ use verdict::Event;
 /// The header of a trace: its name, the version 1, and a zero.
 const HEADER: &[u8; 16] = b"RECONTRC\x01\0\0\0\0\0\0\0";
 
+/// The most records that a trace has before its end tag.
+const RECORDS_MAX: u64 = 4_294_967_296;
+
 /// The end tag.
 const END_TAG: &[u8; 1] = b"\xff";
 
@@ -71,11 +74,17 @@ pub fn make_trace<K: Sink>(
     };
     put(out, HEADER)?;
     let mut k = 0u32;
+    let mut room = RECORDS_MAX;
     for op in &ops {
         k += 1;
         let Ok(events) = maker.commit(k, op) else {
             return Err(MakeFault::NoMemory);
         };
+        let records = events.len() as u64;
+        if records > room {
+            return Err(MakeFault::NoMemory);
+        }
+        room -= records;
         put_all(alloc, out, &events)?;
     }
     put(out, END_TAG)

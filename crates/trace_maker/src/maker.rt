@@ -8,7 +8,7 @@ ghost use Rattle.trace_maker.specs.Writes.{HasMore};
 ghost use Rattle.volume_maker.specs.Live.{all_blocks, AreInChunk, IsUpTo};
 ghost use Rattle.volume_maker.specs.Volume.{nothing_stands};
 
-use crate::op::Op;
+use crate::operation::Operation;
 use crate::writes::{add_tree, data_writes, superblock_write};
 use std::alloc::Global;
 use verdict::{Event, NoMemory};
@@ -37,30 +37,30 @@ impl Maker {
     }
 
     // Carries out the operation of commit k, and answers the first sector of its data, 0 where it has none.
-    fn carry_out(&mut self, k: u32, op: &Op) -> Result<u16, NoMemory>
+    fn carry_out(&mut self, k: u32, op: &Operation) -> Result<u16, NoMemory>
         ensures place { IfOk result (IsPlaceOf op.now self.old.volume) }
         ensures volume { OnOk result (self.new.volume ≡ carried_out k op.now self.old.volume) }
         ensures trees { self.new.trees ≡ self.old.trees }
     {
         match *op {
-            Op::Subvolume { id } => self.volume.add_subvolume(k, id)?,
-            Op::Directory { .. } => self.volume.add_directory(k)?,
-            Op::File { dir, .. } => self.volume.add_file(k, dir)?,
-            Op::Filled {
+            Operation::Subvolume { id } => self.volume.add_subvolume(k, id)?,
+            Operation::Directory { .. } => self.volume.add_directory(k)?,
+            Operation::File { dir, .. } => self.volume.add_file(k, dir)?,
+            Operation::Filled {
                 dir,
                 sectors,
                 sort,
                 ..
             } => return self.volume.fill(k, dir, sectors, sort),
-            Op::Shared { dir, of, .. } => self.volume.share(k, dir, of)?,
-            Op::Removed { ino } => self.volume.remove(ino),
+            Operation::Shared { dir, of, .. } => self.volume.share(k, dir, of)?,
+            Operation::Removed { ino } => self.volume.remove(ino),
         }
         Ok(0)
     }
 
     /// Carries out the operation of commit k, and gives the commit's writes, none of which reaches a tree block that is
     /// live before it.
-    pub fn commit(&mut self, k: u32, op: &Op) -> Result<Vec<Event>, NoMemory>
+    pub fn commit(&mut self, k: u32, op: &Operation) -> Result<Vec<Event>, NoMemory>
         requires in_chunk { AreInChunk (all_blocks self.old.trees) }
         requires up_to { IsUpTo k (all_blocks self.old.trees) }
         ensures made { IfOk result (λ events. IsCommitOf k self.old.volume op.now events.items) }

@@ -4,7 +4,7 @@ ghost use Rattle.std.specs.Prelude.{◌≡◌, ◌+◌, ◌<◌, ◌^◌, ◌≤
 ghost use Rattle.trace_maker.specs.Plan.{Planned, first_planned, after_draw, pick, picked_directory, with_file, plan_file, plan_filled, plan_shared, plan_removed, plan_subvolume, plan_directory, plan_commit, sharers};
 
 use crate::draw::draw;
-use crate::op::Op;
+use crate::operation::Operation;
 use std::alloc::Global;
 use std::marker::Model;
 use verdict::NoMemory;
@@ -99,7 +99,7 @@ impl Planner {
     }
 
     // Commit k makes an empty file.
-    fn file(&mut self, k: u32) -> Result<Op, NoMemory>
+    fn file(&mut self, k: u32) -> Result<Operation, NoMemory>
         requires { 0 < length self.old.directories }
         ensures op { IfOk result (λ op. op ≡ (plan_file k self.old).0) }
         ensures after { OnOk result (self.new ≡ (plan_file k self.old).1) }
@@ -107,11 +107,11 @@ impl Planner {
         let ino = 256 + u64::from(k);
         let dir = self.pick_directory();
         self.list(ino, false)?;
-        Ok(Op::File { ino, dir })
+        Ok(Operation::File { ino, dir })
     }
 
     // Commit k makes a file with data of a sort.
-    fn filled(&mut self, sort: u8, k: u32) -> Result<Op, NoMemory>
+    fn filled(&mut self, sort: u8, k: u32) -> Result<Operation, NoMemory>
         requires { 0 < length self.old.directories }
         ensures op { IfOk result (λ op. op ≡ (plan_filled sort k self.old).0) }
         ensures after { OnOk result (self.new ≡ (plan_filled sort k self.old).1) }
@@ -119,7 +119,7 @@ impl Planner {
         let ino = 256 + u64::from(k);
         let (dir, sectors) = (self.pick_directory(), 1 + self.pick(8) as u8);
         self.list(ino, sort == 3)?;
-        Ok(Op::Filled {
+        Ok(Operation::Filled {
             ino,
             dir,
             sectors,
@@ -128,7 +128,7 @@ impl Planner {
     }
 
     // Commit k makes a file that shares an extent.
-    fn shared(&mut self, k: u32) -> Result<Op, NoMemory>
+    fn shared(&mut self, k: u32) -> Result<Operation, NoMemory>
         requires { 0 < length self.old.directories }
         ensures op { IfOk result (λ op. op ≡ (plan_shared k self.old).0) }
         ensures after { OnOk result (self.new ≡ (plan_shared k self.old).1) }
@@ -141,7 +141,7 @@ impl Planner {
         let dir = self.pick_directory();
         let place = self.pick(others.len() as u64);
         self.list(ino, true)?;
-        Ok(Op::Shared {
+        Ok(Operation::Shared {
             ino,
             dir,
             of: others[place as usize],
@@ -149,7 +149,7 @@ impl Planner {
     }
 
     // Commit k removes a file.
-    fn removed(&mut self, k: u32) -> Result<Op, NoMemory>
+    fn removed(&mut self, k: u32) -> Result<Operation, NoMemory>
         requires { 0 < length self.old.directories }
         ensures op { IfOk result (λ op. op ≡ (plan_removed k self.old).0) }
         ensures after { OnOk result (self.new ≡ (plan_removed k self.old).1) }
@@ -160,32 +160,32 @@ impl Planner {
         let count = self.files.len() as u64;
         let place = self.pick(count);
         let file = self.files.remove(place as usize);
-        Ok(Op::Removed { ino: file.ino })
+        Ok(Operation::Removed { ino: file.ino })
     }
 
     // Commit k makes a subvolume.
-    fn subvolume(&mut self) -> Op
+    fn subvolume(&mut self) -> Operation
         requires { self.old.subvolumes < 2 ^ 32 }
         ensures op { result ≡ (plan_subvolume self.old).0 }
         ensures after { self.new ≡ (plan_subvolume self.old).1 }
     {
         let id = 256 + self.subvolumes;
         self.subvolumes += 1;
-        Op::Subvolume { id }
+        Operation::Subvolume { id }
     }
 
     // Commit k makes a directory.
-    fn directory(&mut self, k: u32) -> Result<Op, NoMemory>
+    fn directory(&mut self, k: u32) -> Result<Operation, NoMemory>
         ensures op { IfOk result (λ op. op ≡ (plan_directory k self.old).0) }
         ensures after { OnOk result (self.new ≡ (plan_directory k self.old).1) }
     {
         let ino = 256 + u64::from(k);
         self.directories.push(ino).map_err(|_| NoMemory)?;
-        Ok(Op::Directory { ino })
+        Ok(Operation::Directory { ino })
     }
 
     /// The operation of commit k. Fewer subvolumes than k were made before.
-    pub fn commit(&mut self, k: u32) -> Result<Op, NoMemory>
+    pub fn commit(&mut self, k: u32) -> Result<Operation, NoMemory>
         requires some { 0 < length self.old.directories }
         requires few { self.old.subvolumes < k }
         ensures op { IfOk result (λ op. op ≡ (plan_commit k self.old).0) }

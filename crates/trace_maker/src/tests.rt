@@ -28,41 +28,44 @@ fn the_first_draws_are_those_of_the_generator(rt: HostRuntime) -> Result<(), Fai
 #[test]
 fn a_file_is_made_and_removed(rt: HostRuntime) -> Result<(), Fail> {
     let ops = plan(rt.alloc(), 0, 2)?;
-    let want = [Op::File { ino: 257, dir: 256 }, Op::Removed { ino: 257 }];
+    let want = [
+        Operation::File { ino: 257, dir: 256 },
+        Operation::Removed { ino: 257 },
+    ];
     assert_eq!(rt; ops.as_slice(), want.as_slice());
     Ok(())
 }
 
 // The first operations of the plan of seed 7.
-const SEVEN: &[Op] = &[
-    Op::File { ino: 257, dir: 256 },
-    Op::File { ino: 258, dir: 256 },
-    Op::File { ino: 259, dir: 256 },
-    Op::File { ino: 260, dir: 256 },
-    Op::Directory { ino: 261 },
-    Op::Directory { ino: 262 },
-    Op::Filled {
+const SEVEN: &[Operation] = &[
+    Operation::File { ino: 257, dir: 256 },
+    Operation::File { ino: 258, dir: 256 },
+    Operation::File { ino: 259, dir: 256 },
+    Operation::File { ino: 260, dir: 256 },
+    Operation::Directory { ino: 261 },
+    Operation::Directory { ino: 262 },
+    Operation::Filled {
         ino: 263,
         dir: 261,
         sectors: 7,
         sort: 3,
     },
-    Op::Subvolume { id: 256 },
-    Op::Shared {
+    Operation::Subvolume { id: 256 },
+    Operation::Shared {
         ino: 265,
         dir: 256,
         of: 263,
     },
-    Op::Removed { ino: 265 },
-    Op::Subvolume { id: 257 },
-    Op::Removed { ino: 263 },
-    Op::Filled {
+    Operation::Removed { ino: 265 },
+    Operation::Subvolume { id: 257 },
+    Operation::Removed { ino: 263 },
+    Operation::Filled {
         ino: 269,
         dir: 261,
         sectors: 1,
         sort: 5,
     },
-    Op::Directory { ino: 270 },
+    Operation::Directory { ino: 270 },
 ];
 
 #[test]

@@ -9,7 +9,7 @@ ghost use Rattle.volume_maker.specs.Live.{blocks_of};
 ghost use Rattle.verdict.specs.Events.{begin_of, length_of};
 ghost use Rattle.verdict.specs.declared.machine.Event.TheVariants.{Write};
 
-use crate::op::Op;
+use crate::operation::Operation;
 use image_maker::{superblock_of, with_checksum};
 use recon_bytes::put_u64;
 use std::alloc::Global;
@@ -17,16 +17,16 @@ use verdict::{Bytes, Event, NoMemory, SUPERBLOCK_AT};
 use volume_maker::{Block, Tree, block_address, sector_place};
 
 // How many sectors of data an operation writes.
-fn sectors_of(op: &Op) -> u8
+fn sectors_of(op: &Operation) -> u8
     ensures { result ≡ sectors_of op.now }
 {
     match op {
-        Op::Filled { sectors, .. } => *sectors,
-        Op::Subvolume { .. } => 0,
-        Op::Directory { .. } => 0,
-        Op::File { .. } => 0,
-        Op::Shared { .. } => 0,
-        Op::Removed { .. } => 0,
+        Operation::Filled { sectors, .. } => *sectors,
+        Operation::Subvolume { .. } => 0,
+        Operation::Directory { .. } => 0,
+        Operation::File { .. } => 0,
+        Operation::Shared { .. } => 0,
+        Operation::Removed { .. } => 0,
     }
 }
 
@@ -48,7 +48,12 @@ fn data_write(alloc: Global, k: u32, sectors: u8, sector: u16) -> Result<Event, 
 }
 
 /// The writes of the data of the operation of commit k, of which the first sector stands in this place.
-pub fn data_writes(alloc: Global, k: u32, op: &Op, sector: u16) -> Result<Vec<Event>, NoMemory>
+pub fn data_writes(
+    alloc: Global,
+    k: u32,
+    op: &Operation,
+    sector: u16,
+) -> Result<Vec<Event>, NoMemory>
     ensures data { IfOk result (λ events. IsDataOf k op.now sector events.items) }
     ensures lawful { IfOk result (λ events. All (IsWriteBy 1) events.items) }
     // The data chunk stands behind all tree blocks.

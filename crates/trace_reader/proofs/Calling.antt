@@ -41,6 +41,7 @@ fails s new bytes rest after NoMemory e parts told =
     let t = told.1 in (
       took_less s bytes rest t.taken new.number after parts e t.takes (refl, inr (told.0, cut_before rest after t)),
       record {
+        room = told.0;
         record_front = t.taken;
         rest = t.takes.rest;
         taken = parts ∙ ap (λ (r : List ℕ). front_of s ++ r) t.takes.parts;

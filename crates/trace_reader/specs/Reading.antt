@@ -72,8 +72,10 @@ pub record TakesLess (s : ReaderState) (bytes : List ℕ) (k : ℕ) (after : Opt
   pub left : after ≡ Some rest
   pub cut : MeetsEnding s taken (Fault Truncated k)
 
--- what was taken is a write's record up to its bytes, whose length is one that a write may have
+-- what was taken is a write's record up to its bytes, whose length is one that a write may have, and fewer records than
+-- the limit stand before it
 pub record TakesLength (s : ReaderState) (bytes : List ℕ) : Type 0 where
+  pub room : s.whole < s.limit
   pub record_front : List ℕ
   pub rest : List ℕ
   pub taken : bytes ≡ front_of s ++ (record_front ++ rest)

@@ -21,9 +21,9 @@ end_of (Write submitter at bytes) = at + length bytes
 end_of Settle = 0
 end_of (Fetch at len) = at + len
 
--- whether a range of so many bytes meets the superblock place, bytes 65536 to 69631
+-- whether a range of so many bytes has one of the superblock place, bytes 65536 to 69631; a range of none has none
 abbrev pub meets_superblock : ℕ → ℕ → Bool
-meets_superblock at len = nat_lt at 69632 && nat_lt 65536 (at + len)
+meets_superblock at len = nat_lt 0 len && nat_lt at 69632 && nat_lt 65536 (at + len)
 
 -- the sizes that an event may have
 abbrev pub IsSized : Event → Type 0

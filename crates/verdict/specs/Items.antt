@@ -2,6 +2,7 @@
 use Rattle.std.specs.Prelude.{ℕ, ◌+◌, ◌%◌, Bool, not, false, ◌&&◌, ◌||◌, ◌==◌, nat_lt, nat_le}
 use Rattle.verdict.specs.Rules.{TableRow}
 use Rattle.verdict.specs.declared.key.Key.{Key}
+use Rattle.verdict.specs.declared.kinds.TheConstants.{INODE_ITEM, INODE_REF, INODE_EXTREF, XATTR_ITEM, ORPHAN_ITEM, DIR_ITEM, DIR_INDEX, EXTENT_DATA, EXTENT_CSUM, ROOT_ITEM, ROOT_BACKREF, ROOT_REF, EXTENT_ITEM, METADATA_ITEM, TREE_BLOCK_REF, EXTENT_DATA_REF, SHARED_BLOCK_REF, SHARED_DATA_REF, BLOCK_GROUP_ITEM, DEV_EXTENT, DEV_ITEM, CHUNK_ITEM}
 use Rattle.verdict.specs.declared.finding.Finding.{Finding}
 use Rattle.verdict.specs.declared.finding.Family.{Family}
 use Rattle.verdict.specs.declared.finding.Family.TheVariants.{U}
@@ -39,20 +40,24 @@ is_free_id id = nat_le 256 id && nat_le id 18446744073709551360
 abbrev pub orphan_objectid : ℕ
 orphan_objectid = 18446744073709551611
 
--- the kinds of items that are read in a tree of a sort; in a tree of files 48 is the orphan item
+-- the kinds of items that are read in a tree of a sort; the orphan item is one of a tree of files
 abbrev pub is_kind_of : TreeSort → ℕ → Bool
-is_kind_of Root kind = kind == 132 || kind == 144 || kind == 156
-is_kind_of Extent kind = kind == 168 || kind == 169 || kind == 176 || kind == 178 || kind == 182 || kind == 184 || kind == 192
-is_kind_of Chunk kind = kind == 216 || kind == 228
-is_kind_of Device kind = kind == 204
-is_kind_of File kind = kind == 1 || kind == 12 || kind == 13 || kind == 24 || kind == 48 || kind == 84 || kind == 96 || kind == 108
-is_kind_of Sums kind = kind == 128
-is_kind_of Groups kind = kind == 192
+is_kind_of Root kind = kind == ROOT_ITEM || kind == ROOT_BACKREF || kind == ROOT_REF
+is_kind_of Extent kind =
+    kind == EXTENT_ITEM || kind == METADATA_ITEM || kind == TREE_BLOCK_REF || kind == EXTENT_DATA_REF
+    || kind == SHARED_BLOCK_REF || kind == SHARED_DATA_REF || kind == BLOCK_GROUP_ITEM
+is_kind_of Chunk kind = kind == DEV_ITEM || kind == CHUNK_ITEM
+is_kind_of Device kind = kind == DEV_EXTENT
+is_kind_of File kind =
+    kind == INODE_ITEM || kind == INODE_REF || kind == INODE_EXTREF || kind == XATTR_ITEM
+    || kind == ORPHAN_ITEM || kind == DIR_ITEM || kind == DIR_INDEX || kind == EXTENT_DATA
+is_kind_of Sums kind = kind == EXTENT_CSUM
+is_kind_of Groups kind = kind == BLOCK_GROUP_ITEM
 is_kind_of Unread kind = false
 
 -- whether an item may have this objectid in a tree of files: that of a file or directory, and in an orphan item also -5
 abbrev pub is_file_objectid : Key → Bool
-is_file_objectid key = is_free_id key.objectid || (key.kind == 48 && key.objectid == orphan_objectid)
+is_file_objectid key = is_free_id key.objectid || (key.kind == ORPHAN_ITEM && key.objectid == orphan_objectid)
 
 -- whether a tree of a sort lists the item with this key
 abbrev pub is_listed : TreeSort → Key → Bool

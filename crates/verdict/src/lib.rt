@@ -4,6 +4,7 @@
 mod bytes;
 mod finding;
 mod key;
+pub mod kinds;
 mod machine;
 mod place;
 #[cfg(test)]

@@ -49,11 +49,14 @@ impl Event {
     }
 }
 
-/// Whether a range of `len` bytes from the byte `at` of the device on meets the superblock place.
+/// Whether a range of `len` bytes from the byte `at` of the device on has one of the superblock place. A range of no
+/// bytes has none.
 pub fn meets_superblock(at: u64, len: u64) -> bool
     ensures { result ≡ meets_superblock at len }
 {
-    at < SUPERBLOCK_AT + SUPERBLOCK_SIZE && (at > SUPERBLOCK_AT || len > SUPERBLOCK_AT - at)
+    len > 0
+        && at < SUPERBLOCK_AT + SUPERBLOCK_SIZE
+        && (at > SUPERBLOCK_AT || len > SUPERBLOCK_AT - at)
 }
 
 /// A write that waits: where it begins, and its bytes.

@@ -5,6 +5,12 @@ ghost use Rattle.std.specs.Prelude.{◌≡◌};
 ghost use Rattle.verdict.specs.Items.{item_finding, is_file_objectid, is_free_id, is_kind_of, is_listed, is_multiple};
 ghost use Rattle.verdict.specs.Trees.{is_node_size, sort_of};
 
+use crate::kinds::{
+    BLOCK_GROUP_ITEM, CHUNK_ITEM, DEV_EXTENT, DEV_ITEM, DIR_INDEX, DIR_ITEM, EXTENT_CSUM,
+    EXTENT_DATA, EXTENT_DATA_REF, EXTENT_ITEM, INODE_EXTREF, INODE_ITEM, INODE_REF, METADATA_ITEM,
+    ORPHAN_ITEM, ROOT_BACKREF, ROOT_ITEM, ROOT_REF, SHARED_BLOCK_REF, SHARED_DATA_REF,
+    TREE_BLOCK_REF, XATTR_ITEM,
+};
 use crate::{Family, Finding, Key, Rule};
 
 /// The sorts of trees, by the items that they hold.
@@ -49,13 +55,32 @@ impl TreeSort {
         ensures { result ≡ is_kind_of self kind }
     {
         match self {
-            TreeSort::Root => matches!(kind, 132 | 144 | 156),
-            TreeSort::Extent => matches!(kind, 168 | 169 | 176 | 178 | 182 | 184 | 192),
-            TreeSort::Chunk => matches!(kind, 216 | 228),
-            TreeSort::Device => kind == 204,
-            TreeSort::File => matches!(kind, 1 | 12 | 13 | 24 | 48 | 84 | 96 | 108),
-            TreeSort::Sums => kind == 128,
-            TreeSort::Groups => kind == 192,
+            TreeSort::Root => matches!(kind, ROOT_ITEM | ROOT_BACKREF | ROOT_REF),
+            TreeSort::Extent => matches!(
+                kind,
+                EXTENT_ITEM
+                    | METADATA_ITEM
+                    | TREE_BLOCK_REF
+                    | EXTENT_DATA_REF
+                    | SHARED_BLOCK_REF
+                    | SHARED_DATA_REF
+                    | BLOCK_GROUP_ITEM
+            ),
+            TreeSort::Chunk => matches!(kind, DEV_ITEM | CHUNK_ITEM),
+            TreeSort::Device => kind == DEV_EXTENT,
+            TreeSort::File => matches!(
+                kind,
+                INODE_ITEM
+                    | INODE_REF
+                    | INODE_EXTREF
+                    | XATTR_ITEM
+                    | ORPHAN_ITEM
+                    | DIR_ITEM
+                    | DIR_INDEX
+                    | EXTENT_DATA
+            ),
+            TreeSort::Sums => kind == EXTENT_CSUM,
+            TreeSort::Groups => kind == BLOCK_GROUP_ITEM,
             TreeSort::Unread => false,
         }
     }
@@ -76,7 +101,7 @@ impl TreeSort {
 fn has_file_objectid(key: Key) -> bool
     ensures { result ≡ is_file_objectid key }
 {
-    is_free_id(key.objectid) || (key.kind == 48 && key.objectid == ORPHAN_OBJECTID)
+    is_free_id(key.objectid) || (key.kind == ORPHAN_ITEM && key.objectid == ORPHAN_OBJECTID)
 }
 
 /// The objectid -5, which orphan items have.

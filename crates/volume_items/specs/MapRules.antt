@@ -8,6 +8,7 @@ use Rattle.verdict.specs.declared.finding.Family.{Family}
 use Rattle.verdict.specs.declared.finding.Family.TheVariants.{S, M}
 use Rattle.verdict.specs.declared.place.Chunk.{Chunk}
 use Rattle.volume_items.specs.ChunkOrder.{by_start}
+use Rattle.verdict.specs.declared.kinds.TheConstants.{CHUNK_ITEM}
 
 -- a finding on a chunk of the map
 abbrev pub chunk_finding : Family → ℕ → ℕ → ℕ → Finding
@@ -15,7 +16,7 @@ chunk_finding family number start detail = record {
   rule = record { family = family; number = number };
   tree = 3;
   block = 0;
-  key = record { objectid = 256; kind = 228; offset = start };
+  key = record { objectid = 256; kind = CHUNK_ITEM; offset = start };
   detail = detail;
 }
 

@@ -10,6 +10,7 @@ use Rattle.verdict.specs.declared.finding.Family.TheVariants.{S}
 use Rattle.verdict.specs.declared.place.At.{At}
 use Rattle.verdict.specs.declared.place.Chunk.{Chunk}
 use Rattle.volume_items.specs.ChunkRow.{ChunkFields, chunk_row, chunk_of}
+use Rattle.verdict.specs.declared.kinds.TheConstants.{CHUNK_ITEM}
 
 -- how many bytes the chunk item has whose pair stands at a byte of the array, by its number of stripes
 abbrev pub item_size : List ℕ → ℕ → ℕ
@@ -19,7 +20,7 @@ item_size array at = 48 + 32 * field 2 array (at + 61)
 abbrev pub pair_fails : List ℕ → ℕ → ℕ → Bool
 pair_fails array size at =
     nat_lt size (at + 65)
-    || not ((key_of array at).objectid == 256 && (key_of array at).kind == 228)
+    || not ((key_of array at).objectid == 256 && (key_of array at).kind == CHUNK_ITEM)
     || nat_lt size (at + 17 + item_size array at)
 
 -- the chunk of the pair at a byte of the array, or the finding

@@ -7,7 +7,7 @@ use crate::tree::{block_at, items_of, leaves_of, root_of};
 use image_maker::{BASE_LENGTH, LeafItem, base_image};
 use std::alloc::{AllocError, Global};
 use std::test::Fail;
-use trace_maker::{Op, plan};
+use trace_maker::{Operation, plan};
 
 // How many commits are replayed.
 const COMMITS: u32 = 200;
@@ -51,25 +51,25 @@ fn size_of(files: &Files, ino: u64) -> u64 {
 }
 
 // What an operation leaves.
-fn carry_out(files: &mut Files, op: &Op) -> Result<(), AllocError> {
+fn carry_out(files: &mut Files, op: &Operation) -> Result<(), AllocError> {
     match *op {
-        Op::Subvolume { id } => {
+        Operation::Subvolume { id } => {
             files.subvolumes.push(id)?;
             Ok(())
         }
-        Op::Directory { ino } => put_inode(files, ino, 256, true, 0),
-        Op::File { ino, dir } => put_inode(files, ino, dir, false, 0),
-        Op::Filled {
+        Operation::Directory { ino } => put_inode(files, ino, 256, true, 0),
+        Operation::File { ino, dir } => put_inode(files, ino, dir, false, 0),
+        Operation::Filled {
             ino,
             dir,
             sectors,
             ..
         } => put_inode(files, ino, dir, false, u64::from(sectors) * 4096),
-        Op::Shared { ino, dir, of } => {
+        Operation::Shared { ino, dir, of } => {
             let size = size_of(files, of);
             put_inode(files, ino, dir, false, size)
         }
-        Op::Removed { ino } => {
+        Operation::Removed { ino } => {
             files.inodes.retain(|inode| inode.0 != ino);
             files.names.retain(|name| name.0 != ino);
             Ok(())
@@ -112,7 +112,7 @@ fn files_in(alloc: Global, image: &[u8]) -> Result<Files, Fail> {
 }
 
 // The files that a plan leaves, behind the top directory.
-fn planned(alloc: Global, ops: &[Op]) -> Result<Files, AllocError> {
+fn planned(alloc: Global, ops: &[Operation]) -> Result<Files, AllocError> {
     let mut files = no_files(alloc);
     put_inode(&mut files, 256, 256, true, 0)?;
     for op in ops {

@@ -1,16 +1,16 @@
 use Rattle.std.proofs.Common.{◌∙◌, subst}
 use Rattle.recon_disk.specs.Outside.{HasCause}
-use Rattle.recon_core.proofs.Told.{if_err, if_ok}
+use Rattle.recon_disk.proofs.Sending.{if_err, if_ok}
 use Rattle.recon_cli.proofs.Made.{whole_left}
 use Rattle.recon_cli.proofs.making.put_image.Goals as goal
 
 pub returns-clause-device : goal.returns-clause-device
 returns-clause-device g c =
-    let all = c.in_ok-write_image.ensures.device.made in
+    let all = c.in_ok-write_all_at.ensures.device.made in
     record {
       made = if_ok c.flush.result (c.flush.ensures.bytes ∙ all);
-      left = if_err c.flush.result (whole_left (g.D.Disk.bytes c.args.disk.now) (g.D.Disk.bytes c.write_image.new.disk) (g.D.Disk.bytes c.flush.new.self) (g.D.Disk.len c.args.disk.now) c.args.image.now
+      left = if_err c.flush.result (whole_left (g.D.Disk.bytes c.args.disk.now) (g.D.Disk.bytes c.write_all_at.new.disk) (g.D.Disk.bytes c.flush.new.self) (g.D.Disk.len c.args.disk.now) c.args.image.now
           (g.met.D.Disk.told_length c.args.disk.now) c.requires.inside all c.flush.ensures.bytes);
-      len = c.flush.ensures.len ∙ c.write_image.ensures.device.len;
-      cause = subst (λ k. HasCause k (g.D.Disk.faults c.flush.new.self) c.flush.result) c.in_ok-write_image.ensures.device.cause.fine c.flush.ensures.cause;
+      len = c.flush.ensures.len ∙ c.write_all_at.ensures.device.len;
+      cause = subst (λ k. HasCause k (g.D.Disk.faults c.flush.new.self) c.flush.result) c.in_ok-write_all_at.ensures.device.cause.fine c.flush.ensures.cause;
     }

@@ -5,7 +5,11 @@ use Rattle.recon_core.specs.Standing.{IsBelow, first_state}
 use Rattle.recon_core.proofs.Steps.{below_none}
 use Rattle.recon_cli.proofs.Going.{each_ok}
 use Rattle.recon_cli.proofs.Start.{accepted_is, not_found, replays_accepted, printed_at}
+use Rattle.recon_cli.proofs.Handing.{more_lines}
 use Rattle.recon_cli.proofs.replay.replay_over.Goals as goal
+
+pub returns-in-Ok-Ok-clause-lines : goal.returns-in-Ok-Ok-clause-lines
+returns-in-Ok-Ok-clause-lines g c = more_lines c.in_ok-print-in-Ok-Ok.ensures.lines c.take_records.ensures.lines
 
 pub take_records-requires-clause-below : goal.take_records-requires-clause-below
 take_records-requires-clause-below g c = subst (IsBelow c.args.checker.length) (sym c.requires.empty) (below_none c.args.checker.length)

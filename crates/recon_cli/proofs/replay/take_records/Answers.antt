@@ -1,9 +1,22 @@
 use Rattle.std.proofs.Common.{◌≡◌, ◌+◌, ◌++◌, IfSome, refl, sym, arith, ap, ◌∙◌, subst}
 use Rattle.recon_core.specs.Standing.{IsBelow}
 use Rattle.recon_cli.specs.Run.{Turns, record_limit}
-use Rattle.recon_cli.specs.Outcome.{no_tally}
+use Rattle.recon_cli.specs.Outcome.{no_counts}
 use Rattle.recon_cli.proofs.Going.{Going, going_start, going_event, going_end, going_fault, going_past, place_is, place_fits, at_event, at_end, after_is, limit_over, both_ok, each_ok, fault_cause, three_is, event_reads}
+use Rattle.recon_cli.proofs.Handing.{more_lines, no_lines}
 use Rattle.recon_cli.proofs.replay.take_records.Goals as goal
+
+pub returns-in_err-turn-in-Ok-Event-clause-lines : goal.returns-in_err-turn-in-Ok-Event-clause-lines
+returns-in_err-turn-in-Ok-Event-clause-lines g c = more_lines c.records.invariant.lines c.in_err-turn-in-Ok-Event.ensures.lines
+
+pub returns-in-Some-clause-lines : goal.returns-in-Some-clause-lines
+returns-in-Some-clause-lines g c = more_lines c.records.invariant.lines c.in_ok-turn-in-Ok-Event.ensures.lines
+
+pub returns-in-Ok-End-clause-lines : goal.returns-in-Ok-End-clause-lines
+returns-in-Ok-End-clause-lines g c = more_lines c.records.invariant.lines c.print_summary.ensures.lines
+
+pub returns-in-Err-clause-lines : goal.returns-in-Err-clause-lines
+returns-in-Err-clause-lines g c = more_lines c.records.invariant.lines c.print_fault.ensures.lines
 
 pub records-init : goal.records-init
 records-init g c =
@@ -20,8 +33,9 @@ records-init g c =
       disk_faults = refl;
       source_faults = refl;
       sink_faults = refl;
+      lines = no_lines refl;
       going = λ first bytes kept stands image lawful left printed.
-          subst (λ r. Going c.args.style first bytes kept r no_tally c.args.checker.now (g.D.Disk.bytes c.args.lent.now.disk.now) (g.S.Source.left c.args.lent.now.trace.now) (g.K.Sink.kept c.args.lent.now.out.now)) (sym c.new-reader.ensures)
+          subst (λ r. Going c.args.style first bytes kept r no_counts c.args.checker.now (g.D.Disk.bytes c.args.lent.now.disk.now) (g.S.Source.left c.args.lent.now.trace.now) (g.K.Sink.kept c.args.lent.now.out.now)) (sym c.new-reader.ensures)
           (going_start c.args.style first bytes kept c.args.checker.now (g.D.Disk.bytes c.args.lent.now.disk.now) (g.S.Source.left c.args.lent.now.trace.now) (g.K.Sink.kept c.args.lent.now.out.now) stands image lawful left printed);
     }
 
@@ -30,10 +44,10 @@ returns-in-Some-clause-outcome g c first bytes kept stands image lawful left pri
     let going = c.records.invariant.going first bytes kept stands image lawful left printed in
     let next = after_is c.records.reader c.next.new.self c.in-Ok-Event.field-0 c.in-Ok-Event.event c.in-Ok-Event.field-0-is c.in-Ok-Event.ensures.state in
     let at = place_is c.records.reader c.next.new.self c.in-Ok-Event.event c.record_number-place.result next c.record_number-place.ensures.number c.records.invariant.few c.records.invariant.limit in
-    going_past c.args.style first bytes kept c.records.reader c.next.new.self c.records.tally c.records.checker (g.D.Disk.bytes c.records.lent.disk.now) (g.D.Disk.bytes c.take_event.new.disk)
+    going_past c.args.style first bytes kept c.records.reader c.next.new.self c.records.counts c.records.checker (g.D.Disk.bytes c.records.lent.disk.now) (g.D.Disk.bytes c.take_event.new.disk)
     (g.S.Source.left c.records.lent.trace.now) (g.S.Source.left c.next.new.source) (g.K.Sink.kept c.records.lent.out.now) (g.K.Sink.kept c.take_event.new.out) c.in-Some.status c.record_number-place.result c.in-Ok-Event.event
     going (at_event c.records.reader c.next.new.self (g.S.Source.left c.records.lent.trace.now) (g.S.Source.left c.next.new.source) c.in-Ok-Event.field-0 c.in-Ok-Event.event c.in-Ok-Event.field-0-is c.in-Ok-Event.ensures.told) at
-    (subst (λ t. Turns c.args.style going.state c.record_number-place.result c.records.tally c.in-Ok-Event.event (kept ++ going.text) t c.take_event.new.checker c.take_event.new.tally (g.D.Disk.bytes c.take_event.new.disk) (g.K.Sink.kept c.take_event.new.out))
+    (subst (λ t. Turns c.args.style going.state c.record_number-place.result c.records.counts c.in-Ok-Event.event (kept ++ going.text) t c.take_event.new.checker c.take_event.new.counts (g.D.Disk.bytes c.take_event.new.disk) (g.K.Sink.kept c.take_event.new.out))
     c.in-Some.is (c.in_ok-turn-in-Ok-Event.ensures.turns going.state (kept ++ going.text) going.stands going.image going.printed))
 
 pub returns-in-Some-clause-status : goal.returns-in-Some-clause-status
@@ -43,7 +57,7 @@ returns-in-Some-clause-status g c =
 pub returns-in-Ok-End-clause-outcome : goal.returns-in-Ok-End-clause-outcome
 returns-in-Ok-End-clause-outcome g c first bytes kept stands image lawful left printed =
     let going = c.records.invariant.going first bytes kept stands image lawful left printed in
-    both_ok c.print_summary.result (λ status st out. going_end c.args.style first bytes kept c.records.reader c.next.new.self c.records.tally c.records.checker (g.D.Disk.bytes c.records.lent.disk.now)
+    both_ok c.print_summary.result (λ status st out. going_end c.args.style first bytes kept c.records.reader c.next.new.self c.records.counts c.records.checker (g.D.Disk.bytes c.records.lent.disk.now)
     (g.S.Source.left c.records.lent.trace.now) (g.S.Source.left c.next.new.source) (g.K.Sink.kept c.records.lent.out.now) (g.K.Sink.kept c.print_summary.new.out) status going
     (at_end c.records.reader c.next.new.self (g.S.Source.left c.records.lent.trace.now) (g.S.Source.left c.next.new.source) c.in-Ok-End.field-0 c.in-Ok-End.field-0-is c.in-Ok-End.ensures.told)
     st out) c.print_summary.ensures.status c.print_summary.ensures.printed
@@ -52,7 +66,7 @@ pub returns-in-Err-clause-outcome : goal.returns-in-Err-clause-outcome
 returns-in-Err-clause-outcome g c first bytes kept stands image lawful left printed =
     let going = c.records.invariant.going first bytes kept stands image lawful left printed in
     let limit : c.next.new.self.limit ≡ record_limit = limit_over c.records.reader c.next.new.self c.in-Err.fault c.in-Err.ensures.state ∙ c.records.invariant.limit in
-    each_ok c.print_fault.result (λ status p. going_fault c.args.style first bytes kept c.records.reader c.next.new.self c.records.tally c.records.checker (g.D.Disk.bytes c.records.lent.disk.now)
+    each_ok c.print_fault.result (λ status p. going_fault c.args.style first bytes kept c.records.reader c.next.new.self c.records.counts c.records.checker (g.D.Disk.bytes c.records.lent.disk.now)
     (g.S.Source.left c.records.lent.trace.now) (g.S.Source.left c.next.new.source) (g.K.Sink.kept c.records.lent.out.now) (g.K.Sink.kept c.print_fault.new.out) status c.record_number.result c.in-Err.fault going
     c.in-Err.ensures.told p.1 (place_fits c.next.new.self.number c.next.new.self.limit c.record_number.result c.record_number.ensures.number c.record_number.ensures.within limit) p.0 p.2)
     c.print_fault.ensures.printed
@@ -85,11 +99,12 @@ records-preserved g c =
       disk_faults = turn.cause.0 ∙ c.records.invariant.disk_faults;
       source_faults = event_reads (g.S.Source.faults c.records.lent.trace.now) (g.S.Source.faults c.next.new.source) c.in-Ok-Event.field-0 c.in-Ok-Event.ensures.cause ∙ c.records.invariant.source_faults;
       sink_faults = turn.cause.1 ∙ c.records.invariant.sink_faults;
+      lines = more_lines c.records.invariant.lines turn.lines;
       going = λ first bytes kept stands image lawful left printed.
           let going = c.records.invariant.going first bytes kept stands image lawful left printed in
-          going_event c.args.style first bytes kept c.records.reader c.next.new.self c.records.tally c.take_event.new.tally c.records.checker c.take_event.new.checker (g.D.Disk.bytes c.records.lent.disk.now) (g.D.Disk.bytes c.take_event.new.disk)
+          going_event c.args.style first bytes kept c.records.reader c.next.new.self c.records.counts c.take_event.new.counts c.records.checker c.take_event.new.checker (g.D.Disk.bytes c.records.lent.disk.now) (g.D.Disk.bytes c.take_event.new.disk)
           (g.S.Source.left c.records.lent.trace.now) (g.S.Source.left c.next.new.source) (g.K.Sink.kept c.records.lent.out.now) (g.K.Sink.kept c.take_event.new.out) c.in-Ok-Event.event
           going (at_event c.records.reader c.next.new.self (g.S.Source.left c.records.lent.trace.now) (g.S.Source.left c.next.new.source) c.in-Ok-Event.field-0 c.in-Ok-Event.event c.in-Ok-Event.field-0-is c.in-Ok-Event.ensures.told) next
-          (subst (λ t. Turns c.args.style going.state c.record_number-place.result c.records.tally c.in-Ok-Event.event (kept ++ going.text) t c.take_event.new.checker c.take_event.new.tally (g.D.Disk.bytes c.take_event.new.disk) (g.K.Sink.kept c.take_event.new.out))
+          (subst (λ t. Turns c.args.style going.state c.record_number-place.result c.records.counts c.in-Ok-Event.event (kept ++ going.text) t c.take_event.new.checker c.take_event.new.counts (g.D.Disk.bytes c.take_event.new.disk) (g.K.Sink.kept c.take_event.new.out))
           c.in_default.is (turn.turns going.state (kept ++ going.text) going.stands going.image going.printed));
     }

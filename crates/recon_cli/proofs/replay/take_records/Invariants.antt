@@ -2,7 +2,7 @@ use Rattle.std.proofs.Common.{◌≡◌, ◌+◌, ◌-◌, ◌≤◌, false, tru
 use Rattle.recon_core.specs.Machine.{MachineState}
 use Rattle.recon_core.specs.Standing.{IsBelow, StandsFor}
 use Rattle.trace_reader.specs.Trace.{IsBytes}
-use Rattle.recon_cli.specs.Run.{IsSameOutside, record_limit}
+use Rattle.recon_cli.specs.Run.{IsSameOutside, TookLines, record_limit}
 use Rattle.recon_cli.proofs.Going.{Going}
 use Rattle.recon_cli.proofs.replay.take_records.Given as goal
 
@@ -16,7 +16,7 @@ invariant-records g l =
       live : l.reader.live ≡ true;
       limit : l.reader.limit ≡ record_limit;
       few : l.reader.whole ≤ l.reader.limit;
-      count : l.tally.passed + l.tally.rejected ≤ l.reader.whole;
+      count : l.counts.passed + l.counts.rejected ≤ l.reader.whole;
       same : IsSameOutside l.fn.lent l.lent;
       open_ : l.checker.closed ≡ false;
       size : l.checker.length ≡ disk.len l.lent.disk.now;
@@ -24,9 +24,10 @@ invariant-records g l =
       disk_faults : disk.faults l.lent.disk.now ≡ disk.faults l.fn.lent.disk.now;
       source_faults : source.faults l.lent.trace.now ≡ source.faults l.fn.lent.trace.now;
       sink_faults : sink.faults l.lent.out.now ≡ sink.faults l.fn.lent.out.now;
+      lines : TookLines sink l.fn.style l.fn.lent.out.now l.lent.out.now;
       going : (first : MachineState) (bytes kept : List ℕ) → StandsFor l.fn.checker first → disk.bytes l.fn.lent.disk.now ≡ Some first.image →
           IsBytes bytes → source.left l.fn.lent.trace.now ≡ Some bytes → sink.kept l.fn.lent.out.now ≡ Some kept →
-          Going l.fn.style first bytes kept l.reader l.tally l.checker (disk.bytes l.lent.disk.now) (source.left l.lent.trace.now) (sink.kept l.lent.out.now);
+          Going l.fn.style first bytes kept l.reader l.counts l.checker (disk.bytes l.lent.disk.now) (source.left l.lent.trace.now) (sink.kept l.lent.out.now);
     }
 
 abbrev pub decreases-records : goal.decreases-records

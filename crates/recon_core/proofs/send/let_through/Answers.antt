@@ -3,7 +3,8 @@ use Rattle.std.proofs.lemmas.Result.{on_err_weaker, on_ok_weaker}
 use Rattle.recon_disk.specs.Outside.{HasCause, counted}
 use Rattle.write_cache.specs.Cache.{overlaid}
 use Rattle.recon_core.specs.Sent.{IsAllOrPart}
-use Rattle.recon_core.proofs.Told.{if_err, if_ok, left_all, left_but_place, none_at, place_fails, read_first, sends_err, told_commit, told_settled}
+use Rattle.recon_core.proofs.Told.{left_all, left_but_place, none_at, place_fails, read_first, told_commit, told_settled}
+use Rattle.recon_disk.proofs.Sending.{if_err, if_ok, sends_err}
 use Rattle.recon_core.proofs.Ordered.{settled_out, committed_out, flush_fails, last_flush_fails, out_in_part, place_write_fails}
 use Rattle.recon_core.proofs.send.let_through.Goals as goal
 

@@ -4,7 +4,8 @@ use Rattle.write_cache.specs.Cache.{overlaid}
 use Rattle.write_cache.specs.Lent.{piece_lent, pieces_left}
 use Rattle.recon_core.specs.Stops.{IsPartlySent}
 use Rattle.recon_core.specs.Sent.{with_place_of}
-use Rattle.recon_core.proofs.Told.{IsSending, begin_sending, if_err, more_sent, piece_fails, piece_inside, sends_err, sent_whole}
+use Rattle.recon_core.proofs.Told.{IsSending, begin_sending, more_sent, piece_fails, piece_inside, sent_whole}
+use Rattle.recon_disk.proofs.Sending.{if_err, sends_err}
 use Rattle.recon_core.proofs.Ordered.{RunsLeft, runs_in_part, runs_begin, runs_more, runs_end}
 use Rattle.recon_core.proofs.send.send_pieces.Goals as goal
 

@@ -5,8 +5,8 @@ use Rattle.std.proofs.lemmas.List.{take_more}
 use Rattle.verdict.specs.declared.machine.Event.{Event}
 use Rattle.recon_disk.specs.Outside.{MayBeAppended}
 use Rattle.trace_reader.specs.Trace.{IsSpelled, spelling_of_all}
-use Rattle.trace_maker.specs.declared.op.Op.{Op}
-use Rattle.trace_maker.specs.declared.op.Op.TheVariants.{Subvolume}
+use Rattle.trace_maker.specs.declared.operation.Operation.{Operation}
+use Rattle.trace_maker.specs.declared.operation.Operation.TheVariants.{Subvolume}
 use Rattle.trace_maker.specs.Plan.{plan_of}
 use Rattle.trace_maker.specs.Made.{Gained, IsFront, IsMade, IsCommitOf, carried_out}
 use Rattle.trace_maker.proofs.Commits.{spelled_commit}
@@ -29,7 +29,12 @@ returns-in_err-put-clause-front g c =
 pub returns-in_default-commit-clause-front : goal.returns-in_default-commit-clause-front
 returns-in_default-commit-clause-front g c =
     let kept = g.K.Sink.kept in
-    stopped c.deref-op-items.result.now c.loop-op.op-index c.loop-op.maker.volume (kept c.args.out.now) (kept c.loop-op.out) c.loop-op.invariant.gained
+    stopped c.deref-op-items.result.now c.loop-op.op-index c.loop-op.room c.loop-op.maker.volume (kept c.args.out.now) (kept c.loop-op.out) c.loop-op.invariant.gained
+
+pub returns-then-records-room-clause-front : goal.returns-then-records-room-clause-front
+returns-then-records-room-clause-front g c =
+    let kept = g.K.Sink.kept in
+    stopped c.deref-op-items.result.now c.loop-op.op-index c.loop-op.room c.loop-op.maker.volume (kept c.args.out.now) (kept c.loop-op.out) c.loop-op.invariant.gained
 
 pub put_all-requires : goal.put_all-requires
 put_all-requires g c =
@@ -48,7 +53,7 @@ returns-in_err-put_all-clause-front g c =
     let P : ℕ → Type 0 = λ k. IsCommitOf (k + 1) standing op events in
     let Q : List Event → Type 0 = λ l. MayBeAppended (kept c.loop-op.out) (spelling_of_all l) (kept c.put_all.new.out) in
     any_err (Gained IsFront (kept c.args.out.now) (kept c.put_all.new.out)) c.from_residual-in_err-put_all.result
-    (failed ops c.loop-op.op-index op events standing (kept c.args.out.now) (kept c.loop-op.out) (kept c.put_all.new.out) c.loop-op.invariant.gained
+    (failed ops c.loop-op.op-index c.loop-op.room op events standing (kept c.args.out.now) (kept c.loop-op.out) (kept c.put_all.new.out) c.loop-op.invariant.gained
     (subst P c.loop-op.invariant.number c.in-Ok-commit.ensures.made) (subst Q c.deref.ensures.value c.in_err-put_all.ensures.partly))
 
 pub loop-op-preserved : goal.loop-op-preserved
@@ -64,7 +69,7 @@ loop-op-preserved g c =
       number = ap (λ (k : ℕ). k + 1) c.loop-op.invariant.number;
       in_chunk = c.in-Ok-commit.ensures.in_chunk;
       up_to = c.in-Ok-commit.ensures.up_to;
-      gained = more ops c.loop-op.op-index op events standing c.commit.new.self.volume (kept c.args.out.now) (kept c.loop-op.out) (kept c.put_all.new.out) c.loop-op.invariant.gained
+      gained = more ops c.loop-op.op-index c.loop-op.room _ op events standing c.commit.new.self.volume (kept c.args.out.now) (kept c.loop-op.out) (kept c.put_all.new.out) c.loop-op.invariant.gained (omega arith) (omega arith)
           c.loop-op-test.true (take_more ops c.loop-op.op-index (Subvolume 0) c.loop-op-test.true)
           (subst P c.loop-op.invariant.number c.in-Ok-commit.ensures.made)
           (c.in-Ok-commit.ensures.volume ∙ ap (λ (k : ℕ). carried_out (k + 1) op standing) c.loop-op.invariant.number) (subst Q c.deref.ensures.value c.in_ok-put_all.ensures.appended);
@@ -76,13 +81,13 @@ returns-clause-made g c =
     let kept = g.K.Sink.kept in
     let ops = c.deref-op-items.result.now in
     let planned : ops ≡ plan_of c.args.seed c.args.commits = c.deref-op-items.ensures.value ∙ c.in-Ok.ensures.plan in
-    let size : length ops ≡ c.args.commits = ap (λ (l : List Op). length l) c.deref-op-items.ensures.value ∙ c.in-Ok.ensures.count in
+    let size : length ops ≡ c.args.commits = ap (λ (l : List Operation). length l) c.deref-op-items.ensures.value ∙ c.in-Ok.ensures.count in
     ok_then _ (Gained (IsMade c.args.seed c.args.commits) (kept c.args.out.now) (kept c.put-2.new.out)) c.put-2.result c.put-2.ensures.appended
-    (λ told. ended c.args.seed c.args.commits ops c.loop-op.op-index c.loop-op.maker.volume (kept c.args.out.now) (kept c.loop-op.out) (kept c.put-2.new.out)
+    (λ told. ended c.args.seed c.args.commits ops c.loop-op.op-index c.loop-op.room c.loop-op.maker.volume (kept c.args.out.now) (kept c.loop-op.out) (kept c.put-2.new.out)
     c.loop-op.invariant.gained planned size (grind (arith, common_steps)) told)
 
 pub returns-clause-front : goal.returns-clause-front
 returns-clause-front g c =
     let kept = g.K.Sink.kept in
     err_then _ (Gained IsFront (kept c.args.out.now) (kept c.put-2.new.out)) c.put-2.result c.put-2.ensures.partly
-    (λ told. cut c.deref-op-items.result.now c.loop-op.op-index c.loop-op.maker.volume (kept c.args.out.now) (kept c.loop-op.out) (kept c.put-2.new.out) c.loop-op.invariant.gained told)
+    (λ told. cut c.deref-op-items.result.now c.loop-op.op-index c.loop-op.room c.loop-op.maker.volume (kept c.args.out.now) (kept c.loop-op.out) (kept c.put-2.new.out) c.loop-op.invariant.gained told)

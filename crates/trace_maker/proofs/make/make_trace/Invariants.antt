@@ -8,6 +8,6 @@ invariant-loop-op g l = record {
   number : l.k ≡ l.op-index;
   in_chunk : AreInChunk (all_blocks l.maker.trees);
   up_to : IsUpTo (l.k + 1) (all_blocks l.maker.trees);
-  gained : SoFar l.op-items l.op-index l.maker.volume (g.K.Sink.kept l.fn.out) (g.K.Sink.kept l.out);
+  gained : SoFar l.op-items l.op-index l.room l.maker.volume (g.K.Sink.kept l.fn.out) (g.K.Sink.kept l.out);
   faults : g.K.Sink.faults l.out ≡ g.K.Sink.faults l.fn.out;
 }

@@ -1,7 +1,8 @@
-use Rattle.std.proofs.Common.{◌≡◌, ℕ, ◌++◌, List, [], ◌∷◌, cond, take, refl, ap, sym, subst, ◌∙◌}
+use Rattle.std.proofs.Common.{◌≡◌, ◌++◌, List, [], ◌∷◌, cond, length, refl, ap, sym, subst, ◌∙◌, arith}
 use Rattle.std.specs.List.{flat_map}
 use Rattle.accounts.specs.declared.postings.Posting.{Posting}
 use Rattle.accounts.specs.Kinds.{group_class, group_of}
+use Rattle.accounts.specs.Posts.{StandInPart}
 use Rattle.accounts.proofs.SoFar.{PostsSoFar, so_far_all, so_far_cut, so_far_more, so_far_none, so_far_stops}
 use Rattle.records.specs.Post.{to}
 use Rattle.records.specs.SpacePostings.{is_other_class, owned_postings, sectors_of}
@@ -19,7 +20,7 @@ returns-in_err-post_run c =
     let first : c.push.new.self ≡ c.args.into.now ++ taken ∷ [] = c.in_ok-push.ensures.ok ∙ ap (λ p. c.args.into.now ++ p ∷ []) c.taken.ensures in
     let before : PostsSoFar c.args.into.now c.push.new.self (taken ∷ sectors ++ other) (sectors ++ other) = so_far_more _ _ _ _ _ (taken ∷ []) (sectors ++ other) (so_far_none _ _) refl first in
     so_far_cut _ _ _ _ (sectors ++ other) sectors other _ c.from_residual-in_err-post_run.ensures.0 before refl
-    (subst (λ some. (n : ℕ) × (c.post_run.new.into ≡ c.push.new.self ++ take n some)) same c.in_err-post_run.ensures.some)
+    (subst (StandInPart c.push.new.self c.post_run.new.into) same c.in_err-post_run.ensures.some)
 
 -- src/place.rt:127:13
 pub returns-in_err-push-2 : goal.returns-in_err-push-2
@@ -31,7 +32,8 @@ returns-in_err-push-2 c =
     let first : c.push.new.self ≡ c.args.into.now ++ taken ∷ [] = c.in_ok-push.ensures.ok ∙ ap (λ p. c.args.into.now ++ p ∷ []) c.taken.ensures in
     let before : PostsSoFar c.args.into.now c.push.new.self (taken ∷ sectors ++ other) (sectors ++ other) = so_far_more _ _ _ _ _ (taken ∷ []) (sectors ++ other) (so_far_none _ _) refl first in
     let posted : c.post_run.new.into ≡ c.push.new.self ++ sectors = c.in_ok-post_run.ensures.all ∙ ap (λ some. c.push.new.self ++ some) same in
-    so_far_stops _ _ _ _ _ _ c.from_residual-in_err-push-2.ensures.0 (so_far_more _ _ c.post_run.new.into _ _ sectors other before refl posted) c.in_err-push-2.ensures.err
+    let there : other ≡ to (group_class c.args.self.now.address) 0 1 ∷ [] = ap (λ b. cond b (to (group_class c.args.self.now.address) 0 1 ∷ []) []) (sym c.is_other_class.ensures ∙ c.if-is_other_class.true) in
+    so_far_stops _ _ _ _ _ _ c.from_residual-in_err-push-2.ensures.0 (so_far_more _ _ c.post_run.new.into _ _ sectors other before refl posted) (omega (arith, ap length there)) c.in_err-push-2.ensures.err
 
 -- src/place.rt:114:5
 pub returns-in_ok-push-2 : goal.returns-in_ok-push-2

@@ -1,0 +1,18 @@
+use Rattle.std.proofs.Common.{◌-◌}
+use Rattle.node_reader.specs.Stored.{stored_in}
+use Rattle.records.specs.Walk.{children_of, each, block_and, below, walk_in}
+use Rattle.block_source.specs.Private.{pointers_from}
+use Rattle.block_source.proofs.Walking.{SoFar}
+use Rattle.block_source.proofs.walk.+walk.Given as goal
+
+abbrev pub decreases-walk : goal.decreases-walk
+decreases-walk g l = l.e.now.level
+
+-- what is left of the children gives what the whole walk gives
+abbrev pub invariant-loop-i : goal.invariant-loop-i
+invariant-loop-i g l =
+    let sup = l.source.sup.now in
+    SoFar g.D.Disk g.T.Taker l.source.cache.now l.fn.disk l.disk l.fn.into l.into
+    (λ image. (let stored = stored_in image l.source.map.now sup.nodesize in
+    each (block_and (below (l.e.level - 1) sup stored) sup stored) (children_of (l.e.level - 1) l.e (pointers_from l.block l.i))))
+    (walk_in sup l.source.map.now l.e)
