@@ -5,10 +5,18 @@ import subprocess
 import sys
 import tempfile
 
-sys.path.insert(0, os.path.join(os.path.dirname(os.path.abspath(__file__)), '..', 'examples'))
-import made_image as made
 
-program = os.path.realpath(sys.argv[1] if len(sys.argv) > 1 else 'crates/recon/out/recon')
+def in_repository(file):
+    """The path of a file of the repository, from wherever a script is run."""
+    return os.path.join(os.path.dirname(os.path.abspath(__file__)), '..', file)
+
+
+sys.path.insert(0, in_repository('examples'))
+import made_image as made  # noqa: E402
+
+program = os.path.realpath(sys.argv[1] if len(sys.argv) > 1 else in_repository('crates/recon/out/recon'))
+if not os.access(program, os.X_OK):
+    sys.exit(f'{program} is not built')
 SCRIPT = 'tests/' + os.path.basename(sys.argv[0])
 
 # The addresses of the base image's blocks, and of two blocks that are free.
@@ -94,6 +102,12 @@ class Device:
                 out.seek(place)
                 out.write(data)
             out.truncate(made.LENGTH + more if cut is None else cut)
+
+    def write(self, at, data):
+        """Puts bytes at a place of the device as they are."""
+        with open(self.path, 'r+b') as out:
+            out.seek(at)
+            out.write(data)
 
     def bytes(self):
         with open(self.path, 'rb') as out:
