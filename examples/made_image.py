@@ -16,6 +16,10 @@ BLOCKS = {1: 5242880, 2: 5259264, 3: 1048576, 4: 5275648, 5: 5292032, 7: 5308416
 NEXT_BLOCKS = {5: 5324800, 2: 5341184, 1: 5357568}
 SUMS = 2 ** 64 - 10
 ORPHANS = 2 ** 64 - 5
+# The kinds of items.
+INODE_ITEM, INODE_REF, INODE_EXTREF, XATTR_ITEM, ORPHAN_ITEM, DIR_ITEM, DIR_INDEX = 1, 12, 13, 24, 48, 84, 96
+EXTENT_DATA, EXTENT_CSUM, ROOT_ITEM, ROOT_BACKREF, ROOT_REF, EXTENT_ITEM, METADATA_ITEM = 108, 128, 132, 144, 156, 168, 169
+TREE_BLOCK_REF, EXTENT_DATA_REF, BLOCK_GROUP_ITEM, DEV_EXTENT, DEV_ITEM, CHUNK_ITEM = 176, 178, 192, 204, 216, 228
 REGULAR, DIRECTORY, LINK = 0o100644, 0o040755, 0o120777
 
 
@@ -53,52 +57,52 @@ def root(tree, address, generation=1, offset=0, level=0, references=1):
     struct.pack_into('<QQQ', item, 160, generation, 256 if tree == 5 or 256 <= tree < 2 ** 63 else 0, address)
     struct.pack_into('<I', item, 216, references)
     item[238] = level
-    return (tree, 132, offset), bytes(item)
+    return (tree, ROOT_ITEM, offset), bytes(item)
 
 
 def chunk(start, length, kind, places):
     item = struct.pack('<QQQQIIIHH', length, 2, 65536, kind, 65536, 65536, 4096, len(places), 0)
-    return (256, 228, start), item + b''.join(struct.pack('<QQ', 1, place) + DEVICE_UUID for place in places)
+    return (256, CHUNK_ITEM, start), item + b''.join(struct.pack('<QQ', 1, place) + DEVICE_UUID for place in places)
 
 
 def device(used=29360128):
     item = bytearray(98)
     struct.pack_into('<QQQ', item, 0, 1, LENGTH, used)
     item[66:82], item[82:98] = DEVICE_UUID, FSID
-    return (1, 216, 1), bytes(item)
+    return (1, DEV_ITEM, 1), bytes(item)
 
 
 def device_extent(place, start, length):
-    return (1, 204, place), struct.pack('<QQQQ', 3, 256, start, length) + CHUNK_UUID
+    return (1, DEV_EXTENT, place), struct.pack('<QQQQ', 3, 256, start, length) + CHUNK_UUID
 
 
 def block(address, tree, level=0, references=1, generation=1):
-    return (address, 169, level), struct.pack('<QQQBQ', references, generation, 2, 176, tree)
+    return (address, METADATA_ITEM, level), struct.pack('<QQQBQ', references, generation, 2, TREE_BLOCK_REF, tree)
 
 
 def group(start, length, kind, used):
-    return (start, 192, length), struct.pack('<QQQ', used, 256, kind)
+    return (start, BLOCK_GROUP_ITEM, length), struct.pack('<QQQ', used, 256, kind)
 
 
 def extent(at, length, references=1, origin=0, count=1, generation=1):
     """An extent that the file 257 of tree 5 refers to, so often from the byte `origin` of the file on."""
-    inline = struct.pack('<BQQQI', 178, 5, 257, origin % 2 ** 64, count)
-    return (at, 168, length), struct.pack('<QQQ', references, generation, 1) + inline
+    inline = struct.pack('<BQQQI', EXTENT_DATA_REF, 5, 257, origin % 2 ** 64, count)
+    return (at, EXTENT_ITEM, length), struct.pack('<QQQ', references, generation, 1) + inline
 
 
 def reference(at, offset, count=1):
     """A reference of the file 257 with an item of its own, whose key ends in this number."""
-    return (at, 178, offset), struct.pack('<QQQI', 5, 257, 0, count)
+    return (at, EXTENT_DATA_REF, offset), struct.pack('<QQQI', 5, 257, 0, count)
 
 
 def sums(at, sectors):
-    return (SUMS, 128, at), bytes(4 * sectors)
+    return (SUMS, EXTENT_CSUM, at), bytes(4 * sectors)
 
 
 def inode(ino, size=0, taken=None, mode=REGULAR, links=1, flags=0, generation=1):
     taken = size if taken is None else taken
     front = struct.pack('<QQQQQIIIIQQ', generation, 0, size, taken, 0, links, 0, 0, mode, 0, flags)
-    return (ino, 1, 0), front.ljust(160, b'\0')
+    return (ino, INODE_ITEM, 0), front.ljust(160, b'\0')
 
 
 def top(size, mode=DIRECTORY):
@@ -107,39 +111,39 @@ def top(size, mode=DIRECTORY):
 
 
 def name(ino, directory, index, text):
-    return (ino, 12, directory), struct.pack('<QH', index, len(text)) + text
+    return (ino, INODE_REF, directory), struct.pack('<QH', index, len(text)) + text
 
 
 def far_name(ino, directory, index, text):
-    return (ino, 13, 7), struct.pack('<QQH', directory, index, len(text)) + text
+    return (ino, INODE_EXTREF, 7), struct.pack('<QQH', directory, index, len(text)) + text
 
 
-def entry(ino, sort, text, kind=1, generation=1):
+def entry(ino, sort, text, kind=INODE_ITEM, generation=1):
     """An entry of a directory: what it leads to, its type, and its name."""
     return struct.pack('<QBQQHHB', ino, kind, 0, generation, 0, len(text), sort) + text
 
 
 def hashed(directory, *entries, key=None):
     """The entries of a directory whose names have one hash."""
-    return (directory, 84, name_hash(entries[0][30:]) if key is None else key), b''.join(entries)
+    return (directory, DIR_ITEM, name_hash(entries[0][30:]) if key is None else key), b''.join(entries)
 
 
 def indexed(directory, index, one):
-    return (directory, 96, index), one
+    return (directory, DIR_INDEX, index), one
 
 
 def file_range(at, address, taken, offset=0, length=4096, sort=1, compression=0, ino=257):
     """A range of a file from a byte on, of an extent and its length, from a byte of that on; address 0 is a hole."""
     front = struct.pack('<QQBBHB', 1, length, compression, 0, 0, sort)
-    return (ino, 108, at), front + struct.pack('<QQQQ', address, taken, offset, length)
+    return (ino, EXTENT_DATA, at), front + struct.pack('<QQQQ', address, taken, offset, length)
 
 
 def inline_data(ino, length):
-    return (ino, 108, 0), struct.pack('<QQBBHB', 0, length, 0, 0, 0, 0) + bytes(length)
+    return (ino, EXTENT_DATA, 0), struct.pack('<QQBBHB', 0, length, 0, 0, 0, 0) + bytes(length)
 
 
 def orphan(ino):
-    return (ORPHANS, 48, ino), b''
+    return (ORPHANS, ORPHAN_ITEM, ino), b''
 
 
 def root_name(objectid, kind, offset, text):
@@ -246,7 +250,7 @@ class Image:
         """The address of the root block of a tree."""
         if tree in (1, 3):
             return struct.unpack_from('<Q', self.superblock, 0x50 if tree == 1 else 0x58)[0]
-        return struct.unpack_from('<Q', self.items(self.root(1))[tree, 132, 0], 176)[0]
+        return struct.unpack_from('<Q', self.items(self.root(1))[tree, ROOT_ITEM, 0], 176)[0]
 
     def leaf_for(self, tree, key):
         """The address of the leaf of a tree that has or would have this key; a tree has at most two levels."""
@@ -292,7 +296,7 @@ class Image:
     def copy_on_write(self):
         """Begins a commit of generation 2: the file tree, the extent tree and the root tree stand in new blocks."""
         for tree in NEXT_BLOCKS:
-            self.drop(2, (BLOCKS[tree], 169, 0))
+            self.drop(2, (BLOCKS[tree], METADATA_ITEM, 0))
             self.put(2, block(NEXT_BLOCKS[tree], tree, generation=2))
         items = {tree: self.items(BLOCKS[tree]) for tree in NEXT_BLOCKS}
         items[1].update(root(tree, NEXT_BLOCKS[tree], 2) for tree in (2, 5))

@@ -40,7 +40,7 @@ NAMES = [
      files(10, hashed(256, entry(257, 2, b'hello')), I, FILE, NAME_OF_FILE), 'rejected A10 tree 5 block 0 key 257 1 0 detail 2'),
     ('the name `..` of a directory that is no root',
      files(0, inode(258, 0, 0, made.DIRECTORY), name(258, 258, 0, b'..')), 'rejected A12 tree 5 block 0 key 258 12 258 detail 0'),
-    ('an attribute of no inode', files(0, made.zeros((300, 24, 7), 30)), 'rejected A9 tree 5 block 0 key 300 1 0 detail 0'),
+    ('an attribute of no inode', files(0, made.zeros((300, made.XATTR_ITEM, 7), 30)), 'rejected A9 tree 5 block 0 key 300 1 0 detail 0'),
 ]
 
 # The entries of a symbolic link `hello`.
@@ -61,9 +61,9 @@ BYTES = [
 ]
 
 # The subvolume `s1`: its entries, its names in the root tree, its root item, and its tree, with its block.
-S1 = entry(256, 2, b's1', kind=132)
+S1 = entry(256, 2, b's1', kind=made.ROOT_ITEM)
 S1_ENTRIES = files(4, hashed(256, S1), indexed(256, 2, S1))
-ROOT_REF, ROOT_BACKREF = put(1, made.root_name(5, 156, 256, b's1')), put(1, made.root_name(256, 144, 5, b's1'))
+ROOT_REF, ROOT_BACKREF = put(1, made.root_name(5, made.ROOT_REF, 256, b's1')), put(1, made.root_name(256, made.ROOT_BACKREF, 5, b's1'))
 NO_ROOT_REF = 'rejected A14 tree 5 block 0 key 256 144 256 detail 2'
 F = entry(257, 1, b'f')
 
@@ -88,7 +88,7 @@ SUBVOLUMES = [
     ('or from no side, which is lawful', S1_ENTRIES, PASSES),
     ('the parent has no entry', [ROOT_REF, root_below(), ROOT_BACKREF] + tree_below(), 'rejected A13 tree 5 block 0 key 256 156 256 detail 2'),
     ('the two entries say two types',
-     files(4, hashed(256, S1), indexed(256, 2, entry(256, 1, b's1', kind=132))) + [ROOT_REF, root_below(), ROOT_BACKREF] + tree_below(),
+     files(4, hashed(256, S1), indexed(256, 2, entry(256, 1, b's1', kind=made.ROOT_ITEM))) + [ROOT_REF, root_below(), ROOT_BACKREF] + tree_below(),
      'rejected A11 tree 5 block 0 key 256 84 1409984246 detail 256'),
     ('a file of the same number in both trees',
      files(14, hashed(256, S1), H, indexed(256, 2, S1), indexed(256, 3, ENTRY), FILE, name(257, 256, 3, b'hello'))

@@ -11,9 +11,9 @@ MOVED = 2 ** 64 - 9
 LATE = write(RIGHT + 0x50, made.number(2))
 # An item of a kind that a tree of files alone lists, and two such items that are not right: a range of type 1 that ends
 # in its first number, and an inode whose key has an offset.
-ATTRIBUTE = made.zeros((1, 24, 0), 1)
-SHORT = made.zeros((257, 108, 0), 52, [(20, 1)])
-OFFSET = made.zeros((257, 1, 1), 160)
+ATTRIBUTE = made.zeros((1, made.XATTR_ITEM, 0), 1)
+SHORT = made.zeros((257, made.EXTENT_DATA, 0), 52, [(20, 1)])
+OFFSET = made.zeros((257, made.INODE_ITEM, 1), 160)
 DEFAULT = made.entry(257, 1, b'default', generation=0)
 
 SUPERBLOCK_AND_CHUNKS = [
@@ -31,18 +31,18 @@ ROOT_TREE = [
     ('too many items', [write(ROOTS + 0x60, b'\xff' * 4)], 'N9 tree 1 block 5242880 key 0 0 0 detail 4294967295'),
     ('the second item begins at 15,406 in place of 15,405',
      [write(ROOTS + 143, made.number(15406, 4))], 'N14 tree 1 block 5242880 key 0 0 0 detail 1'),
-    ('a node that points to itself', [write(SUPERBLOCK + 0xc6, b'\1'), node(ROOTS, 1, ((2, 132, 0), ROOTS))],
+    ('a node that points to itself', [write(SUPERBLOCK + 0xc6, b'\1'), node(ROOTS, 1, ((2, made.ROOT_ITEM, 0), ROOTS))],
      'N8 tree 1 block 5242880 key 2 132 0 detail 1'),
     ('a root item of a later generation than its leaf',
      [put(1, made.root(5, FILES, 2))], 'I3 tree 1 block 5242880 key 5 132 0 detail 160'),
-    ('a kind that the root tree does not list', [put(1, made.zeros((5, 24, 0), 1))], 'U9 tree 1 block 5242880 key 5 24 0 detail 24'),
+    ('a kind that the root tree does not list', [put(1, made.zeros((5, made.XATTR_ITEM, 0), 1))], 'U9 tree 1 block 5242880 key 5 24 0 detail 24'),
     ('a root item of the chunk tree', [put(1, made.root(3, CHUNKS))], 'U7 tree 1 block 5242880 key 3 132 0 detail 3'),
     ('one of tree 6', [put(1, made.root(6, 0))], 'U7 tree 1 block 5242880 key 6 132 0 detail 6'),
     ('one of tree 11', [put(1, made.root(11, 0))], 'U7 tree 1 block 5242880 key 11 132 0 detail 11'),
     ('two of one id come before a missing one',
-     [drop(1, 4, 132, 0), put(1, made.root(5, FILES, offset=9))], 'X1 tree 1 block 0 key 5 132 9 detail 0'),
+     [drop(1, 4, made.ROOT_ITEM, 0), put(1, made.root(5, FILES, offset=9))], 'X1 tree 1 block 0 key 5 132 9 detail 0'),
     ('no root item: the least is missing', [leaf(ROOTS, 1)], 'X2 tree 1 block 0 key 2 132 0 detail 0'),
-    ('no root item of the tree of checksums', [drop(1, 7, 132, 0)], 'X2 tree 1 block 0 key 7 132 0 detail 0'),
+    ('no root item of the tree of checksums', [drop(1, 7, made.ROOT_ITEM, 0)], 'X2 tree 1 block 0 key 7 132 0 detail 0'),
     ('of two broken trees the one with the lower id as an unsigned number',
      [put(1, made.root(300, 1)), put(1, made.root(MOVED, 2))], 'N1 tree 300 block 1 key 0 0 0 detail 0'),
     ('a tree whose block is another tree\'s',
@@ -56,7 +56,7 @@ ITEMS = [
      [leaf(FILES, 5, made.hashed(256, DEFAULT, key=2378154706))], 'A9 tree 5 block 0 key 256 1 0 detail 0'),
     ('a range that is too short', [leaf(FILES, 5, SHORT)], 'I1 tree 5 block 5292032 key 257 108 0 detail 52'),
     ('of two bad items the first', [leaf(FILES, 5, OFFSET, SHORT)], 'I2 tree 5 block 5292032 key 257 1 1 detail 0'),
-    ('an inode below 256', [leaf(FILES, 5, made.zeros((255, 1, 0), 160))], 'U9 tree 5 block 5292032 key 255 1 0 detail 1'),
+    ('an inode below 256', [leaf(FILES, 5, made.zeros((255, made.INODE_ITEM, 0), 160))], 'U9 tree 5 block 5292032 key 255 1 0 detail 1'),
     ('a kind that the extent tree does not list', [leaf(EXTENTS, 2, ATTRIBUTE)], 'U9 tree 2 block 5259264 key 1 24 0 detail 24'),
     ('the chunk tree', [leaf(CHUNKS, 3, ATTRIBUTE)], 'U9 tree 3 block 1048576 key 1 24 0 detail 24'),
     ('the device tree', [leaf(DEVICES, 4, ATTRIBUTE)], 'U9 tree 4 block 5275648 key 1 24 0 detail 24'),
@@ -66,8 +66,8 @@ ITEMS = [
 ]
 
 # The file tree as a node over two leaves of one item, and an item that is not right.
-A, B = made.zeros((256, 24, 0), 1), made.zeros((257, 24, 0), 1)
-BAD = made.zeros((256, 108, 0), 52, [(20, 1)])
+A, B = made.zeros((256, made.XATTR_ITEM, 0), 1), made.zeros((257, made.XATTR_ITEM, 0), 1)
+BAD = made.zeros((256, made.EXTENT_DATA, 0), 52, [(20, 1)])
 TWO_LEAVES = [put(1, made.root(5, FILES, level=1)), node(FILES, 5, (A[0], LEFT), (B[0], RIGHT)), leaf(LEFT, 5, A), leaf(RIGHT, 5, B)]
 
 WALKS = [(what, TWO_LEAVES + changes, finding) for what, changes, finding in [
@@ -78,7 +78,7 @@ WALKS = [(what, TWO_LEAVES + changes, finding) for what, changes, finding in [
     ('another owner', [write(RIGHT + 0x58, made.number(7))], 'N6 tree 5 block 5341184 key 257 24 0 detail 7'),
     ('another level', [write(RIGHT + 0x64, b'\1')], 'N8 tree 5 block 5341184 key 257 24 0 detail 1'),
     ('another first key than the pointer says',
-     [leaf(RIGHT, 5, made.zeros((258, 24, 0), 1))], 'N10 tree 5 block 5341184 key 257 24 0 detail 0'),
+     [leaf(RIGHT, 5, made.zeros((258, made.XATTR_ITEM, 0), 1))], 'N10 tree 5 block 5341184 key 257 24 0 detail 0'),
     ('a key that belongs into the next leaf', [leaf(LEFT, 5, A, B)], 'N12 tree 5 block 5324800 key 256 24 0 detail 1'),
     ('the generation of a pointer comes before any leaf',
      [write(FILES + 159, made.number(2)), write(LEFT + 0x50, made.number(2))], 'N13 tree 5 block 5292032 key 0 0 0 detail 1'),
@@ -103,11 +103,11 @@ SECOND_OF_TWO = [*HELLO, ONE_INODE, put(5, made.file_range(0, DATA_AT, 8192, 409
 REFERENCES = [
     ('an extent that says one use more than there are',
      [put(2, made.block(FILES, 5, references=2))], 'A3 tree 2 block 5292032 key 0 0 0 detail 0'),
-    ('a block without its extent', [drop(2, FILES, 169, 0)], 'A1 tree 5 block 5292032 key 5292032 176 5 detail 0'),
+    ('a block without its extent', [drop(2, FILES, made.METADATA_ITEM, 0)], 'A1 tree 5 block 5292032 key 5292032 176 5 detail 0'),
     ('two of them: the one of the lesser tree',
-     [drop(2, FILES, 169, 0), drop(2, SUMS, 169, 0)], 'A1 tree 5 block 5292032 key 5292032 176 5 detail 0'),
+     [drop(2, FILES, made.METADATA_ITEM, 0), drop(2, SUMS, made.METADATA_ITEM, 0)], 'A1 tree 5 block 5292032 key 5292032 176 5 detail 0'),
     ('accounts of two kinds: that of the lesser kind',
-     [drop(2, SUMS, 169, 0), put(2, made.block(FILES, 5, references=2))], 'A1 tree 7 block 5308416 key 5308416 176 7 detail 0'),
+     [drop(2, SUMS, made.METADATA_ITEM, 0), put(2, made.block(FILES, 5, references=2))], 'A1 tree 7 block 5308416 key 5308416 176 7 detail 0'),
     ('a file of one sector', FILE_OF_ONE + EXTENT_OF_ONE + [ONE_SUM, ONE_USED], ''),
     ('the file says a longer extent', FILE_OF_TWO + EXTENT_OF_ONE + [ONE_SUM, ONE_USED], 'A4 tree 2 block 13631488 key 0 168 8192 detail 0'),
     ('and a shorter one', FILE_OF_ONE + EXTENT_OF_TWO + [ONE_SUM, TWO_USED], 'A4 tree 2 block 13631488 key 0 168 4096 detail 0'),
@@ -122,9 +122,9 @@ REFERENCES = [
 ]
 
 DEVICE_EXTENTS = [
-    ('a stripe without its device extent', [drop(4, 1, 204, 22020096)], 'A15 tree 4 block 13631488 key 1 204 22020096 detail 8388608'),
+    ('a stripe without its device extent', [drop(4, 1, made.DEV_EXTENT, 22020096)], 'A15 tree 4 block 13631488 key 1 204 22020096 detail 8388608'),
     ('that of a second copy: the account is that of the chunk',
-     [drop(4, 1, 204, 13631488)], 'A15 tree 4 block 5242880 key 1 204 13631488 detail 8388608'),
+     [drop(4, 1, made.DEV_EXTENT, 13631488)], 'A15 tree 4 block 5242880 key 1 204 13631488 detail 8388608'),
     ('a device extent of another length',
      [put(4, made.device_extent(22020096, DATA_AT, 4096))], 'A15 tree 4 block 13631488 key 1 204 22020096 detail 4096'),
     ('one without a stripe', [put(4, made.device_extent(30408704, DATA_AT, 4096))], 'A15 tree 4 block 13631488 key 1 204 30408704 detail 4096'),
@@ -133,9 +133,9 @@ DEVICE_EXTENTS = [
 ]
 
 GROUPS = [
-    ('a chunk without its group', [drop(2, DATA_AT, 192, 8388608)], 'A6 tree 0 block 0 key 13631488 192 8388608 detail 1'),
+    ('a chunk without its group', [drop(2, DATA_AT, made.BLOCK_GROUP_ITEM, 8388608)], 'A6 tree 0 block 0 key 13631488 192 8388608 detail 1'),
     ('a group without its chunk', [put(2, made.group(CHUNKS_END, 4096, 1, 0))], 'A6 tree 0 block 0 key 22020096 192 4096 detail 1'),
-    ('a group of another length', [drop(2, DATA_AT, 192, 8388608), put(2, made.group(DATA_AT, 4096, 1, 0))],
+    ('a group of another length', [drop(2, DATA_AT, made.BLOCK_GROUP_ITEM, 8388608), put(2, made.group(DATA_AT, 4096, 1, 0))],
      'A6 tree 0 block 0 key 13631488 192 4096 detail 1'),
     ('a group of another type', [data_group(0, kind=4)], 'A6 tree 0 block 0 key 13631488 192 8388608 detail 1'),
     ('the used bytes of the metadata group', [metadata_group(77824)], 'A6 tree 0 block 0 key 5242880 192 8388608 detail 36'),
@@ -177,7 +177,7 @@ def file_at(address, length=4096):
 
 # The tree of checksums with its block elsewhere, without its group.
 def sums_at(address, *items):
-    return [put(1, made.root(7, address)), leaf(address, 7, *items), drop(2, SUMS, 169, 0), put(2, made.block(address, 7)), metadata_group(65536)]
+    return [put(1, made.root(7, address)), leaf(address, 7, *items), drop(2, SUMS, made.METADATA_ITEM, 0), put(2, made.block(address, 7)), metadata_group(65536)]
 
 
 HOMES = [

@@ -4,7 +4,8 @@ use crate::bytes::{number_at, part, put};
 use crate::record::{Record, item_of, key_of};
 use crate::tree::{block_at, items_of, leaf_for, leaf_with, put_block, root_of};
 use image_maker::{
-    ChildPointer, FSID, LeafItem, NODESIZE, base_superblock, create_writes, node_block, with_checksum,
+    ChildPointer, FSID, LeafItem, NODESIZE, base_superblock, create_writes, node_block,
+    with_checksum,
 };
 use std::alloc::Global;
 use std::test::Fail;
@@ -97,8 +98,16 @@ fn split(alloc: Global, image: &mut [u8], tree: u64, key: Key) -> Result<(), Fai
     let pointers = [pointer(first, LEFT), pointer(key, RIGHT)];
     let node = node_block(alloc, NODESIZE, &FSID, at, tree, 1, 1, &pointers)?;
     put_block(image, at, node.as_slice());
-    put_block(image, LEFT, leaf_with(alloc, LEFT, tree, 1, left)?.as_slice());
-    put_block(image, RIGHT, leaf_with(alloc, RIGHT, tree, 1, right)?.as_slice());
+    put_block(
+        image,
+        LEFT,
+        leaf_with(alloc, LEFT, tree, 1, left)?.as_slice(),
+    );
+    put_block(
+        image,
+        RIGHT,
+        leaf_with(alloc, RIGHT, tree, 1, right)?.as_slice(),
+    );
     raise_root(alloc, image, tree)
 }
 

@@ -5,12 +5,13 @@ use crate::record::Record;
 use crate::runs::{ACCEPTED, CHECK, run_over};
 use image_maker::{base_image, wider_image};
 use std::test::Fail;
+use verdict::kinds::XATTR_ITEM;
 
 // The file tree as a node over two leaves, of which the right one has no items.
 const EMPTY_LEAF: &[Change] = &[
     Change::Put(5, Record::Attribute(257)),
-    Change::Split(5, (257, 24, 0)),
-    Change::Drop(5, (257, 24, 0)),
+    Change::Split(5, (257, XATTR_ITEM, 0)),
+    Change::Drop(5, (257, XATTR_ITEM, 0)),
 ];
 
 // The tree of checksums of the base image is one leaf without items.

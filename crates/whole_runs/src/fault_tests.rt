@@ -275,7 +275,13 @@ fn a_new_file_is_three_writes(rt: HostRuntime) -> Result<(), Fail> {
     let trace = trace_of(alloc, base.as_slice(), &steps)?;
     for (nth, keep, status, pieces, line) in WRITES.iter().copied() {
         let object = Object::Disk(Op::Write, keep);
-        let run = run_over(alloc, REPLAY, base.as_slice(), &trace, &[Fault { object, nth }])?;
+        let run = run_over(
+            alloc,
+            REPLAY,
+            base.as_slice(),
+            &trace,
+            &[Fault { object, nth }],
+        )?;
         let lines = if status == 0 { PASSED } else { ACCEPTED };
         assert_eq!(rt; run.status, status, "{nth} {keep}");
         assert!(rt; run.out.bytes() == lines.as_bytes(), "{nth} {keep}");
@@ -306,7 +312,13 @@ fn a_run_that_ends_early_keeps_its_lines(rt: HostRuntime) -> Result<(), Fail> {
     let base = base_image(alloc)?;
     let trace = trace_of(alloc, base.as_slice(), &[Step::End])?;
     for (object, nth, status, lines) in EARLY.iter().copied() {
-        let run = run_over(alloc, REPLAY, base.as_slice(), &trace, &[Fault { object, nth }])?;
+        let run = run_over(
+            alloc,
+            REPLAY,
+            base.as_slice(),
+            &trace,
+            &[Fault { object, nth }],
+        )?;
         assert_eq!(rt; run.status, status, "{lines}");
         assert!(rt; run.out.bytes() == lines.as_bytes(), "{lines}");
     }

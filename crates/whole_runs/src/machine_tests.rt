@@ -50,13 +50,7 @@ fn event_of(alloc: Global, at: u64, bytes: &[u8]) -> Option<Event>
     })
 }
 
-fn take<D: Disk>(
-    alloc: Global,
-    checker: &mut Checker,
-    disk: &mut D,
-    at: u64,
-    bytes: &[u8],
-) -> Said
+fn take<D: Disk>(alloc: Global, checker: &mut Checker, disk: &mut D, at: u64, bytes: &[u8]) -> Said
     requires length { checker.old.length ≡ D.len disk.old }
     requires below { IsBelow checker.old.length checker.old.cache }
     ensures length { checker.new.length ≡ D.len disk.new }
@@ -106,8 +100,7 @@ fn may_end_so(said: [Said; 3], left: &[u8], old: &[u8], new: &[u8]) -> bool {
     match said {
         [FAULT, Said::Other, Said::Other] => left == old,
         [Said::Held, FAULT, CLOSED] => {
-            left == new
-                || superblock_in(left) == superblock_in(old) && is_in_part(left, old, new)
+            left == new || superblock_in(left) == superblock_in(old) && is_in_part(left, old, new)
         }
         [Said::Held, Said::Passed, FAULT] => left == new,
         _ => false,
@@ -115,13 +108,7 @@ fn may_end_so(said: [Said; 3], left: &[u8], old: &[u8], new: &[u8]) -> bool {
 }
 
 // Whether the checker ends as it may with each call of a kind failing in turn, until none fails.
-fn end_as_they_may(
-    alloc: Global,
-    old: &[u8],
-    new: &[u8],
-    op: Op,
-    keep: u32,
-) -> Result<bool, Fail> {
+fn end_as_they_may(alloc: Global, old: &[u8], new: &[u8], op: Op, keep: u32) -> Result<bool, Fail> {
     for nth in 1..100 {
         let fails = vec![in alloc; DiskFail { op, nth, keep }]?;
         let mut disk = MemDisk::new(Vec::from_slice(alloc, old)?, fails);

@@ -8,6 +8,7 @@ use image_maker::{BASE_LENGTH, LeafItem, base_image};
 use std::alloc::{AllocError, Global};
 use std::test::Fail;
 use trace_maker::{Operation, plan};
+use verdict::kinds::{INODE_ITEM, INODE_REF, ROOT_ITEM};
 
 // How many commits are replayed.
 const COMMITS: u32 = 200;
@@ -81,7 +82,7 @@ fn carry_out(files: &mut Files, op: &Operation) -> Result<(), AllocError> {
 fn take_item(files: &mut Files, item: &LeafItem) -> Result<(), AllocError> {
     let (id, bytes) = (item.key.objectid, item.bytes.as_slice());
     match item.key.kind {
-        1 => {
+        INODE_ITEM => {
             let directory = number_at(bytes, 52, 4) & 0o170000 == 0o040000;
             let size = if directory {
                 0
@@ -90,8 +91,8 @@ fn take_item(files: &mut Files, item: &LeafItem) -> Result<(), AllocError> {
             };
             files.inodes.push((id, directory, size))?
         }
-        12 => files.names.push((id, item.key.offset))?,
-        132 if id >= 256 => files.subvolumes.push(id)?,
+        INODE_REF => files.names.push((id, item.key.offset))?,
+        ROOT_ITEM if id >= 256 => files.subvolumes.push(id)?,
         _ => {}
     }
     Ok(())

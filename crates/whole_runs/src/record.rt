@@ -1,10 +1,15 @@
 //! The items that the rows put into trees.
 
-use image_maker::{
-    Fields, LeafItem, dir_entry, extent_item_of_block, group_item, inode_ref_item,
-};
+use image_maker::{Fields, LeafItem, dir_entry, extent_item_of_block, group_item, inode_ref_item};
 use std::alloc::Global;
-use verdict::{Bytes, Key, NoMemory};
+use verdict::kinds::{
+    BLOCK_GROUP_ITEM, DIR_INDEX, DIR_ITEM, EXTENT_CSUM, EXTENT_DATA, EXTENT_DATA_REF, EXTENT_ITEM,
+    INODE_ITEM, INODE_REF, METADATA_ITEM, ORPHAN_ITEM, XATTR_ITEM,
+};
+use verdict::{Bytes, Key, NoMemory, ORPHAN_OBJECTID};
+
+/// The objectid of checksums, -10.
+pub const SUMS_OBJECTID: u64 = 18_446_744_073_709_551_606;
 
 /// An item of a tree. Lengths, sizes and addresses are in bytes.
 #[derive(Clone, Copy)]
@@ -90,7 +95,7 @@ fn inode_bytes(
 }
 
 fn hello_entry(alloc: Global) -> Result<Bytes, NoMemory> {
-    dir_entry(alloc, key_of(257, 1, 0), 1, 1, b"hello")
+    dir_entry(alloc, key_of(257, INODE_ITEM, 0), 1, 1, b"hello")
 }
 
 fn range_bytes(alloc: Global, range: Range) -> Result<Bytes, NoMemory> {
@@ -112,7 +117,7 @@ fn extent_bytes(alloc: Global, extent: Extent) -> Result<Bytes, NoMemory> {
     fields.eight(extent.references)?;
     fields.eight(1)?;
     fields.eight(1)?;
-    fields.one(178)?;
+    fields.one(EXTENT_DATA_REF)?;
     fields.eight(5)?;
     fields.eight(257)?;
     fields.eight(extent.origin)?;
@@ -130,37 +135,37 @@ fn zeros(alloc: Global, count: usize) -> Result<Bytes, NoMemory> {
 pub fn item_of(alloc: Global, record: Record) -> Result<LeafItem, NoMemory> {
     let (key, bytes) = match record {
         Record::Top(mode, size) => (
-            key_of(256, 1, 0),
+            key_of(256, INODE_ITEM, 0),
             inode_bytes(alloc, mode, 1, (size, 16_384), 0)?,
         ),
         Record::File(links, size, flags) => (
-            key_of(257, 1, 0),
+            key_of(257, INODE_ITEM, 0),
             inode_bytes(alloc, 33_188, links, (size, size), flags)?,
         ),
-        Record::Hashed => (key_of(256, 84, 1_570_712_351), hello_entry(alloc)?),
-        Record::Indexed => (key_of(256, 96, 2), hello_entry(alloc)?),
-        Record::Name => (key_of(257, 12, 256), inode_ref_item(alloc, 2, b"hello")?),
+        Record::Hashed => (key_of(256, DIR_ITEM, 1_570_712_351), hello_entry(alloc)?),
+        Record::Indexed => (key_of(256, DIR_INDEX, 2), hello_entry(alloc)?),
+        Record::Name => (key_of(257, INODE_REF, 256), inode_ref_item(alloc, 2, b"hello")?),
         Record::Orphan(ino) => (
-            key_of(18_446_744_073_709_551_611, 48, ino),
+            key_of(ORPHAN_OBJECTID, ORPHAN_ITEM, ino),
             zeros(alloc, 0)?,
         ),
-        Record::Attribute(ino) => (key_of(ino, 24, 0), zeros(alloc, 1)?),
-        Record::Range(range) => (key_of(257, 108, range.from), range_bytes(alloc, range)?),
+        Record::Attribute(ino) => (key_of(ino, XATTR_ITEM, 0), zeros(alloc, 1)?),
+        Record::Range(range) => (key_of(257, EXTENT_DATA, range.from), range_bytes(alloc, range)?),
         Record::Extent(extent) => (
-            key_of(extent.at, 168, extent.length),
+            key_of(extent.at, EXTENT_ITEM, extent.length),
             extent_bytes(alloc, extent)?,
         ),
-        Record::Block(at, level) => (key_of(at, 169, level), extent_item_of_block(alloc, 1, 5)?),
+        Record::Block(at, level) => (key_of(at, METADATA_ITEM, level), extent_item_of_block(alloc, 1, 5)?),
         Record::Metadata(used) => (
-            key_of(5_242_880, 192, 8_388_608),
+            key_of(5_242_880, BLOCK_GROUP_ITEM, 8_388_608),
             group_item(alloc, used, 36)?,
         ),
         Record::Data(used) => (
-            key_of(13_631_488, 192, 8_388_608),
+            key_of(13_631_488, BLOCK_GROUP_ITEM, 8_388_608),
             group_item(alloc, used, 1)?,
         ),
         Record::Sums(at, sectors) => (
-            key_of(18_446_744_073_709_551_606, 128, at),
+            key_of(SUMS_OBJECTID, EXTENT_CSUM, at),
             zeros(alloc, sectors.saturating_mul(4))?,
         ),
     };

@@ -1,14 +1,16 @@
 //! Replays of traces over an image: their lines as text and as JSON, their statuses, and what they leave on the device.
 
 use crate::change::{Change, changed};
-use crate::record::{Extent, Range, Record};
+use crate::record::{Extent, Range, Record, SUMS_OBJECTID};
 use crate::runs::{REPLAY, REPLAY_JSON, run_over};
 use crate::trace::{Step, trace_of};
+use Change::{Drop, FirstSuperblock, NewFile, Put, Split, Used, Write};
 use image_maker::base_image;
 use std::alloc::Global;
 use std::test::Fail;
-
-use Change::{Drop, FirstSuperblock, NewFile, Put, Split, Used, Write};
+use verdict::kinds::{
+    DIR_INDEX, DIR_ITEM, EXTENT_CSUM, EXTENT_DATA, EXTENT_ITEM, INODE_REF, METADATA_ITEM,
+};
 
 // A replay over the base image with changes: its steps, its status, its lines behind the image's as text and, in some
 // rows, as JSON, and the changes of the image that it leaves on the device.
@@ -133,17 +135,18 @@ const NAMES: &[Row] = &[
     // Without the entry by its index, with the size that goes with that and with the size that goes with both.
     Row {
         steps: &[
-            Step::Rejected(&[NewFile, Drop(5, (256, 96, 2)), Put(5, Record::Top(16_877, 5))]),
+            Step::Rejected(&[
+                NewFile,
+                Drop(5, (256, DIR_INDEX, 2)),
+                Put(5, Record::Top(16_877, 5)),
+            ]),
             Step::End,
         ],
         text: "commit 1 rejected A11 tree 5 block 0 key 256 84 1570712351 detail 257\nend passed 0 rejected 1\n",
         ..ONE_REJECTED
     },
     Row {
-        steps: &[
-            Step::Rejected(&[NewFile, Drop(5, (256, 96, 2))]),
-            Step::End,
-        ],
+        steps: &[Step::Rejected(&[NewFile, Drop(5, (256, DIR_INDEX, 2))]), Step::End],
         text: "commit 1 rejected A9 tree 5 block 0 key 256 1 0 detail 0\nend passed 0 rejected 1\n",
         ..ONE_REJECTED
     },
@@ -168,10 +171,10 @@ const NAMES: &[Row] = &[
 const ORPHAN: &[Change] = &[
     NewFile,
     Put(5, Record::Top(16_877, 0)),
-    Drop(5, (256, 84, 1_570_712_351)),
-    Drop(5, (256, 96, 2)),
+    Drop(5, (256, DIR_ITEM, 1_570_712_351)),
+    Drop(5, (256, DIR_INDEX, 2)),
     Put(5, Record::File(0, 0, 0)),
-    Drop(5, (257, 12, 256)),
+    Drop(5, (257, INODE_REF, 256)),
     Put(5, Record::Orphan(257)),
 ];
 
@@ -270,8 +273,8 @@ const WITHOUT_SUMS: &[Change] = &[
     Put(5, Record::File(1, 4096, 1)),
     Put(5, Record::Name),
     Put(5, Record::Range(ONE_SECTOR)),
-    Split(5, (257, 108, 0)),
-    Drop(2, (5_292_032, 169, 0)),
+    Split(5, (257, EXTENT_DATA, 0)),
+    Drop(2, (5_292_032, METADATA_ITEM, 0)),
     Put(2, Record::Block(5_292_032, 1)),
     Put(2, Record::Block(5_324_800, 0)),
     Put(2, Record::Block(5_341_184, 0)),
@@ -293,9 +296,9 @@ const DATA: &[Row] = &[
         steps: &[
             Step::Commit(FILE_OF_ONE),
             Step::Rejected(&[
-                Drop(2, (DATA_AT, 168, 4096)),
+                Drop(2, (DATA_AT, EXTENT_ITEM, 4096)),
                 Put(2, Record::Data(0)),
-                Drop(7, (18_446_744_073_709_551_606, 128, DATA_AT)),
+                Drop(7, (SUMS_OBJECTID, EXTENT_CSUM, DATA_AT)),
                 Used(98_304),
             ]),
             Step::End,
@@ -310,7 +313,10 @@ end passed 1 rejected 1
     // The flag of the inode is taken away, and the leaf of its data stays; then with the checksum.
     Row {
         image: WITHOUT_SUMS,
-        steps: &[Step::Rejected(&[Put(5, Record::File(1, 4096, 0))]), Step::End],
+        steps: &[
+            Step::Rejected(&[Put(5, Record::File(1, 4096, 0))]),
+            Step::End,
+        ],
         text: "commit 1 rejected A5 tree 0 block 13631488 key 0 0 0 detail 0\nend passed 0 rejected 1\n",
         ..ONE_REJECTED
     },

@@ -3,11 +3,11 @@
 ghost use Rattle.std.specs.Prelude.{◌≤◌};
 
 use crate::bytes::{number_at, part, put};
-use crate::record::key_of;
 use image_maker::{FSID, LeafItem, LeafMaker, NODESIZE};
 use std::alloc::{AllocError, Global};
 use std::test::Fail;
-use verdict::{Bytes, Key};
+use verdict::kinds::ROOT_ITEM;
+use verdict::{Bytes, Key, key_at};
 
 /// How far behind the first copy of a block of the metadata chunk the second stands.
 pub const SECOND: u64 = 8_388_608;
@@ -40,15 +40,6 @@ pub fn level_of(block: &[u8]) -> u64 {
     number_at(block, 0x64, 1)
 }
 
-/// The key at a place of a block.
-pub fn key_at(block: &[u8], at: u64) -> Key {
-    key_of(
-        number_at(block, at, 8),
-        number_at(block, at.saturating_add(8), 1).min(255) as u8,
-        number_at(block, at.saturating_add(9), 8),
-    )
-}
-
 /// The items of a leaf.
 pub fn items_of(alloc: Global, leaf: &[u8]) -> Result<Vec<LeafItem>, Fail> {
     let mut items = Vec::new(alloc);
@@ -56,10 +47,10 @@ pub fn items_of(alloc: Global, leaf: &[u8]) -> Result<Vec<LeafItem>, Fail> {
         let entry = 101 + 25 * i;
         let start = number_at(leaf, entry + 17, 4).saturating_add(101);
         let size = number_at(leaf, entry + 21, 4) as usize;
-        items.push(LeafItem {
-            key: key_at(leaf, entry),
-            bytes: Bytes::of(alloc, part(leaf, start, size))?,
-        })?;
+        if let Some(key) = key_at(leaf, entry as usize) {
+            let bytes = Bytes::of(alloc, part(leaf, start, size))?;
+            items.push(LeafItem { key, bytes })?;
+        }
     }
     Ok(items)
 }
@@ -69,7 +60,9 @@ pub fn pointers_of(alloc: Global, node: &[u8]) -> Result<Vec<(Key, u64)>, AllocE
     let mut pointers = Vec::new(alloc);
     for i in 0..count_of(node) {
         let entry = 101 + 33 * i;
-        pointers.push((key_at(node, entry), number_at(node, entry + 17, 8)))?;
+        if let Some(key) = key_at(node, entry as usize) {
+            pointers.push((key, number_at(node, entry + 17, 8)))?;
+        }
     }
     Ok(pointers)
 }
@@ -100,7 +93,7 @@ pub fn root_of(alloc: Global, image: &[u8], tree: u64) -> Result<u64, Fail> {
             let items = items_of(alloc, block_at(image, root))?;
             let found = items
                 .iter()
-                .find(|item| item.key.objectid == tree && item.key.kind == 132);
+                .find(|item| item.key.objectid == tree && item.key.kind == ROOT_ITEM);
             Ok(match found {
                 Some(item) => number_at(item.bytes.as_slice(), 176, 8),
                 None => 0,
@@ -124,12 +117,7 @@ pub fn leaf_for(alloc: Global, image: &[u8], tree: u64, key: Key) -> Result<u64,
 }
 
 // Appends the blocks below a node, or a leaf itself.
-fn put_below(
-    alloc: Global,
-    image: &[u8],
-    at: u64,
-    below: &mut Vec<u64>,
-) -> Result<(), AllocError> {
+fn put_below(alloc: Global, image: &[u8], at: u64, below: &mut Vec<u64>) -> Result<(), AllocError> {
     let block = block_at(image, at);
     if level_of(block) == 0 {
         below.push(at)?;
