@@ -2,7 +2,7 @@
 
 use crate::bytes::{is_in_part, part, superblock_in};
 use crate::change::{Change, changed};
-use crate::runs::{ACCEPTED, CHECK, Fault, Object, REPLAY, REPLAY_JSON, Run, run_over};
+use crate::runs::{ACCEPTED, CHECK, CREATED, Fault, Object, REPLAY, REPLAY_JSON, Run, run_over};
 use crate::trace::{Step, trace_of};
 use image_maker::{BASE_LENGTH, base_image};
 use recon_disk::{MemSink, Op};
@@ -88,7 +88,8 @@ fn wrong_object(alloc: Global, whole: &Whole, rows: &[Object]) -> Result<Option<
     Ok(None)
 }
 
-// A pending write, a superblock that says less, and a new file, with a fetch on each side of the first superblock.
+// A pending write, a superblock that says less, and a new file, with a fetch on each side of the first superblock: what
+// is rejected takes the pending write with it. The run without a failed call has all these lines, as text and as JSON.
 const STEPS: &[Step] = &[
     Step::Write(30_408_704, b"ABCD"),
     Step::Fetch(30_408_704, 4),
@@ -249,9 +250,6 @@ fn pieces_on(device: &[u8], old: &[u8], new: &[u8]) -> Option<u8> {
     Some(count)
 }
 
-const PASSED: &str =
-    "image accepted generation 1\ncommit 1 passed generation 2 blocks 0 hot 0\nend passed 1 rejected 0\n";
-
 const NEXT: &str = "image accepted generation 2\n";
 
 // A new file's blocks are two pieces, and the third write is the superblock's. Each row has the write that fails,
@@ -282,7 +280,7 @@ fn a_new_file_is_three_writes(rt: HostRuntime) -> Result<(), Fail> {
             &trace,
             &[Fault { object, nth }],
         )?;
-        let lines = if status == 0 { PASSED } else { ACCEPTED };
+        let lines = if status == 0 { CREATED } else { ACCEPTED };
         assert_eq!(rt; run.status, status, "{nth} {keep}");
         assert!(rt; run.out.bytes() == lines.as_bytes(), "{nth} {keep}");
         let left = run.disk.bytes();

@@ -1,16 +1,12 @@
 //! A commit whose writes come in other orders.
 
 use crate::change::put_events;
-use crate::runs::{REPLAY, run_over};
+use crate::runs::{CREATED, REPLAY, run_over};
 use crate::trace::{header, put_sent_by};
 use image_maker::{base_image, create_writes};
 use std::alloc::Global;
 use std::test::Fail;
 use verdict::Event;
-
-// The lines of the commit of a new file.
-const CREATED: &str =
-    "image accepted generation 1\ncommit 1 passed generation 2 blocks 0 hot 0\nend passed 1 rejected 0\n";
 
 // The trace of a new file's writes whose first three blocks come from one submitter and whose other three from another,
 // each in their order. The bits of a number say, from the lowest on, whose write is next.

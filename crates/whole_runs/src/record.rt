@@ -144,18 +144,24 @@ pub fn item_of(alloc: Global, record: Record) -> Result<LeafItem, NoMemory> {
         ),
         Record::Hashed => (key_of(256, DIR_ITEM, 1_570_712_351), hello_entry(alloc)?),
         Record::Indexed => (key_of(256, DIR_INDEX, 2), hello_entry(alloc)?),
-        Record::Name => (key_of(257, INODE_REF, 256), inode_ref_item(alloc, 2, b"hello")?),
-        Record::Orphan(ino) => (
-            key_of(ORPHAN_OBJECTID, ORPHAN_ITEM, ino),
-            zeros(alloc, 0)?,
+        Record::Name => (
+            key_of(257, INODE_REF, 256),
+            inode_ref_item(alloc, 2, b"hello")?,
         ),
+        Record::Orphan(ino) => (key_of(ORPHAN_OBJECTID, ORPHAN_ITEM, ino), zeros(alloc, 0)?),
         Record::Attribute(ino) => (key_of(ino, XATTR_ITEM, 0), zeros(alloc, 1)?),
-        Record::Range(range) => (key_of(257, EXTENT_DATA, range.from), range_bytes(alloc, range)?),
+        Record::Range(range) => (
+            key_of(257, EXTENT_DATA, range.from),
+            range_bytes(alloc, range)?,
+        ),
         Record::Extent(extent) => (
             key_of(extent.at, EXTENT_ITEM, extent.length),
             extent_bytes(alloc, extent)?,
         ),
-        Record::Block(at, level) => (key_of(at, METADATA_ITEM, level), extent_item_of_block(alloc, 1, 5)?),
+        Record::Block(at, level) => (
+            key_of(at, METADATA_ITEM, level),
+            extent_item_of_block(alloc, 1, 5)?,
+        ),
         Record::Metadata(used) => (
             key_of(5_242_880, BLOCK_GROUP_ITEM, 8_388_608),
             group_item(alloc, used, 36)?,

@@ -104,26 +104,6 @@ end passed 1 rejected 1
         left: &[NewFile, FirstSuperblock],
         ..NOTHING
     },
-    // A rejected superblock takes the pending write with it.
-    Row {
-        steps: &[
-            Step::Write(30_408_704, b"ABCD"),
-            Step::Fetch(30_408_704, 4),
-            Step::Rejected(&[Used(94_208)]),
-            Step::Fetch(30_408_704, 4),
-            Step::Commit(&[NewFile]),
-            Step::End,
-        ],
-        status: 1,
-        text: "fetch 30408704 4 41424344
-commit 1 rejected A16 tree 0 block 0 key 0 0 0 detail 0
-fetch 30408704 4 00000000
-commit 2 passed generation 2 blocks 0 hot 0
-end passed 1 rejected 1
-",
-        left: &[NewFile],
-        ..NOTHING
-    },
 ];
 
 const ONE_REJECTED: Row = Row {
@@ -146,7 +126,10 @@ const NAMES: &[Row] = &[
         ..ONE_REJECTED
     },
     Row {
-        steps: &[Step::Rejected(&[NewFile, Drop(5, (256, DIR_INDEX, 2))]), Step::End],
+        steps: &[
+            Step::Rejected(&[NewFile, Drop(5, (256, DIR_INDEX, 2))]),
+            Step::End,
+        ],
         text: "commit 1 rejected A9 tree 5 block 0 key 256 1 0 detail 0\nend passed 0 rejected 1\n",
         ..ONE_REJECTED
     },

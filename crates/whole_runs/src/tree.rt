@@ -3,6 +3,7 @@
 ghost use Rattle.std.specs.Prelude.{◌≤◌};
 
 use crate::bytes::{number_at, part, put};
+use crate::record::key_of;
 use image_maker::{FSID, LeafItem, LeafMaker, NODESIZE};
 use std::alloc::{AllocError, Global};
 use std::test::Fail;
@@ -82,38 +83,54 @@ pub fn leaf_with(
     Ok(leaf.finish()?)
 }
 
-/// The address of the root block of a tree: of the chunk tree and of the root tree as the superblock says it, else as
-/// the one leaf of the root tree does.
-pub fn root_of(alloc: Global, image: &[u8], tree: u64) -> Result<u64, Fail> {
-    let (root, chunks) = (number_at(image, 65_616, 8), number_at(image, 65_624, 8));
-    match tree {
-        1 => Ok(root),
-        3 => Ok(chunks),
-        _ => {
-            let items = items_of(alloc, block_at(image, root))?;
-            let found = items
-                .iter()
-                .find(|item| item.key.objectid == tree && item.key.kind == ROOT_ITEM);
-            Ok(match found {
-                Some(item) => number_at(item.bytes.as_slice(), 176, 8),
-                None => 0,
-            })
+// The child of a node that has or would have an item of this key.
+fn child_for(pointers: &[(Key, u64)], key: Key) -> u64 {
+    let mut at = 0;
+    for (place, (first, below)) in pointers.iter().enumerate() {
+        if place == 0 || *first <= key {
+            at = *below;
         }
+    }
+    at
+}
+
+// The leaf below a block that has or would have an item of this key.
+fn leaf_below(alloc: Global, image: &[u8], root: u64, key: Key) -> Result<u64, AllocError> {
+    let mut at = root;
+    for _ in 0..8 {
+        let block = block_at(image, at);
+        if level_of(block) == 0 {
+            return Ok(at);
+        }
+        at = child_for(&pointers_of(alloc, block)?, key);
+    }
+    Ok(at)
+}
+
+// The address of the root block that the root tree says of a tree; 0 where it says none.
+fn named_root(alloc: Global, image: &[u8], tree: u64) -> Result<u64, Fail> {
+    let key = key_of(tree, ROOT_ITEM, 0);
+    let leaf = leaf_below(alloc, image, number_at(image, 65_616, 8), key)?;
+    let items = items_of(alloc, block_at(image, leaf))?;
+    Ok(match items.iter().find(|item| item.key == key) {
+        Some(item) => number_at(item.bytes.as_slice(), 176, 8),
+        None => 0,
+    })
+}
+
+/// The address of the root block of a tree: of the root tree and of the chunk tree as the superblock says it.
+pub fn root_of(alloc: Global, image: &[u8], tree: u64) -> Result<u64, Fail> {
+    match tree {
+        1 => Ok(number_at(image, 65_616, 8)),
+        3 => Ok(number_at(image, 65_624, 8)),
+        _ => named_root(alloc, image, tree),
     }
 }
 
 /// The address of the leaf of a tree that has or would have an item of this key.
 pub fn leaf_for(alloc: Global, image: &[u8], tree: u64, key: Key) -> Result<u64, Fail> {
     let root = root_of(alloc, image, tree)?;
-    let mut at = root;
-    if level_of(block_at(image, root)) != 0 {
-        for (first, below) in &pointers_of(alloc, block_at(image, root))? {
-            if at == root || *first <= key {
-                at = *below;
-            }
-        }
-    }
-    Ok(at)
+    Ok(leaf_below(alloc, image, root, key)?)
 }
 
 // Appends the blocks below a node, or a leaf itself.
