@@ -5,116 +5,51 @@ of the table has a case here with the finding that it names, or says that it was
 
 Usage: tests/profile.py [PROGRAM], by default crates/recon/out/recon. Prints one line, and ends with 1 at the first that
 differs."""
-import os
 import re
 import struct
-import subprocess
-import sys
-import tempfile
 
-os.chdir(os.path.dirname(os.path.abspath(__file__)) + '/..')
-sys.path.insert(0, 'examples')
-sys.dont_write_bytecode = True
-import base_image as base  # noqa: E402
+from rows import (
+    BASE, EXTENTS, FILES, ROOTS, SUPERBLOCK, Device, changed, fail, in_repository, leaf, made, metadata_group, put, used,
+    write)
 
-ROOT, EXTENT, CHUNK, DEVICE, FILES = base.BLOCKS[1], base.BLOCKS[2], base.BLOCKS[3], base.BLOCKS[4], base.BLOCKS[5]
-DATA_CHUNK, METADATA_GROUP = (256, 228, 13631488), (5242880, 192, 8388608)
+DATA_CHUNK = (256, 228, 13631488)
 FREE_BLOCK, INCOMPAT = 5324800, 865
 BELOW = (1 << 64).__sub__  # an id that counts down from 2^64
-leaves = {}
 
 
 def u32(number):
-    return struct.pack('<I', number)
+    return made.number(number, 4)
 
 
 def u64(number):
-    return struct.pack('<Q', number)
+    return made.number(number)
 
 
-class Volume:
-    """The base image: the superblock, the trees by id with their items by key, and what stands elsewhere."""
-
-    def __init__(self):
-        self.superblock, self.length = bytearray(base.superblock(1, ROOT)), 32 << 20
-        self.blocks, self.headers, self.elsewhere = dict(base.BLOCKS), {}, []
-        self.trees = {tree: items_of(first_blocks[at]) for tree, at in base.BLOCKS.items()}
-
-    def leaf(self, tree):
-        items = tuple((base.key(*key), bytes(data)) for key, data in sorted(self.trees[tree].items()))
-        at = self.headers.get(tree)
-        if (tree, items, at) not in leaves:
-            leaves[tree, items, at] = changed_header(base.leaf(self.blocks[tree], tree, 1, items), at)
-        return leaves[tree, items, at]
-
-    def write(self, file):
-        struct.pack_into('<I', self.superblock, 0, base.crc32c(self.superblock[32:]))
-        parts = [(65536, self.superblock)] + self.elsewhere
-        parts += [(place, self.leaf(tree)) for tree, at in self.blocks.items() for place in base.places(at)]
-        with open(file, 'wb') as out:
-            out.truncate(self.length)
-            for at, data in parts:
-                out.seek(at)
-                out.write(data)
-
-
-def items_of(block):
-    heads = (struct.unpack_from('<QBQII', block, 101 + 25 * n) for n in range(struct.unpack_from('<I', block, 0x60)[0]))
-    return {head[:3]: bytearray(block[101 + head[3]:101 + head[3] + head[4]]) for head in heads}
-
-
-def changed_header(block, change):
-    """A block with one byte of its header changed, where a change is given: its place and its value."""
-    if not change:
-        return block
-    block = bytearray(block)
-    block[change[0]] = change[1]
-    struct.pack_into('<I', block, 0, base.crc32c(block[32:]))
-    return bytes(block)
-
-
-# The changes of a volume.
+# Further changes of an image.
 def sup(at, data):
     """Bytes of the superblock."""
-    return lambda volume: volume.superblock.__setitem__(slice(at, at + len(data)), data)
-
-
-def put(tree, key, data):
-    """An item."""
-    return lambda volume: volume.trees[tree].__setitem__(key, bytearray(data))
+    return write(SUPERBLOCK + at, data)
 
 
 def field(tree, key, at, data):
     """Bytes of an item that stands there."""
-    return lambda volume: volume.trees[tree][key].__setitem__(slice(at, at + len(data)), data)
-
-
-def header(tree, at, byte):
-    """A byte of a tree's block."""
-    return lambda volume: volume.headers.__setitem__(tree, (at, byte))
-
-
-def device(length, at, data):
-    """The length of the device, and bytes that stand there."""
-    return lambda volume: (setattr(volume, 'length', length), volume.elsewhere.append((at, data)))
-
-
-def new_tree(tree, items):
-    """A tree of one block, with its root item and its extent; the group and the superblock count its bytes."""
-    def change(volume):
-        volume.blocks[tree], volume.trees[tree] = FREE_BLOCK, items
-        volume.trees[1][tree, 132, 0] = base.root_item(tree, 1, FREE_BLOCK)
-        volume.trees[2][FREE_BLOCK, 169, 0] = struct.pack('<QQQBQ', 1, 1, 2, 176, tree)
-        volume.trees[2][METADATA_GROUP][:8] = u64(81920 + 16384)
-        volume.superblock[0x78:0x80] = u64(98304 + 16384)
+    def change(image):
+        item = image.items(image.root(tree))[key]
+        image.put(tree, (key, item[:at] + data + item[at + len(data):]))
     return change
+
+
+def new_tree(tree, *items):
+    """A tree of one block, with its root item and its extent; the group and the superblock count its bytes."""
+    return [put(1, made.root(tree, FREE_BLOCK)), leaf(FREE_BLOCK, tree, *items), put(2, made.block(FREE_BLOCK, tree)),
+            metadata_group(81920 + 16384), used(98304 + 16384)]
 
 
 def root_item(tree, address, at=0, byte=0):
     """A root item with one byte changed."""
-    item = bytearray(base.root_item(tree, 1, address))
+    item = bytearray(made.root(tree, address)[1])
     item[at] = byte
-    return item
+    return bytes(item)
 
 
 def of_image(rule, detail):
@@ -122,7 +57,7 @@ def of_image(rule, detail):
 
 
 def of_item(rule, tree, key, detail):
-    return f'refused {rule} tree {tree} block {base.BLOCKS[tree]} key {key[0]} {key[1]} {key[2]} detail {detail}'
+    return f'refused {rule} tree {tree} block {made.BLOCKS[tree]} key {key[0]} {key[1]} {key[2]} detail {detail}'
 
 
 def with_bit(bit):
@@ -132,7 +67,12 @@ def with_bit(bit):
 
 def with_item(rule, tree, key, data, detail):
     """A case of one more item."""
-    return of_item(rule, tree, key, detail), put(tree, key, data)
+    return of_item(rule, tree, key, detail), put(tree, (key, data))
+
+
+def second_superblock(image):
+    """A device that is longer than the file system, with bytes that are no superblock where a second one may stand."""
+    image.behind = (64 << 20, b'\x55' * 4096)
 
 
 GOOD = 'accepted generation 1'
@@ -155,30 +95,30 @@ CASES = {
     'Block group tree': [(of_image('U3', 11), sup(0xB4, u64(11)))],
     'Tree block extents that are not skinny': [
         (of_image('U2', INCOMPAT - 256), sup(0xBC, u64(INCOMPAT - 256))),
-        with_item('U10', 2, (EXTENT, 168, 16384), struct.pack('<QQQQBQBQ', 1, 1, 2, 0, 0, 0, 176, 2), 2)],
+        with_item('U10', 2, (EXTENTS, 168, 16384), struct.pack('<QQQQBQBQ', 1, 1, 2, 0, 0, 0, 176, 2), 2)],
     'Compression': [with_item('U13', 5, (257, 108, 0), bytes(16) + bytes([kind]) + bytes(36), kind) for kind in (1, 2, 3)]
     + [with_bit(3), with_bit(4)],
     'Encryption': [with_item('U14', 5, (257, 108, 0), bytes(17) + b'\1' + bytes(35), 1),
                    with_item('U14', 5, (257, 108, 0), bytes(18) + b'\2' + bytes(34), 2)],
     'Balance': [with_item('U9', 1, (BELOW(4), 248, 0), bytes(448), 248),
                 with_item('U7', 1, (BELOW(8), 132, 5), root_item(5, FILES), BELOW(8))],
-    'Blocks with the relocation flag': [(f'refused U12 tree 5 block {FILES} key 0 0 0 detail 0', header(5, 0x38, 3))],
+    'Blocks with the relocation flag': [(f'refused U12 tree 5 block {FILES} key 0 0 0 detail 0', write(FILES + 0x38, b'\3'))],
     'Deletion of a subvolume': [with_item('U8', 1, (256, 132, 0), root_item(256, FREE_BLOCK, 220, 1), 0),
                                 with_item('U9', 1, (BELOW(5), 48, 256), b'', 48)],
     'Device replace': [with_item('U9', 4, (0, 250, 0), bytes(80), 250)],
-    'Inode number cache': [with_item('U9', 5, (BELOW(12), 1, 0), base.inode_item(1, 0, 0, 33152), 1)],
+    'Inode number cache': [with_item('U9', 5, (BELOW(12), 1, 0), made.inode(0, mode=33152)[1], 1)],
     'Free space cache of version 1': [with_item('U9', 1, (BELOW(11), 0, 13631488), bytes(41), 0),
                                       with_item('U9', 1, (256, 108, 0), bytes(53), 108)],
-    'Snapshots': [(f'refused N6 tree 256 block {FILES} key 0 0 0 detail 5', put(1, (256, 132, 0), root_item(256, FILES))),
+    'Snapshots': [(f'refused N6 tree 256 block {FILES} key 0 0 0 detail 5', put(1, made.root(256, FILES))),
                   (of_item('U11', 2, (FILES, 169, 0), 256), field(2, (FILES, 169, 0), 16, u64(258))),
-                  with_item('U11', 2, (FILES, 182, ROOT), b'', 182),
+                  with_item('U11', 2, (FILES, 182, ROOTS), b'', 182),
                   with_item('U11', 2, (13631488, 184, FILES), u32(1), 184)],
     'Log tree': [(GOOD, sup(0x60, u64(FREE_BLOCK)))],
-    'Free space tree': [(GOOD, sup(0xB4, u64(3)), new_tree(10, {(5242880, 198, 8388608): b'not so'}))],
-    'Quota tree, tree of subvolume uuids': [(GOOD, new_tree(8, {(0, 242, 5): b'not so'})),
-                                            (GOOD, new_tree(9, {(1, 251, 2): b'not so'}))],
+    'Free space tree': [(GOOD, sup(0xB4, u64(3)), *new_tree(10, ((5242880, 198, 8388608), b'not so')))],
+    'Quota tree, tree of subvolume uuids': [(GOOD, *new_tree(8, ((0, 242, 5), b'not so'))),
+                                            (GOOD, *new_tree(9, ((1, 251, 2), b'not so')))],
     'Backup roots': [(GOOD, sup(0xB2B, b'\xff' * 672))],
-    'Copies of the superblock': [(GOOD, device((64 << 20) + 4096, 64 << 20, b'\x55' * 4096))],
+    'Copies of the superblock': [(GOOD, second_superblock)],
     'Seed flag': [(GOOD, sup(0x38, u64(1 | 1 << 32)))],
     'Holes that are written as items': [(GOOD, sup(0xBC, u64(INCOMPAT - 512)))],
 }
@@ -186,43 +126,32 @@ CASES = {
 
 def documented():
     """The rows of the table: the feature, and what the check says."""
-    with open('docs/format.md') as document:
+    with open(in_repository('docs/format.md')) as document:
         part = document.read().split('\n## Outside the profile\n')[1].split('\n## ')[0]
     rows = [line.strip('|').split('|') for line in part.split('\n') if line.startswith('| ')][1:]
     return {row[0].strip(): row[-1].strip() for row in rows}
 
 
-def differs(volume_file, wanted, changes):
-    volume = Volume()
-    for change in changes:
-        change(volume)
-    volume.write(volume_file)
-    run = subprocess.run([program, 'check', volume_file], stdin=subprocess.DEVNULL, capture_output=True, text=True)
-    if (run.stdout, run.returncode) == (f'image {wanted}\n', 0 if wanted == GOOD else 1):
-        return None
-    return f'{run.stdout or run.stderr}, status {run.returncode}, is not image {wanted}'
+def judge(feature, wanted, changes):
+    """A check of the base image with changes says what is wanted."""
+    image = changed(BASE, changes)
+    device.fill(image, more=(32 << 20) + 4096 if hasattr(image, 'behind') else 0)
+    if hasattr(image, 'behind'):
+        device.write(*image.behind)
+    device.must_say(feature, 0 if wanted == GOOD else 1, f'image {wanted}\n', 'check')
 
 
-program = os.path.realpath(sys.argv[1] if len(sys.argv) > 1 else 'crates/recon/out/recon')
-if not os.access(program, os.X_OK):
-    sys.exit(f'tests/profile.py: {program} is not built')
-first_blocks = base.first_blocks()
 table = documented()
 for feature, says in table.items():
     if feature not in CASES and 'not tried' not in says:
-        sys.exit(f'tests/profile.py: {feature} has no case')
-tried = 0
-with tempfile.TemporaryDirectory() as folder:
-    why = differs(f'{folder}/volume', GOOD, [])
-    if why:
-        sys.exit(f'tests/profile.py: the base image: {why}')
-    for feature, cases in CASES.items():
-        for wanted, *changes in cases:
-            tried += 1
-            rule = re.match(r'accepted|refused (\w+)', wanted)
-            if (rule[1] or rule[0]) not in re.findall(r'\w+', table.get(feature, '')):
-                sys.exit(f'tests/profile.py: docs/format.md does not say {rule[0]} of {feature}')
-            why = differs(f'{folder}/volume', wanted, changes)
-            if why:
-                sys.exit(f'tests/profile.py: {feature}: {why}')
+        fail(feature, 'it has no case')
+device = Device()
+judge('the base image', GOOD, [])
+for feature, cases in CASES.items():
+    for wanted, *changes in cases:
+        rule = re.match(r'accepted|refused (\w+)', wanted)
+        if (rule[1] or rule[0]) not in re.findall(r'\w+', table.get(feature, '')):
+            fail(feature, f'docs/format.md does not say {rule[0]} of it')
+        judge(feature, wanted, changes)
+tried = sum(map(len, CASES.values()))
 print(f'profile: {tried} volumes outside the profile, of {len(CASES)} features, are judged as docs/format.md says')

@@ -14,26 +14,3 @@ mod turn;
 mod words;
 
 pub use run::recon_run;
-
-#[cfg(test)]
-mod account_tests;
-#[cfg(test)]
-mod commit_tests;
-#[cfg(test)]
-mod fixtures;
-#[cfg(test)]
-mod image_tests;
-#[cfg(test)]
-mod machine_tests;
-#[cfg(test)]
-mod make_tests;
-#[cfg(test)]
-mod name_tests;
-#[cfg(test)]
-mod space_tests;
-#[cfg(test)]
-mod tests;
-#[cfg(test)]
-mod trace_tests;
-#[cfg(test)]
-mod whole_tests;

@@ -1,5 +1,5 @@
 use Rattle.recon_core.proofs.Nothing.{below_where_none}
-use Rattle.recon_cli.proofs.machine_tests.follow.Goals as goal
+use Rattle.whole_runs.proofs.machine_tests.follow.Goals as goal
 
 pub take-first-requires-clause-below : goal.take-first-requires-clause-below
 take-first-requires-clause-below g c = below_where_none c.args.checker.now.length c.args.checker.now.cache c.requires.empty

@@ -1,0 +1,30 @@
+//! Whole runs of the program's call, over disks, traces and sinks in memory: their lines, their statuses, and what
+//! stands on the device after them and after a failed call. The crate has tests alone, above the call that they run.
+#![tactic(auto)]
+
+#[cfg(test)]
+mod bytes;
+#[cfg(test)]
+mod change;
+#[cfg(test)]
+mod check_tests;
+#[cfg(test)]
+mod fault_tests;
+#[cfg(test)]
+mod machine_tests;
+#[cfg(test)]
+mod make_tests;
+#[cfg(test)]
+mod order_tests;
+#[cfg(test)]
+mod record;
+#[cfg(test)]
+mod replay_tests;
+#[cfg(test)]
+mod runs;
+#[cfg(test)]
+mod trace;
+#[cfg(test)]
+mod tree;
+#[cfg(test)]
+mod word_tests;

@@ -1,0 +1,224 @@
+"""Checks of images that differ from the base image: what a check says of each, and that a replay begins with the same.
+
+Usage: tests/images.py [PROGRAM], by default crates/recon/out/recon. Prints one line, and ends with 1 at the first row
+that differs. A row: what it is, the changes of the base image, and the finding, or none where the image is accepted.
+"""
+from rows import (
+    BASE, CHUNKS, CHUNKS_END, DATA_AT, DEVICES, Device, EXTENTS, FILES, HELLO, LEFT, RIGHT, ROOTS, SUMS, SUPERBLOCK,
+    SYSTEM_AT, changed, data_group, drop, leaf, made, metadata_group, node, put, used, write)
+
+MOVED = 2 ** 64 - 9
+LATE = write(RIGHT + 0x50, made.number(2))
+# An item of a kind that a tree of files alone lists, and two such items that are not right: a range of type 1 that ends
+# in its first number, and an inode whose key has an offset.
+ATTRIBUTE = made.zeros((1, made.XATTR_ITEM, 0), 1)
+SHORT = made.zeros((257, made.EXTENT_DATA, 0), 52, [(20, 1)])
+OFFSET = made.zeros((257, made.INODE_ITEM, 1), 160)
+DEFAULT = made.entry(257, 1, b'default', generation=0)
+
+SUPERBLOCK_AND_CHUNKS = [
+    ('a chunk of the system array that is a sector shorter than in the chunk tree',
+     [write(SUPERBLOCK + 0x33c, made.number(4190208))], 'S10 tree 3 block 0 key 256 228 1048576 detail 0'),
+    ('the kind of its key', [write(SUPERBLOCK + 0x333, b'\xe3')], 'S9 tree 0 block 0 key 0 0 0 detail 0'),
+    ('an array without a pair', [write(SUPERBLOCK + 0xa0, bytes(4))], 'N1 tree 3 block 1048576 key 0 0 0 detail 0'),
+    ('the stripe of the data chunk begins a sector before the end of the device',
+     [put(3, made.chunk(DATA_AT, 8388608, 1, [33550336]))], 'M3 tree 3 block 0 key 256 228 13631488 detail 33550336'),
+    ('the generation of the superblock', [write(SUPERBLOCK + 0x48, bytes(8))], 'N7 tree 1 block 5242880 key 0 0 0 detail 1'),
+    ('its level of the root tree', [write(SUPERBLOCK + 0xc6, b'\1')], 'N8 tree 1 block 5242880 key 0 0 0 detail 0'),
+]
+
+ROOT_TREE = [
+    ('too many items', [write(ROOTS + 0x60, b'\xff' * 4)], 'N9 tree 1 block 5242880 key 0 0 0 detail 4294967295'),
+    ('the second item begins at 15,406 in place of 15,405',
+     [write(ROOTS + 143, made.number(15406, 4))], 'N14 tree 1 block 5242880 key 0 0 0 detail 1'),
+    ('a node that points to itself', [write(SUPERBLOCK + 0xc6, b'\1'), node(ROOTS, 1, ((2, made.ROOT_ITEM, 0), ROOTS))],
+     'N8 tree 1 block 5242880 key 2 132 0 detail 1'),
+    ('a root item of a later generation than its leaf',
+     [put(1, made.root(5, FILES, 2))], 'I3 tree 1 block 5242880 key 5 132 0 detail 160'),
+    ('a kind that the root tree does not list', [put(1, made.zeros((5, made.XATTR_ITEM, 0), 1))], 'U9 tree 1 block 5242880 key 5 24 0 detail 24'),
+    ('a root item of the chunk tree', [put(1, made.root(3, CHUNKS))], 'U7 tree 1 block 5242880 key 3 132 0 detail 3'),
+    ('one of tree 6', [put(1, made.root(6, 0))], 'U7 tree 1 block 5242880 key 6 132 0 detail 6'),
+    ('one of tree 11', [put(1, made.root(11, 0))], 'U7 tree 1 block 5242880 key 11 132 0 detail 11'),
+    ('two of one id come before a missing one',
+     [drop(1, 4, made.ROOT_ITEM, 0), put(1, made.root(5, FILES, offset=9))], 'X1 tree 1 block 0 key 5 132 9 detail 0'),
+    ('no root item: the least is missing', [leaf(ROOTS, 1)], 'X2 tree 1 block 0 key 2 132 0 detail 0'),
+    ('no root item of the tree of checksums', [drop(1, 7, made.ROOT_ITEM, 0)], 'X2 tree 1 block 0 key 7 132 0 detail 0'),
+    ('of two broken trees the one with the lower id as an unsigned number',
+     [put(1, made.root(300, 1)), put(1, made.root(MOVED, 2))], 'N1 tree 300 block 1 key 0 0 0 detail 0'),
+    ('a tree whose block is another tree\'s',
+     [put(1, made.root(MOVED, FILES))], 'N6 tree 18446744073709551607 block 5292032 key 0 0 0 detail 5'),
+]
+
+ITEMS = [
+    ('an entry with another hash than that of its name',
+     [leaf(FILES, 5, made.hashed(256, DEFAULT, key=5))], 'I4 tree 5 block 5292032 key 256 84 5 detail 2378154706'),
+    ('the right hash, in a directory without an inode',
+     [leaf(FILES, 5, made.hashed(256, DEFAULT, key=2378154706))], 'A9 tree 5 block 0 key 256 1 0 detail 0'),
+    ('a range that is too short', [leaf(FILES, 5, SHORT)], 'I1 tree 5 block 5292032 key 257 108 0 detail 52'),
+    ('of two bad items the first', [leaf(FILES, 5, OFFSET, SHORT)], 'I2 tree 5 block 5292032 key 257 1 1 detail 0'),
+    ('an inode below 256', [leaf(FILES, 5, made.zeros((255, made.INODE_ITEM, 0), 160))], 'U9 tree 5 block 5292032 key 255 1 0 detail 1'),
+    ('a kind that the extent tree does not list', [leaf(EXTENTS, 2, ATTRIBUTE)], 'U9 tree 2 block 5259264 key 1 24 0 detail 24'),
+    ('the chunk tree', [leaf(CHUNKS, 3, ATTRIBUTE)], 'U9 tree 3 block 1048576 key 1 24 0 detail 24'),
+    ('the device tree', [leaf(DEVICES, 4, ATTRIBUTE)], 'U9 tree 4 block 5275648 key 1 24 0 detail 24'),
+    ('the tree of checksums', [leaf(SUMS, 7, ATTRIBUTE)], 'U9 tree 7 block 5308416 key 1 24 0 detail 24'),
+    ('the items of the tree 9 stay unread; its block has no extent',
+     [put(1, made.root(9, LEFT)), leaf(LEFT, 9, ATTRIBUTE)], 'A1 tree 9 block 5324800 key 5324800 176 9 detail 0'),
+]
+
+# The file tree as a node over two leaves of one item, and an item that is not right.
+A, B = made.zeros((256, made.XATTR_ITEM, 0), 1), made.zeros((257, made.XATTR_ITEM, 0), 1)
+BAD = made.zeros((256, made.EXTENT_DATA, 0), 52, [(20, 1)])
+TWO_LEAVES = [put(1, made.root(5, FILES, level=1)), node(FILES, 5, (A[0], LEFT), (B[0], RIGHT)), leaf(LEFT, 5, A), leaf(RIGHT, 5, B)]
+
+WALKS = [(what, TWO_LEAVES + changes, finding) for what, changes, finding in [
+    ('the blocks are right, but have no extents', [], 'A1 tree 5 block 5324800 key 5324800 176 5 detail 0'),
+    ('an item of the left leaf comes before the header of the right one',
+     [leaf(LEFT, 5, A, BAD), LATE], 'I1 tree 5 block 5324800 key 256 108 0 detail 52'),
+    ('a generation that is not that of the pointer', [LATE], 'N7 tree 5 block 5341184 key 257 24 0 detail 2'),
+    ('another owner', [write(RIGHT + 0x58, made.number(7))], 'N6 tree 5 block 5341184 key 257 24 0 detail 7'),
+    ('another level', [write(RIGHT + 0x64, b'\1')], 'N8 tree 5 block 5341184 key 257 24 0 detail 1'),
+    ('another first key than the pointer says',
+     [leaf(RIGHT, 5, made.zeros((258, made.XATTR_ITEM, 0), 1))], 'N10 tree 5 block 5341184 key 257 24 0 detail 0'),
+    ('a key that belongs into the next leaf', [leaf(LEFT, 5, A, B)], 'N12 tree 5 block 5324800 key 256 24 0 detail 1'),
+    ('the generation of a pointer comes before any leaf',
+     [write(FILES + 159, made.number(2)), write(LEFT + 0x50, made.number(2))], 'N13 tree 5 block 5292032 key 0 0 0 detail 1'),
+    ('a leaf outside every chunk', [write(FILES + 118, made.number(22020096))], 'N1 tree 5 block 22020096 key 256 24 0 detail 0'),
+    ('a leaf at no multiple of a sector',
+     [write(FILES + 118, made.number(5324801))], 'N1 tree 5 block 5324801 key 256 24 0 detail 0'),
+]]
+
+# The file `hello`: of one sector; of three, whose middle one was written again, so that one reference counts both ranges
+# of the first extent; and of the second sector of an extent of two.
+ONE_INODE = put(5, made.inode(257, 4096))
+FILE_OF_ONE = [*HELLO, ONE_INODE, put(5, made.file_range(0, DATA_AT, 4096))]
+FILE_OF_TWO = [*HELLO, ONE_INODE, put(5, made.file_range(0, DATA_AT, 8192))]
+EXTENT_OF_ONE = [put(2, made.extent(DATA_AT, 4096)), data_group(4096)]
+EXTENT_OF_TWO = [put(2, made.extent(DATA_AT, 8192)), data_group(8192)]
+ONE_SUM, TWO_SUMS, ONE_USED, TWO_USED = put(7, made.sums(DATA_AT, 1)), put(7, made.sums(DATA_AT, 2)), used(102400), used(106496)
+FILE_OF_THREE = [*HELLO, put(5, made.inode(257, 12288)), put(5, made.file_range(0, DATA_AT, 12288)),
+                 put(5, made.file_range(4096, 13643776, 4096)), put(5, made.file_range(8192, DATA_AT, 12288, 8192)),
+                 put(2, made.extent(13643776, 4096, origin=4096)), data_group(16384), put(7, made.sums(DATA_AT, 4)), used(114688)]
+SECOND_OF_TWO = [*HELLO, ONE_INODE, put(5, made.file_range(0, DATA_AT, 8192, 4096)), data_group(8192), TWO_SUMS, TWO_USED]
+
+REFERENCES = [
+    ('an extent that says one use more than there are',
+     [put(2, made.block(FILES, 5, references=2))], 'A3 tree 2 block 5292032 key 0 0 0 detail 0'),
+    ('a block without its extent', [drop(2, FILES, made.METADATA_ITEM, 0)], 'A1 tree 5 block 5292032 key 5292032 176 5 detail 0'),
+    ('two of them: the one of the lesser tree',
+     [drop(2, FILES, made.METADATA_ITEM, 0), drop(2, SUMS, made.METADATA_ITEM, 0)], 'A1 tree 5 block 5292032 key 5292032 176 5 detail 0'),
+    ('accounts of two kinds: that of the lesser kind',
+     [drop(2, SUMS, made.METADATA_ITEM, 0), put(2, made.block(FILES, 5, references=2))], 'A1 tree 7 block 5308416 key 5308416 176 7 detail 0'),
+    ('a file of one sector', FILE_OF_ONE + EXTENT_OF_ONE + [ONE_SUM, ONE_USED], ''),
+    ('the file says a longer extent', FILE_OF_TWO + EXTENT_OF_ONE + [ONE_SUM, ONE_USED], 'A4 tree 2 block 13631488 key 0 168 8192 detail 0'),
+    ('and a shorter one', FILE_OF_ONE + EXTENT_OF_TWO + [ONE_SUM, TWO_USED], 'A4 tree 2 block 13631488 key 0 168 4096 detail 0'),
+    ('a file whose middle sector was written again counts one reference of two',
+     FILE_OF_THREE + [put(2, made.extent(DATA_AT, 12288, references=2))], 'A2 tree 5 block 13631488 key 257 178 0 detail 0'),
+    ('and one with an item of its own counts the other',
+     FILE_OF_THREE + [put(2, made.extent(DATA_AT, 12288, references=2)), put(2, made.reference(DATA_AT, 9))], ''),
+    ('the extent would begin before the file: the offset is below zero, modulo 2^64',
+     SECOND_OF_TWO + [put(2, made.extent(DATA_AT, 8192, origin=-4096))], ''),
+    ('the extent would begin with the file',
+     SECOND_OF_TWO + [put(2, made.extent(DATA_AT, 8192))], 'A2 tree 5 block 13631488 key 257 178 0 detail 0'),
+]
+
+DEVICE_EXTENTS = [
+    ('a stripe without its device extent', [drop(4, 1, made.DEV_EXTENT, 22020096)], 'A15 tree 4 block 13631488 key 1 204 22020096 detail 8388608'),
+    ('that of a second copy: the account is that of the chunk',
+     [drop(4, 1, made.DEV_EXTENT, 13631488)], 'A15 tree 4 block 5242880 key 1 204 13631488 detail 8388608'),
+    ('a device extent of another length',
+     [put(4, made.device_extent(22020096, DATA_AT, 4096))], 'A15 tree 4 block 13631488 key 1 204 22020096 detail 4096'),
+    ('one without a stripe', [put(4, made.device_extent(30408704, DATA_AT, 4096))], 'A15 tree 4 block 13631488 key 1 204 30408704 detail 4096'),
+    ('the used bytes of the device item in the chunk tree', [put(3, made.device(29360127))], 'A18 tree 3 block 0 key 1 216 1 detail 0'),
+    ('with them those of the superblock', [put(3, made.device(29360127)), used(94208)], 'A16 tree 0 block 0 key 0 0 0 detail 0'),
+]
+
+GROUPS = [
+    ('a chunk without its group', [drop(2, DATA_AT, made.BLOCK_GROUP_ITEM, 8388608)], 'A6 tree 0 block 0 key 13631488 192 8388608 detail 1'),
+    ('a group without its chunk', [put(2, made.group(CHUNKS_END, 4096, 1, 0))], 'A6 tree 0 block 0 key 22020096 192 4096 detail 1'),
+    ('a group of another length', [drop(2, DATA_AT, made.BLOCK_GROUP_ITEM, 8388608), put(2, made.group(DATA_AT, 4096, 1, 0))],
+     'A6 tree 0 block 0 key 13631488 192 4096 detail 1'),
+    ('a group of another type', [data_group(0, kind=4)], 'A6 tree 0 block 0 key 13631488 192 8388608 detail 1'),
+    ('the used bytes of the metadata group', [metadata_group(77824)], 'A6 tree 0 block 0 key 5242880 192 8388608 detail 36'),
+    ('which agree with the superblock, and not with what is used',
+     [metadata_group(77824), used(94208)], 'A6 tree 0 block 0 key 5242880 192 8388608 detail 36'),
+    ('the used bytes of the superblock', [used(94208)], 'A16 tree 0 block 0 key 0 0 0 detail 0'),
+]
+
+# A range that is reserved, in place of the file's one sector.
+RESERVED = put(5, made.file_range(0, DATA_AT, 4096, sort=2))
+SECOND_SUM = put(7, made.sums(DATA_AT + 4096, 1))
+
+SECTORS = [
+    ('a checksum of a sector of a tree block', [put(7, made.sums(ROOTS, 1))], 'A5 tree 0 block 5242880 key 0 0 0 detail 0'),
+    ('of no extent', [ONE_SUM], 'A5 tree 0 block 13631488 key 0 0 0 detail 0'),
+    ('of no chunk', [put(7, made.sums(CHUNKS_END, 1))], 'A5 tree 0 block 22020096 key 0 0 0 detail 0'),
+    ('checksums that go on behind the one sector of the file',
+     FILE_OF_ONE + EXTENT_OF_ONE + [TWO_SUMS, ONE_USED], 'A5 tree 0 block 13635584 key 0 0 0 detail 0'),
+    ('a sector of a file without its checksum', FILE_OF_ONE + EXTENT_OF_ONE + [ONE_USED], 'A5 tree 0 block 13631488 key 0 0 0 detail 0'),
+    ('of a file that is to have none', FILE_OF_ONE + EXTENT_OF_ONE + [put(5, made.inode(257, 4096, flags=1)), ONE_USED], ''),
+    ('a reserved range without checksums', FILE_OF_ONE + EXTENT_OF_ONE + [RESERVED, ONE_USED], ''),
+    ('a reserved range with them', FILE_OF_ONE + EXTENT_OF_ONE + [RESERVED, ONE_SUM, ONE_USED], ''),
+    ('a sector of the extent that is not shown has a checksum', FILE_OF_TWO + EXTENT_OF_TWO + [TWO_SUMS, TWO_USED], ''),
+    ('or has none', FILE_OF_TWO + EXTENT_OF_TWO + [ONE_SUM, TWO_USED], ''),
+    ('or has two', FILE_OF_TWO + EXTENT_OF_TWO + [TWO_SUMS, SECOND_SUM, TWO_USED], 'A5 tree 0 block 13635584 key 0 0 0 detail 0'),
+    ('or has the only one', FILE_OF_TWO + EXTENT_OF_TWO + [SECOND_SUM, TWO_USED], 'A5 tree 0 block 13631488 key 0 0 0 detail 0'),
+    ('two extents that have a sector in common',
+     FILE_OF_TWO + EXTENT_OF_TWO + [
+         put(5, made.inode(257, 8192)), put(5, made.file_range(4096, DATA_AT + 4096, 4096)),
+         put(2, made.extent(DATA_AT + 4096, 4096, origin=4096)), data_group(12288), TWO_SUMS, used(110592)],
+     'A5 tree 0 block 13635584 key 0 0 0 detail 0'),
+]
+
+
+def file_at(address, length=4096):
+    """The file of one sector whose extent is elsewhere, without its group, its checksum and the used bytes."""
+    return [*HELLO, ONE_INODE, put(5, made.file_range(0, address, length)), put(2, made.extent(address, length))]
+
+
+# The tree of checksums with its block elsewhere, without its group.
+def sums_at(address, *items):
+    return [put(1, made.root(7, address)), leaf(address, 7, *items), drop(2, SUMS, made.METADATA_ITEM, 0), put(2, made.block(address, 7)), metadata_group(65536)]
+
+
+HOMES = [
+    ('a data extent among metadata',
+     file_at(LEFT) + [metadata_group(86016), put(7, made.sums(LEFT, 1)), ONE_USED], 'A7 tree 2 block 5324800 key 0 0 0 detail 0'),
+    ('a tree block among data', sums_at(DATA_AT) + [data_group(16384)], 'A7 tree 2 block 13631488 key 0 0 0 detail 0'),
+    ('a tree block in the system chunk', sums_at(1064960) + [put(2, made.group(SYSTEM_AT, 4194304, 2, 32768))], ''),
+    ('a tree block and data in a mixed group',
+     sums_at(DATA_AT, made.sums(13647872, 1)) + file_at(13647872) + [
+         put(3, made.chunk(DATA_AT, 8388608, 5, [22020096])), data_group(20480, kind=5), ONE_USED], ''),
+    ('an extent that no chunk holds', file_at(CHUNKS_END), 'A8 tree 2 block 22020096 key 0 0 0 detail 0'),
+    ('with its checksum, which is one of no extent',
+     file_at(CHUNKS_END) + [put(7, made.sums(CHUNKS_END, 1))], 'A5 tree 0 block 22020096 key 0 0 0 detail 0'),
+    ('an extent that begins in one chunk and ends in the next', file_at(13627392, 8192), 'A8 tree 2 block 13627392 key 0 0 0 detail 0'),
+]
+
+# Devices that have the first bytes of the base image.
+CUT = [
+    (0, 'S1 tree 0 block 0 key 0 0 0 detail 0'),
+    (16, 'S1 tree 0 block 0 key 0 0 0 detail 16'),
+    (69631, 'S1 tree 0 block 0 key 0 0 0 detail 69631'),
+    (69632, 'N1 tree 3 block 1048576 key 0 0 0 detail 0'),
+]
+
+device = Device()
+
+
+def judge(row, finding):
+    """A check says this finding, and a replay of no trace begins with it."""
+    line = f'image refused {finding}\n' if finding else 'image accepted generation 1\n'
+    more = '' if finding else 'trace fault 4 Truncated record 0\n'
+    device.must_say(row, 1 if finding else 0, line, 'check')
+    device.must_say(row, 1 if finding else 3, line + more, 'replay')
+
+
+tables = [SUPERBLOCK_AND_CHUNKS, ROOT_TREE, ITEMS, WALKS, REFERENCES, DEVICE_EXTENTS, GROUPS, SECTORS, HOMES]
+for table in tables:
+    for row, changes, finding in table:
+        device.fill(changed(BASE, changes))
+        judge(row, finding)
+for cut, finding in CUT:
+    device.fill(BASE, cut)
+    judge(f'the first {cut} bytes', finding)
+print(f'images: {sum(map(len, tables)) + len(CUT)} images have their finding, by check and by replay')
