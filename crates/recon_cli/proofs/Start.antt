@@ -18,31 +18,6 @@ use Rattle.recon_cli.specs.declared.lines.Style.{Style}
 use Rattle.recon_cli.specs.Outcome.{Outcome, line_in, no_counts, outcome_from, replay_by}
 use Rattle.recon_cli.specs.Run.{ComesOut, Replays, ReplaysAs, record_limit}
 
-in_image : (image : List ℕ) (m : FinMap nat_cmp ℕ) (told : Option (List ℕ)) (r : Result Super Finding) → m ≡ empty → told ≡ Some image
-    → IfSome told (λ i. r ≡ superblock_in (overlaid m 0 i)) → r ≡ superblock_in image
-in_image image m told r none is found =
-    subst (λ o. IfSome o (λ i. r ≡ superblock_in (overlaid m 0 i))) is found ∙ ap superblock_in (ap (λ k. overlaid k 0 image) none ∙ overlaid-empty 0 image)
-
-ok_not_err : (sup : Super) (finding : Finding) (r : Result Super Finding) → r ≡ Ok sup → r ≡ Err finding → ⊥
-ok_not_err sup finding r a b = cc
-
-ok_one : (a b : Super) (r : Result Super Finding) → r ≡ Ok a → r ≡ Ok b → a ≡ b
-ok_one a b r x y = cc
-
--- the generation that is printed is that of the accepted image
-pub accepted_is : (image : List ℕ) (m : FinMap nat_cmp ℕ) (told : Option (List ℕ)) (r : Result Super Finding) (sup : Super) → m ≡ empty → told ≡ Some image
-    → IfSome told (λ i. r ≡ superblock_in (overlaid m 0 i)) → r ≡ Ok sup → IsAccepted image → full_check image ≡ Accept sup.generation
-accepted_is image m told r sup none is found ok accepted =
-    let has = accepted_superblock image accepted.0 accepted.1 in
-    let e : has.0 ≡ sup = ok_one has.0 sup r (in_image image m told r none is found ∙ has.1) ok in
-    accepted.1 ∙ ap Accept (sym has.2 ∙ ap (λ s. s.generation) e)
-
-pub not_found : (image : List ℕ) (m : FinMap nat_cmp ℕ) (told : Option (List ℕ)) (r : Result Super Finding) (finding : Finding) → m ≡ empty → told ≡ Some image
-    → IfSome told (λ i. r ≡ superblock_in (overlaid m 0 i)) → r ≡ Err finding → IsAccepted image → ⊥
-not_found image m told r finding none is found err accepted =
-    let has = accepted_superblock image accepted.0 accepted.1 in
-    ok_not_err has.0 finding r (in_image image m told r none is found ∙ has.1) err
-
 -- a replay over an accepted image
 pub replays_accepted : (w : Style) (image bytes kept : List ℕ) (generation status : ℕ) (disk left sink : Option (List ℕ)) → full_check image ≡ Accept generation → IsBytes bytes
     → Replays w (first_state image) bytes (kept ++ line_in w (Image generation)) status disk left sink → ReplaysAs w image bytes kept status disk left sink

@@ -6,16 +6,17 @@ ghost use Rattle.recon_core.specs.Machine.{MachineState};
 ghost use Rattle.recon_core.specs.Standing.{IsBelow, StandsFor, first_state};
 ghost use Rattle.trace_reader.specs.Trace.{IsBytes};
 ghost use Rattle.trace_reader.specs.Fault.{fault_number};
-ghost use Rattle.recon_cli.specs.Outcome.{line_in};
+ghost use Rattle.verdict.specs.declared.finding.Verdict.TheVariants.{Accept};
+ghost use Rattle.records.specs.FullCheck.{full_check};
+ghost use Rattle.recon_cli.specs.Outcome.{line_in, no_counts};
 ghost use Rattle.recon_cli.specs.Run.{HasFaultPrintCause, HasFaultCause, HasPrintCause, IsOfBytes, IsOutcomeStatus, IsSameOutside, Replays, ReplaysAs, TookLines, faults_lent};
 
 use crate::counts::Counts;
 use crate::lines::{Style, print, refuse};
 use crate::outside::Outside;
 use crate::run_fault::RunFault;
-use crate::turn::take_event;
-use plain_check::{Fault, superblock};
-use recon_core::{Checker, Started};
+use crate::turn::Replay;
+use recon_core::Checker;
 use recon_disk::{Disk, Sink, Source};
 use report::Line;
 use std::alloc::Global;
@@ -87,53 +88,40 @@ fn print_fault<K: Sink>(
 // Takes the records of a trace one by one, up to its end, its fault, or the first event that passes the end
 // of the device. What still waits then is dropped with the checker.
 fn take_records<D: Disk, S: Source, K: Sink, L>(
-    alloc: Global,
-    style: Style,
-    checker: &mut Checker,
+    replay: &mut Replay,
     lent: &mut Outside<'_, '_, '_, '_, D, S, K, L>,
 ) -> Result<u8, RunFault>
-    requires open { checker.old.closed ≡ false }
-    requires length { checker.old.length ≡ D.len lent.old.disk.now }
-    requires below { IsBelow checker.old.length checker.old.cache }
+    requires open { replay.old.checker.closed ≡ false }
+    requires length { replay.old.checker.length ≡ D.len lent.old.disk.now }
+    requires below { IsBelow replay.old.checker.length replay.old.checker.cache }
+    requires first { replay.old.counts ≡ no_counts }
     ensures outcome { (first : MachineState) (bytes kept : List ℕ) →
-        StandsFor checker.old first → D.bytes lent.old.disk.now ≡ Some first.image →
+        StandsFor replay.old.checker first → D.bytes lent.old.disk.now ≡ Some first.image →
         IsBytes bytes → S.left lent.old.trace.now ≡ Some bytes →
         K.kept lent.old.out.now ≡ Some kept →
-        IfOk result (λ status. Replays style first bytes kept status
+        IfOk result (λ status. Replays replay.old.style first bytes kept status
         (D.bytes lent.new.disk.now) (S.left lent.new.trace.now) (K.kept lent.new.out.now)) }
     ensures status { IfOk result IsOutcomeStatus }
     ensures same { IsSameOutside lent.old lent.new }
-    ensures lines { TookLines K.Sink style lent.old.out.now lent.new.out.now }
+    ensures lines { TookLines K.Sink replay.old.style lent.old.out.now lent.new.out.now }
     ensures cause { HasFaultCause (faults_lent D.Disk S.Source K.Sink lent.old)
         (faults_lent D.Disk S.Source K.Sink lent.new) result }
 {
+    let style = replay.style;
     let mut reader = TraceReader::new(RECORD_LIMIT);
-    let mut counts = Counts {
-        passed: 0,
-        rejected: 0,
-    };
     'records: loop {
-        match reader.next(alloc, lent.trace) {
+        match reader.next(replay.alloc, lent.trace) {
             Ok(Item::Event(event)) => {
                 let place = reader.record_number();
-                let turn = take_event(
-                    alloc,
-                    style,
-                    checker,
-                    &mut counts,
-                    place,
-                    event,
-                    lent.disk,
-                    lent.out,
-                    lent.steps,
-                )?;
+                let turn = replay.take_event(place, event, lent.disk, lent.out, lent.steps)?;
                 if let Some(status) = turn {
                     return Ok(status);
                 }
             }
-            Ok(Item::End) => return print_summary(alloc, style, &counts, lent.out),
+            Ok(Item::End) => return print_summary(replay.alloc, style, &replay.counts, lent.out),
             Err(fault) => {
-                return print_fault(alloc, style, fault, reader.record_number(), lent.out);
+                let place = reader.record_number();
+                return print_fault(replay.alloc, style, fault, place, lent.out);
             }
         }
     }
@@ -143,13 +131,15 @@ fn take_records<D: Disk, S: Source, K: Sink, L>(
 fn replay_over<D: Disk, S: Source, K: Sink, L>(
     alloc: Global,
     style: Style,
-    mut checker: Checker,
+    checker: Checker,
+    generation: u64,
     lent: &mut Outside<'_, '_, '_, '_, D, S, K, L>,
 ) -> Result<u8, RunFault>
     requires empty { checker.cache ≡ map.empty }
     requires open { checker.closed ≡ false }
     requires length { checker.length ≡ D.len lent.old.disk.now }
     ensures outcome { (image bytes kept : List ℕ) →
+        full_check image ≡ Accept generation →
         StandsFor checker (first_state image) → D.bytes lent.old.disk.now ≡ Some image →
         IsBytes bytes → S.left lent.old.trace.now ≡ Some bytes →
         K.kept lent.old.out.now ≡ Some kept →
@@ -161,16 +151,17 @@ fn replay_over<D: Disk, S: Source, K: Sink, L>(
     ensures cause { HasFaultCause (faults_lent D.Disk S.Source K.Sink lent.old)
         (faults_lent D.Disk S.Source K.Sink lent.new) result }
 {
-    match superblock(lent.disk, &checker.cache) {
-        Ok(Ok(sup)) => {
-            let generation = sup.generation;
-            print(alloc, style, lent.out, &Line::Image { generation })?;
-            take_records(alloc, style, &mut checker, lent)
-        }
-        Ok(Err(finding)) => refuse(alloc, style, finding, lent.out),
-        Err(Fault::Disk) => Err(RunFault::Device),
-        Err(Fault::NoMemory) => Err(RunFault::Memory),
-    }
+    print(alloc, style, lent.out, &Line::Image { generation })?;
+    let mut replay = Replay {
+        alloc,
+        style,
+        checker,
+        counts: Counts {
+            passed: 0,
+            rejected: 0,
+        },
+    };
+    take_records(&mut replay, lent)
 }
 
 // Replays the trace over the disk's image, or refuses the image. A refused image leaves the trace unread.
@@ -190,9 +181,9 @@ pub fn replay<D: Disk, S: Source, K: Sink, L>(
     ensures cause { HasFaultCause (faults_lent D.Disk S.Source K.Sink lent.old)
         (faults_lent D.Disk S.Source K.Sink lent.new) result }
 {
-    match Checker::start(alloc, lent.disk, lent.steps) {
-        Ok(Started::Ready(checker)) => replay_over(alloc, style, checker, lent),
-        Ok(Started::Refused(finding)) => refuse(alloc, style, finding, lent.out),
+    match Checker::begin(alloc, lent.disk, lent.steps) {
+        Ok(Ok((checker, generation))) => replay_over(alloc, style, checker, generation, lent),
+        Ok(Err(finding)) => refuse(alloc, style, finding, lent.out),
         Err(Stop::DiskFault) => Err(RunFault::Device),
         Err(Stop::NoMemory) => Err(RunFault::Memory),
         Err(Stop::PastEnd { .. } | Stop::Closed) => unreachable!(),

@@ -28,118 +28,121 @@ fn begin_and_kind(event: &Event) -> (u64, bool)
     }
 }
 
-// Counts an answer and prints its line; a write that waits has none.
-fn report_answer<K: Sink>(
-    alloc: Global,
-    style: Style,
-    counts: &mut Counts,
-    at: u64,
-    settle: bool,
-    answer: Answer,
-    out: &mut K,
-) -> Result<(), RunFault>
-    requires { counts.old.passed + counts.old.rejected + 1 < 2 ^ 64 }
-    ensures printed { OnOk result (K.kept out.new ≡
-        option_map (λ kept. kept ++ answer_text style counts.old at settle answer)
-        (K.kept out.old)) }
-    ensures counts { counts.new ≡ counts_after counts.old answer }
-    ensures lines { TookLines K.Sink style out.old out.new }
-    ensures cause { HasPrintCause (K.faults out.old) (K.faults out.new) result }
-{
-    let number = counts.passed + counts.rejected + 1;
-    match answer {
-        Answer::Held => Ok(()),
-        Answer::Fetched(bytes) => print(alloc, style, out, &Line::Fetched { at, bytes }),
-        Answer::Passed {
-            generation,
-            blocks,
-            hot,
-        } => {
-            counts.passed += 1;
-            print(
-                alloc,
-                style,
-                out,
-                &Line::Passed {
+/// A replay as it goes on.
+#[derive(Drop)]
+pub struct Replay {
+    /// What takes the memory of lines and of what is judged.
+    pub alloc: Global,
+    /// How lines are printed.
+    pub style: Style,
+    /// The checker over the disk.
+    pub checker: Checker,
+    /// How many events were judged.
+    pub counts: Counts,
+}
+
+impl Replay {
+    // Counts an answer and prints its line; a held write has none.
+    fn report<K: Sink>(
+        &mut self,
+        at: u64,
+        settle: bool,
+        answer: Answer,
+        out: &mut K,
+    ) -> Result<(), RunFault>
+        requires { self.old.counts.passed + self.old.counts.rejected + 1 < 2 ^ 64 }
+        ensures printed { OnOk result (K.kept out.new ≡
+            option_map (λ kept. kept ++
+            answer_text self.old.style self.old.counts at settle answer) (K.kept out.old)) }
+        ensures counts { self.new ≡
+            record self.old { counts = counts_after self.old.counts answer } }
+        ensures lines { TookLines K.Sink self.old.style out.old out.new }
+        ensures cause { HasPrintCause (K.faults out.old) (K.faults out.new) result }
+    {
+        let number = self.counts.passed + self.counts.rejected + 1;
+        match answer {
+            Answer::Held => Ok(()),
+            Answer::Fetched(bytes) => {
+                print(self.alloc, self.style, out, &Line::Fetched { at, bytes })
+            }
+            Answer::Passed {
+                generation,
+                blocks,
+                hot,
+            } => {
+                self.counts.passed += 1;
+                let line = Line::Passed {
                     settle,
                     number,
                     generation,
                     blocks,
                     hot,
-                },
-            )
-        }
-        Answer::Rejected(finding) => {
-            counts.rejected += 1;
-            print(
-                alloc,
-                style,
-                out,
-                &Line::Rejected {
+                };
+                print(self.alloc, self.style, out, &line)
+            }
+            Answer::Rejected(finding) => {
+                self.counts.rejected += 1;
+                let line = Line::Rejected {
                     settle,
                     number,
                     finding,
-                },
-            )
+                };
+                print(self.alloc, self.style, out, &line)
+            }
         }
     }
-}
 
-// Gives the record of this number to the checker, and prints its line. It answers the status where the
-// event passes the end of the device.
-pub fn take_event<D: Disk, K: Sink, L>(
-    alloc: Global,
-    style: Style,
-    checker: &mut Checker,
-    counts: &mut Counts,
-    place: u64,
-    event: Event,
-    disk: &mut D,
-    out: &mut K,
-    steps: &mut Steps<L>,
-) -> Result<Option<u8>, RunFault>
-    requires open { checker.old.closed ≡ false }
-    requires length { checker.old.length ≡ D.len disk.old }
-    requires below { IsBelow checker.old.length checker.old.cache }
-    requires sized { IsSized event }
-    requires room { counts.old.passed + counts.old.rejected + 1 < 2 ^ 64 }
-    ensures turns { (state : MachineState) (kept : List ℕ) → StandsFor checker.old state →
-        D.bytes disk.old ≡ Some state.image → K.kept out.old ≡ Some kept →
-        IfOk result (λ status. Turns style state place counts.old event kept status
-        checker.new counts.new (D.bytes disk.new) (K.kept out.new)) }
-    ensures status { IfOk result (λ status. IfSome status (λ n. n ≡ 3)) }
-    ensures open { OnOk result (checker.new.closed ≡ false) }
-    ensures size { checker.new.length ≡ checker.old.length }
-    ensures below { IsBelow checker.old.length checker.new.cache }
-    ensures len { D.len disk.new ≡ D.len disk.old }
-    ensures count { OnOk result
-        (counts.new.passed + counts.new.rejected ≤ counts.old.passed + counts.old.rejected + 1) }
-    ensures lines { TookLines K.Sink style out.old out.new }
-    ensures cause { HasTurnCause (D.faults disk.old) (D.faults disk.new)
-        (K.faults out.old) (K.faults out.new) result }
-{
-    let (at, settle) = begin_and_kind(&event);
-    match checker.event(alloc, disk, event, steps) {
-        Ok(answer) => {
-            report_answer(alloc, style, counts, at, settle, answer, out)?;
-            Ok(None)
-        }
-        Err(Stop::PastEnd { at, len, end }) => {
-            print(
-                alloc,
-                style,
-                out,
-                &Line::Past {
+    /// Gives the record of this number to the checker, and prints its line. It answers the status where the event
+    /// passes the end of the device.
+    pub fn take_event<D: Disk, K: Sink, L>(
+        &mut self,
+        place: u64,
+        event: Event,
+        disk: &mut D,
+        out: &mut K,
+        steps: &mut Steps<L>,
+    ) -> Result<Option<u8>, RunFault>
+        requires open { self.old.checker.closed ≡ false }
+        requires length { self.old.checker.length ≡ D.len disk.old }
+        requires below { IsBelow self.old.checker.length self.old.checker.cache }
+        requires sized { IsSized event }
+        requires room { self.old.counts.passed + self.old.counts.rejected + 1 < 2 ^ 64 }
+        ensures turns { (state : MachineState) (kept : List ℕ) →
+            StandsFor self.old.checker state → D.bytes disk.old ≡ Some state.image →
+            K.kept out.old ≡ Some kept → IfOk result (λ status.
+            Turns self.old.style state place self.old.counts event kept status
+            self.new.checker self.new.counts (D.bytes disk.new) (K.kept out.new)) }
+        ensures status { IfOk result (λ status. IfSome status (λ n. n ≡ 3)) }
+        ensures style { self.new.style ≡ self.old.style }
+        ensures open { OnOk result (self.new.checker.closed ≡ false) }
+        ensures size { self.new.checker.length ≡ self.old.checker.length }
+        ensures below { IsBelow self.old.checker.length self.new.checker.cache }
+        ensures len { D.len disk.new ≡ D.len disk.old }
+        ensures count { OnOk result (self.new.counts.passed + self.new.counts.rejected
+            ≤ self.old.counts.passed + self.old.counts.rejected + 1) }
+        ensures lines { TookLines K.Sink self.old.style out.old out.new }
+        ensures cause { HasTurnCause (D.faults disk.old) (D.faults disk.new)
+            (K.faults out.old) (K.faults out.new) result }
+    {
+        let (at, settle) = begin_and_kind(&event);
+        match self.checker.event(self.alloc, disk, event, steps) {
+            Ok(answer) => {
+                self.report(at, settle, answer, out)?;
+                Ok(None)
+            }
+            Err(Stop::PastEnd { at, len, end }) => {
+                let line = Line::Past {
                     place,
                     at,
                     len,
                     end,
-                },
-            )?;
-            Ok(Some(3))
+                };
+                print(self.alloc, self.style, out, &line)?;
+                Ok(Some(3))
+            }
+            Err(Stop::DiskFault) => Err(RunFault::Device),
+            Err(Stop::NoMemory) => Err(RunFault::Memory),
+            Err(Stop::Closed) => unreachable!(),
         }
-        Err(Stop::DiskFault) => Err(RunFault::Device),
-        Err(Stop::NoMemory) => Err(RunFault::Memory),
-        Err(Stop::Closed) => unreachable!(),
     }
 }

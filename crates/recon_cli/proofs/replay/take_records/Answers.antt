@@ -1,16 +1,18 @@
-use Rattle.std.proofs.Common.{◌≡◌, ◌+◌, ◌++◌, IfSome, refl, sym, arith, ap, ◌∙◌, subst}
+use Rattle.std.proofs.Common.{◌≡◌, ◌+◌, ◌++◌, Some, None, IfSome, refl, sym, arith, ap, ◌∙◌, subst}
 use Rattle.recon_core.specs.Standing.{IsBelow}
-use Rattle.recon_cli.specs.Run.{Turns, record_limit}
+use Rattle.recon_cli.specs.Run.{TookLines, Turns, record_limit}
 use Rattle.recon_cli.specs.Outcome.{no_counts}
 use Rattle.recon_cli.proofs.Going.{Going, going_start, going_event, going_end, going_fault, going_past, place_is, place_fits, at_event, at_end, after_is, limit_over, both_ok, each_ok, fault_cause, three_is, event_reads}
 use Rattle.recon_cli.proofs.Handing.{more_lines, no_lines}
 use Rattle.recon_cli.proofs.replay.take_records.Goals as goal
 
 pub returns-in_err-turn-in-Ok-Event-clause-lines : goal.returns-in_err-turn-in-Ok-Event-clause-lines
-returns-in_err-turn-in-Ok-Event-clause-lines g c = more_lines c.records.invariant.lines c.in_err-turn-in-Ok-Event.ensures.lines
+returns-in_err-turn-in-Ok-Event-clause-lines g c =
+    more_lines c.records.invariant.lines (subst (λ w. TookLines g.K.Sink w c.records.lent.out.now c.take_event.new.out) c.records.invariant.style c.in_err-turn-in-Ok-Event.ensures.lines)
 
 pub returns-in-Some-clause-lines : goal.returns-in-Some-clause-lines
-returns-in-Some-clause-lines g c = more_lines c.records.invariant.lines c.in_ok-turn-in-Ok-Event.ensures.lines
+returns-in-Some-clause-lines g c =
+    more_lines c.records.invariant.lines (subst (λ w. TookLines g.K.Sink w c.records.lent.out.now c.take_event.new.out) c.records.invariant.style c.in_ok-turn-in-Ok-Event.ensures.lines)
 
 pub returns-in-Ok-End-clause-lines : goal.returns-in-Ok-End-clause-lines
 returns-in-Ok-End-clause-lines g c = more_lines c.records.invariant.lines c.print_summary.ensures.lines
@@ -25,7 +27,8 @@ records-init g c =
       live = ap (λ r. r.live) c.new-reader.ensures;
       limit = ap (λ r. r.limit) c.new-reader.ensures;
       few = omega arith;
-      count = omega arith;
+      count = omega (arith, ap (λ t. t.passed) c.requires.first, ap (λ t. t.rejected) c.requires.first);
+      style = refl;
       same = record { disk = refl; trace = refl; out = refl; steps = refl };
       open_ = c.requires.open;
       size = c.requires.length;
@@ -35,8 +38,9 @@ records-init g c =
       sink_faults = refl;
       lines = no_lines refl;
       going = λ first bytes kept stands image lawful left printed.
-          subst (λ r. Going c.args.style first bytes kept r no_counts c.args.checker.now (g.D.Disk.bytes c.args.lent.now.disk.now) (g.S.Source.left c.args.lent.now.trace.now) (g.K.Sink.kept c.args.lent.now.out.now)) (sym c.new-reader.ensures)
-          (going_start c.args.style first bytes kept c.args.checker.now (g.D.Disk.bytes c.args.lent.now.disk.now) (g.S.Source.left c.args.lent.now.trace.now) (g.K.Sink.kept c.args.lent.now.out.now) stands image lawful left printed);
+          subst (λ t. Going c.args.replay.now.style first bytes kept c.new-reader.result t c.args.replay.now.checker (g.D.Disk.bytes c.args.lent.now.disk.now) (g.S.Source.left c.args.lent.now.trace.now) (g.K.Sink.kept c.args.lent.now.out.now)) (sym c.requires.first)
+          (subst (λ r. Going c.args.replay.now.style first bytes kept r no_counts c.args.replay.now.checker (g.D.Disk.bytes c.args.lent.now.disk.now) (g.S.Source.left c.args.lent.now.trace.now) (g.K.Sink.kept c.args.lent.now.out.now)) (sym c.new-reader.ensures)
+          (going_start c.args.replay.now.style first bytes kept c.args.replay.now.checker (g.D.Disk.bytes c.args.lent.now.disk.now) (g.S.Source.left c.args.lent.now.trace.now) (g.K.Sink.kept c.args.lent.now.out.now) stands image lawful left printed));
     }
 
 pub returns-in-Some-clause-outcome : goal.returns-in-Some-clause-outcome
@@ -44,11 +48,13 @@ returns-in-Some-clause-outcome g c first bytes kept stands image lawful left pri
     let going = c.records.invariant.going first bytes kept stands image lawful left printed in
     let next = after_is c.records.reader c.next.new.self c.in-Ok-Event.field-0 c.in-Ok-Event.event c.in-Ok-Event.field-0-is c.in-Ok-Event.ensures.state in
     let at = place_is c.records.reader c.next.new.self c.in-Ok-Event.event c.record_number-place.result next c.record_number-place.ensures.number c.records.invariant.few c.records.invariant.limit in
-    going_past c.args.style first bytes kept c.records.reader c.next.new.self c.records.counts c.records.checker (g.D.Disk.bytes c.records.lent.disk.now) (g.D.Disk.bytes c.take_event.new.disk)
+    going_past c.args.replay.now.style first bytes kept c.records.reader c.next.new.self c.records.replay.counts c.records.replay.checker (g.D.Disk.bytes c.records.lent.disk.now) (g.D.Disk.bytes c.take_event.new.disk)
     (g.S.Source.left c.records.lent.trace.now) (g.S.Source.left c.next.new.source) (g.K.Sink.kept c.records.lent.out.now) (g.K.Sink.kept c.take_event.new.out) c.in-Some.status c.record_number-place.result c.in-Ok-Event.event
     going (at_event c.records.reader c.next.new.self (g.S.Source.left c.records.lent.trace.now) (g.S.Source.left c.next.new.source) c.in-Ok-Event.field-0 c.in-Ok-Event.event c.in-Ok-Event.field-0-is c.in-Ok-Event.ensures.told) at
-    (subst (λ t. Turns c.args.style going.state c.record_number-place.result c.records.counts c.in-Ok-Event.event (kept ++ going.text) t c.take_event.new.checker c.take_event.new.counts (g.D.Disk.bytes c.take_event.new.disk) (g.K.Sink.kept c.take_event.new.out))
-    c.in-Some.is (c.in_ok-turn-in-Ok-Event.ensures.turns going.state (kept ++ going.text) going.stands going.image going.printed))
+    (subst (λ w. Turns w going.state c.record_number-place.result c.records.replay.counts c.in-Ok-Event.event (kept ++ going.text) (Some c.in-Some.status) c.take_event.new.self.checker c.take_event.new.self.counts (g.D.Disk.bytes c.take_event.new.disk) (g.K.Sink.kept c.take_event.new.out))
+    c.records.invariant.style
+    (subst (λ t. Turns c.records.replay.style going.state c.record_number-place.result c.records.replay.counts c.in-Ok-Event.event (kept ++ going.text) t c.take_event.new.self.checker c.take_event.new.self.counts (g.D.Disk.bytes c.take_event.new.disk) (g.K.Sink.kept c.take_event.new.out))
+    c.in-Some.is (c.in_ok-turn-in-Ok-Event.ensures.turns going.state (kept ++ going.text) going.stands going.image going.printed)))
 
 pub returns-in-Some-clause-status : goal.returns-in-Some-clause-status
 returns-in-Some-clause-status g c =
@@ -57,7 +63,7 @@ returns-in-Some-clause-status g c =
 pub returns-in-Ok-End-clause-outcome : goal.returns-in-Ok-End-clause-outcome
 returns-in-Ok-End-clause-outcome g c first bytes kept stands image lawful left printed =
     let going = c.records.invariant.going first bytes kept stands image lawful left printed in
-    both_ok c.print_summary.result (λ status st out. going_end c.args.style first bytes kept c.records.reader c.next.new.self c.records.counts c.records.checker (g.D.Disk.bytes c.records.lent.disk.now)
+    both_ok c.print_summary.result (λ status st out. going_end c.args.replay.now.style first bytes kept c.records.reader c.next.new.self c.records.replay.counts c.records.replay.checker (g.D.Disk.bytes c.records.lent.disk.now)
     (g.S.Source.left c.records.lent.trace.now) (g.S.Source.left c.next.new.source) (g.K.Sink.kept c.records.lent.out.now) (g.K.Sink.kept c.print_summary.new.out) status going
     (at_end c.records.reader c.next.new.self (g.S.Source.left c.records.lent.trace.now) (g.S.Source.left c.next.new.source) c.in-Ok-End.field-0 c.in-Ok-End.field-0-is c.in-Ok-End.ensures.told)
     st out) c.print_summary.ensures.status c.print_summary.ensures.printed
@@ -66,7 +72,7 @@ pub returns-in-Err-clause-outcome : goal.returns-in-Err-clause-outcome
 returns-in-Err-clause-outcome g c first bytes kept stands image lawful left printed =
     let going = c.records.invariant.going first bytes kept stands image lawful left printed in
     let limit : c.next.new.self.limit ≡ record_limit = limit_over c.records.reader c.next.new.self c.in-Err.fault c.in-Err.ensures.state ∙ c.records.invariant.limit in
-    each_ok c.print_fault.result (λ status p. going_fault c.args.style first bytes kept c.records.reader c.next.new.self c.records.counts c.records.checker (g.D.Disk.bytes c.records.lent.disk.now)
+    each_ok c.print_fault.result (λ status p. going_fault c.args.replay.now.style first bytes kept c.records.reader c.next.new.self c.records.replay.counts c.records.replay.checker (g.D.Disk.bytes c.records.lent.disk.now)
     (g.S.Source.left c.records.lent.trace.now) (g.S.Source.left c.next.new.source) (g.K.Sink.kept c.records.lent.out.now) (g.K.Sink.kept c.print_fault.new.out) status c.record_number.result c.in-Err.fault going
     c.in-Err.ensures.told p.1 (place_fits c.next.new.self.number c.next.new.self.limit c.record_number.result c.record_number.ensures.number c.record_number.ensures.within limit) p.0 p.2)
     c.print_fault.ensures.printed
@@ -95,16 +101,19 @@ records-preserved g c =
       };
       open_ = turn.open;
       size = turn.size ∙ c.records.invariant.size ∙ sym turn.len;
-      below = subst (λ n. IsBelow n c.take_event.new.checker.cache) (sym turn.size) turn.below;
+      below = subst (λ n. IsBelow n c.take_event.new.self.checker.cache) (sym turn.size) turn.below;
       disk_faults = turn.cause.0 ∙ c.records.invariant.disk_faults;
       source_faults = event_reads (g.S.Source.faults c.records.lent.trace.now) (g.S.Source.faults c.next.new.source) c.in-Ok-Event.field-0 c.in-Ok-Event.ensures.cause ∙ c.records.invariant.source_faults;
       sink_faults = turn.cause.1 ∙ c.records.invariant.sink_faults;
-      lines = more_lines c.records.invariant.lines turn.lines;
+      style = turn.style ∙ c.records.invariant.style;
+      lines = more_lines c.records.invariant.lines (subst (λ w. TookLines g.K.Sink w c.records.lent.out.now c.take_event.new.out) c.records.invariant.style turn.lines);
       going = λ first bytes kept stands image lawful left printed.
           let going = c.records.invariant.going first bytes kept stands image lawful left printed in
-          going_event c.args.style first bytes kept c.records.reader c.next.new.self c.records.counts c.take_event.new.counts c.records.checker c.take_event.new.checker (g.D.Disk.bytes c.records.lent.disk.now) (g.D.Disk.bytes c.take_event.new.disk)
+          going_event c.args.replay.now.style first bytes kept c.records.reader c.next.new.self c.records.replay.counts c.take_event.new.self.counts c.records.replay.checker c.take_event.new.self.checker (g.D.Disk.bytes c.records.lent.disk.now) (g.D.Disk.bytes c.take_event.new.disk)
           (g.S.Source.left c.records.lent.trace.now) (g.S.Source.left c.next.new.source) (g.K.Sink.kept c.records.lent.out.now) (g.K.Sink.kept c.take_event.new.out) c.in-Ok-Event.event
           going (at_event c.records.reader c.next.new.self (g.S.Source.left c.records.lent.trace.now) (g.S.Source.left c.next.new.source) c.in-Ok-Event.field-0 c.in-Ok-Event.event c.in-Ok-Event.field-0-is c.in-Ok-Event.ensures.told) next
-          (subst (λ t. Turns c.args.style going.state c.record_number-place.result c.records.counts c.in-Ok-Event.event (kept ++ going.text) t c.take_event.new.checker c.take_event.new.counts (g.D.Disk.bytes c.take_event.new.disk) (g.K.Sink.kept c.take_event.new.out))
-          c.in_default.is (turn.turns going.state (kept ++ going.text) going.stands going.image going.printed));
+          (subst (λ w. Turns w going.state c.record_number-place.result c.records.replay.counts c.in-Ok-Event.event (kept ++ going.text) None c.take_event.new.self.checker c.take_event.new.self.counts (g.D.Disk.bytes c.take_event.new.disk) (g.K.Sink.kept c.take_event.new.out))
+          c.records.invariant.style
+          (subst (λ t. Turns c.records.replay.style going.state c.record_number-place.result c.records.replay.counts c.in-Ok-Event.event (kept ++ going.text) t c.take_event.new.self.checker c.take_event.new.self.counts (g.D.Disk.bytes c.take_event.new.disk) (g.K.Sink.kept c.take_event.new.out))
+          c.in_default.is (turn.turns going.state (kept ++ going.text) going.stands going.image going.printed)));
     }

@@ -16,18 +16,19 @@ invariant-records g l =
       live : l.reader.live ≡ true;
       limit : l.reader.limit ≡ record_limit;
       few : l.reader.whole ≤ l.reader.limit;
-      count : l.counts.passed + l.counts.rejected ≤ l.reader.whole;
+      count : l.replay.counts.passed + l.replay.counts.rejected ≤ l.reader.whole;
+      style : l.replay.style ≡ l.fn.replay.style;
       same : IsSameOutside l.fn.lent l.lent;
-      open_ : l.checker.closed ≡ false;
-      size : l.checker.length ≡ disk.len l.lent.disk.now;
-      below : IsBelow l.checker.length l.checker.cache;
+      open_ : l.replay.checker.closed ≡ false;
+      size : l.replay.checker.length ≡ disk.len l.lent.disk.now;
+      below : IsBelow l.replay.checker.length l.replay.checker.cache;
       disk_faults : disk.faults l.lent.disk.now ≡ disk.faults l.fn.lent.disk.now;
       source_faults : source.faults l.lent.trace.now ≡ source.faults l.fn.lent.trace.now;
       sink_faults : sink.faults l.lent.out.now ≡ sink.faults l.fn.lent.out.now;
-      lines : TookLines sink l.fn.style l.fn.lent.out.now l.lent.out.now;
-      going : (first : MachineState) (bytes kept : List ℕ) → StandsFor l.fn.checker first → disk.bytes l.fn.lent.disk.now ≡ Some first.image →
+      lines : TookLines sink l.fn.replay.style l.fn.lent.out.now l.lent.out.now;
+      going : (first : MachineState) (bytes kept : List ℕ) → StandsFor l.fn.replay.checker first → disk.bytes l.fn.lent.disk.now ≡ Some first.image →
           IsBytes bytes → source.left l.fn.lent.trace.now ≡ Some bytes → sink.kept l.fn.lent.out.now ≡ Some kept →
-          Going l.fn.style first bytes kept l.reader l.counts l.checker (disk.bytes l.lent.disk.now) (source.left l.lent.trace.now) (sink.kept l.lent.out.now);
+          Going l.fn.replay.style first bytes kept l.reader l.replay.counts l.replay.checker (disk.bytes l.lent.disk.now) (source.left l.lent.trace.now) (sink.kept l.lent.out.now);
     }
 
 abbrev pub decreases-records : goal.decreases-records
