@@ -22,8 +22,9 @@ use std::alloc::Global;
 use verdict::{Finding, Key};
 
 /// Walks the tree from the block on that is expected, and gives its records to a taker: a block's own, which are itself
-/// and its pointers or items, before those of what is below it, and children in their order. It stops at the first finding: of a block's copies, of
-/// the block, or of an item; what was taken before is with the taker then. Each copy of each block is read once.
+/// and its pointers or items, before those of what is below it, and children in their order. It stops at the first
+/// finding: of a block's copies, of the block, or of an item; what was taken before is with the taker then. Each copy of
+/// each block is read once.
 pub fn walk_tree<D: Disk, T: Taker>(
     alloc: Global,
     disk: &mut D,
