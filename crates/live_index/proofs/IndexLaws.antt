@@ -1,5 +1,5 @@
 -- The map by tree and address: the pairs that it has after a change, and the next pair of a tree.
-use Rattle.std.proofs.Common.{◌≡◌, ℕ, ◌<◌, true, false, cond, ◌&&◌, List, [], ◌∷◌, refl, sym, ap, ◌∙◌, subst, arith}
+use Rattle.std.proofs.Common.{◌≡◌, ℕ, ◌<◌, ◌≤◌, true, false, cond, ◌&&◌, List, [], ◌∷◌, refl, sym, ap, ◌∙◌, subst, arith}
 use Rattle.std.specs.Prelude.{◌==◌, Option, Some, None, IsSome, Result, Ok, Err, OnOk, OnErr}
 use Rattle.std.specs.Ordering.{is_gt}
 use Rattle.std.specs.declared.ops.Bound.TheVariants.{Unbounded}
@@ -51,6 +51,10 @@ above_start : (tree : ℕ) (after : Option ℕ) (e : ByTree) → IsFromStart by_
 above_start tree None e h is = refl
 above_start tree (Some after) e h is = grind (arith, nat_tests)
 
+same_tree : (tree : ℕ) (after : Option ℕ) (e : ByTree) → IsFromStart by_tree (start_of tree after) e → e.tree ≤ tree → e.tree ≡ tree
+same_tree tree None e h low = grind (arith, nat_tests)
+same_tree tree (Some after) e h low = grind (arith, nat_tests)
+
 later_tree : (tree : ℕ) (after : Option ℕ) (e : ByTree) (a : ℕ) → IsFromStart by_tree (start_of tree after) e → (e.tree == tree) ≡ false → is_gt (by_tree e (place_of tree a)) ≡ true
 later_tree tree None e a h apart = grind (arith, nat_tests)
 later_tree tree (Some after) e a h apart = grind (arith, nat_tests)
@@ -74,25 +78,26 @@ next_other m tree after r range e rest is apart =
     λ a h. none_unless _ (λ had. sym (later_tree tree after e.0 a here.1.0.0 apart) ∙ here.2 (place_of tree a) (from_start tree after a h, tt) had)
 
 pub next_here : (m : map.BTreeMap ByTree Live) (tree : ℕ) (after : Option ℕ) (r : List (ByTree × Live)) → AreOwn (pairs_in m) → IsRangeOf by_tree (start_of tree after) Unbounded m r
-    → (e : ByTree × Live) (rest : List (ByTree × Live)) → r ≡ e ∷ rest → e.0.tree ≡ tree → IsNextOf (pairs_in m) tree after (Some e.1)
+    → (e : ByTree × Live) (rest : List (ByTree × Live)) → r ≡ e ∷ rest → e.0.tree ≤ tree → IsNextOf (pairs_in m) tree after (Some e.1)
 unfolding pairs_in
-next_here m tree after r owns range e rest is same =
+next_here m tree after r owns range e rest is low =
     let here : IsRangeOf by_tree (start_of tree after) Unbounded m (e ∷ rest) = subst (IsRangeOf by_tree (start_of tree after) Unbounded m) is range in
+    let same : e.0.tree ≡ tree = same_tree tree after e.0 here.1.0.0 low in
     let stands : pairs_in m e.0.tree e.0.address ≡ Some e.1 = here.1.1 in
     let own : (e.1.tree ≡ e.0.tree) × (e.1.address ≡ e.0.address) = owns e.0.tree e.0.address e.1 stands in (
       one_place (pairs_in m) e.1.tree e.1.address e.0.tree e.0.address own.0 own.1 ∙ stands,
       own.0 ∙ same,
       ap (is_above after) own.1 ∙ above_start tree after e.0 here.1.0.0 same,
-      λ a h low. none_unless _ (λ had.
-          sym (later_address e.0 tree a same (subst (λ x. a < x) own.1 low)) ∙ here.2 (place_of tree a) (from_start tree after a h, tt) had),
+      λ a h less. none_unless _ (λ had.
+          sym (later_address e.0 tree a same (subst (λ x. a < x) own.1 less)) ∙ here.2 (place_of tree a) (from_start tree after a h, tt) had),
     )
 
 -- ---- what a refused addition leaves
 
-pub pairs_back : (m n l : map.BTreeMap ByTree Live) (k : ByTree) (new : Live) → k ≡ place_of new.tree new.address → pairs_in m new.tree new.address ≡ None
-    → map.Updates by_tree m n k (Some new) → map.UpdatesBy by_tree (by_tree k) n l None → pairs_in l ≡ pairs_in m
-pairs_back m n l k new is none put taken =
-    pairs_taken n l k new.tree new.address is taken
+pub pairs_back : (m n l : map.BTreeMap ByTree Live) (k j : ByTree) (new : Live) → k ≡ place_of new.tree new.address → j ≡ place_of new.tree new.address
+    → pairs_in m new.tree new.address ≡ None → map.Updates by_tree m n k (Some new) → map.UpdatesBy by_tree (by_tree j) n l None → pairs_in l ≡ pairs_in m
+pairs_back m n l k j new is also none put taken =
+    pairs_taken n l j new.tree new.address also taken
     ∙ ap (λ p. without_pair p new.tree new.address) (pairs_put m n k new.tree new.address new is refl refl put)
     ∙ undone (pairs_in m) new none
 

@@ -1,4 +1,5 @@
-use Rattle.std.proofs.Common.{◌≡◌, ◌∙◌, refl, ap, sym, subst}
+use Rattle.std.proofs.lemmas.Grind.{common_steps}
+use Rattle.std.proofs.Common.{arith, ◌≡◌, ◌∙◌, refl, ap, sym, subst}
 use Rattle.std.specs.Prelude.{None, Some, is_some}
 use Rattle.live_index.specs.InOrder.{pairs_in}
 use Rattle.live_index.specs.Orders.{AreAlike}
@@ -32,7 +33,7 @@ invariant_of-self-in-Err-add g c =
     let none : pairs_in c.args.self.now.pairs c.args.live.tree c.args.live.address ≡ None =
     sym (pairs_there c.args.self.now.pairs c.place_of-place.result c.args.live.tree c.args.live.address c.place_of-place.ensures) ∙ sym c.in-Ok-None.ensures.old ∙ c.in-Ok-None.field-0-is in
     let now : pairs_in c.remove.new.self ≡ pairs_in c.args.self.now.pairs =
-    pairs_back c.args.self.now.pairs c.insert.new.self c.remove.new.self c.place_of-place.result c.args.live c.place_of-place.ensures none c.in-Ok-None.ensures.updates c.remove.ensures.updates in
+    pairs_back c.args.self.now.pairs c.insert.new.self c.remove.new.self c.place_of-place.result _ c.args.live c.place_of-place.ensures (grind (arith, common_steps)) none c.in-Ok-None.ensures.updates c.remove.ensures.updates in
     record {
       alike = subst (λ p. AreAlike p c.add.new.self) (sym now)
           (alike_kept (pairs_in c.args.self.now.pairs) c.args.self.now.orders c.add.new.self c.args.self.now.alike c.in-Err-add.ensures.err);
@@ -84,7 +85,7 @@ pub returns-in-Err-add-clause-err : goal.returns-in-Err-add-clause-err
 returns-in-Err-add-clause-err g c =
     let none : pairs_in c.args.self.now.pairs c.args.live.tree c.args.live.address ≡ None =
     sym (pairs_there c.args.self.now.pairs c.place_of-place.result c.args.live.tree c.args.live.address c.place_of-place.ensures) ∙ sym c.in-Ok-None.ensures.old ∙ c.in-Ok-None.field-0-is in
-    pairs_back c.args.self.now.pairs c.insert.new.self c.remove.new.self c.place_of-place.result c.args.live c.place_of-place.ensures none c.in-Ok-None.ensures.updates c.remove.ensures.updates
+    pairs_back c.args.self.now.pairs c.insert.new.self c.remove.new.self c.place_of-place.result _ c.args.live c.place_of-place.ensures (grind (arith, common_steps)) none c.in-Ok-None.ensures.updates c.remove.ensures.updates
 
 pub returns-in-Ok-exchange-clause-ok : goal.returns-in-Ok-exchange-clause-ok
 returns-in-Ok-exchange-clause-ok g c =

@@ -20,7 +20,7 @@ returns-then-place-tree-clause-value g c =
     let range : IsRangeOf by_tree (start_of c.args.tree c.args.after) Unbounded c.args.self.now.pairs c.range.result =
     subst (λ start. IsRangeOf by_tree start Unbounded c.args.self.now.pairs c.range.result) c.start_of-start.ensures (c.range.ensures.in_range tt) in
     next_here c.args.self.now.pairs c.args.tree c.args.after c.range.result c.args.self.now.alike.own range (c.in_ok-place.place.now, c.in_ok-place.live.now) c.next.new.self c.in_ok-place.ensures.steps
-    (grind arith)
+    (omega arith)
 
 -- src/index.rt:95:5
 pub returns-else-place-tree-clause-value : goal.returns-else-place-tree-clause-value
