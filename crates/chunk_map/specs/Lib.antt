@@ -1,3 +1,4 @@
 pub mod SystemArray
 pub mod Order
 pub mod Laws
+pub mod Roots

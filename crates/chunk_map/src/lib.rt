@@ -3,6 +3,7 @@
 #![tactic(auto)]
 
 mod array;
+mod bases;
 mod copies;
 mod home;
 mod laws;
@@ -13,6 +14,7 @@ mod rules;
 mod tests;
 mod turned;
 
+pub use bases::Bases;
 pub use laws::{array_law, order_by_start_law};
 pub use map::{ChunkMap, Sys};
 pub use verdict::{Chunk, Place};

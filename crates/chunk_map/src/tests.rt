@@ -1,10 +1,11 @@
 ghost use Rattle.std.specs.Prelude.{◌≡◌};
 
-use crate::{Chunk, ChunkMap, Place, Sys};
+use crate::{Bases, Chunk, ChunkMap, Place, Sys};
 use recon_bytes::{put_u16, put_u64};
 use std::alloc::Global;
 use super_reader::Super;
 use verdict::{Family, Finding, Key, NoMemory, Rule};
+use volume_items::RootAt;
 
 /// The length of the device in bytes.
 const END: u64 = 33554432;
@@ -214,5 +215,77 @@ fn the_first_broken_rule_of_the_map_is_found(rt: HostRuntime) -> Result<(), NoMe
         put(&mut sys, array)?;
         assert_eq!(rt; map.map_fault(&sys, 1, END), wanted);
     }
+    Ok(())
+}
+
+// What is known of an image without trees, whose table is a number.
+#[derive(Drop)]
+struct Known {
+    sup: Super,
+    map: ChunkMap,
+    table: u64,
+}
+
+impl Bases for Known {
+    type Table = u64;
+
+    ghost use Rattle.std.specs.Prelude.{[], ◌==◌, ◌&&◌, false};
+
+    ghost superblock = { λ known. known.sup };
+
+    ghost chunks = { λ known. known.map };
+
+    ghost root_items = { λ known. [] };
+
+    ghost is_sum_free = { λ known tree ino. tree == 5 && ino == 257 };
+
+    ghost is_full = { λ known address. false };
+
+    ghost table = { λ known. known.table };
+
+    fn sup(&self) -> &Super {
+        &self.sup
+    }
+
+    fn map(&self) -> &ChunkMap {
+        &self.map
+    }
+
+    fn roots(&self) -> &[RootAt] {
+        &[]
+    }
+
+    fn sum_free(&self, tree: u64, ino: u64) -> bool {
+        tree == 5 && ino == 257
+    }
+
+    fn full(&self, _address: u64) -> bool {
+        false
+    }
+
+    fn live(&self) -> &u64 {
+        &self.table
+    }
+}
+
+// Whether these are the numbers of chunks, of roots and in the table, and inode 257 of tree 5 is sum-free.
+fn knows<B: Bases<Table = u64>>(bases: &B, chunks: usize, roots: usize, table: u64) -> bool {
+    bases.sup().nodesize == 16384
+        && bases.map().chunks().len() == chunks
+        && bases.roots().len() == roots
+        && bases.sum_free(5, 257)
+        && !bases.full(1048576)
+        && *bases.live() == table
+}
+
+#[test]
+fn bases_tell_what_is_known(rt: HostRuntime) -> Result<(), NoMemory> {
+    let map = map_of(rt.alloc(), chunks())?;
+    let known = Known {
+        sup: superblock(97, 4194304),
+        map,
+        table: 9,
+    };
+    assert!(rt; knows(&known, 3, 0, 9));
     Ok(())
 }

@@ -6,6 +6,7 @@ mod chunk;
 mod dev_extent;
 mod device;
 mod root;
+mod root_at;
 mod root_link;
 #[cfg(test)]
 mod tests;
@@ -14,4 +15,5 @@ pub use chunk::{ChunkItem, Stripe, Stripes, read_chunk};
 pub use dev_extent::{DevExtent, read_dev_extent};
 pub use device::{DeviceItem, read_device};
 pub use root::{RootItem, read_root};
+pub use root_at::RootAt;
 pub use root_link::{RootLink, read_root_link};

@@ -1,0 +1,3 @@
+pub mod AlikeLaws
+pub mod IndexLaws
+pub mod PlaceLaws

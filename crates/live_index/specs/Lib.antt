@@ -1,0 +1,4 @@
+pub mod InOrder
+pub mod Orders
+pub mod Pairs
+pub mod Table
