@@ -1,6 +1,8 @@
-use Rattle.std.proofs.Common.{◌∙◌, subst}
+use Rattle.std.proofs.Common.{[], ◌∷◌, ◌∙◌, ap, subst}
+use Rattle.std.proofs.lemmas.Result.{on_ok_weaker}
+use Rattle.recon_disk.specs.Calls.{Flushed, and_sent, run_calls}
 use Rattle.recon_disk.specs.Outside.{HasCause}
-use Rattle.recon_disk.proofs.Sending.{if_err, if_ok}
+use Rattle.recon_disk.proofs.Sending.{if_err, if_ok, sent_then}
 use Rattle.recon_cli.proofs.Made.{whole_left}
 use Rattle.recon_cli.proofs.making.put_image.Goals as goal
 
@@ -14,3 +16,10 @@ returns-clause-device g c =
       len = c.flush.ensures.len ∙ c.write_all_at.ensures.device.len;
       cause = subst (λ k. HasCause k (g.D.Disk.faults c.flush.new.self) c.flush.result) c.in_ok-write_all_at.ensures.device.cause.fine c.flush.ensures.cause;
     }
+
+pub returns-clause-flushed : goal.returns-clause-flushed
+returns-clause-flushed g c =
+    on_ok_weaker c.flush.result (λ s. (
+      run_calls 0 c.args.image.now,
+      s ∙ ap (λ o. and_sent o (Flushed ∷ [])) c.in_ok-write_all_at.ensures.order ∙ sent_then (g.D.Disk.sent c.args.disk.now) (run_calls 0 c.args.image.now) (Flushed ∷ []),
+    )) c.flush.ensures.sent

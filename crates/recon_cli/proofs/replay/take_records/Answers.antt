@@ -73,8 +73,8 @@ returns-in-Err-clause-outcome g c first bytes kept stands image lawful left prin
     let going = c.records.invariant.going first bytes kept stands image lawful left printed in
     let limit : c.next.new.self.limit ≡ record_limit = limit_over c.records.reader c.next.new.self c.in-Err.fault c.in-Err.ensures.state ∙ c.records.invariant.limit in
     each_ok c.print_fault.result (λ status p. going_fault c.args.replay.now.style first bytes kept c.records.reader c.next.new.self c.records.replay.counts c.records.replay.checker (g.D.Disk.bytes c.records.lent.disk.now)
-    (g.S.Source.left c.records.lent.trace.now) (g.S.Source.left c.next.new.source) (g.K.Sink.kept c.records.lent.out.now) (g.K.Sink.kept c.print_fault.new.out) status c.record_number.result c.in-Err.fault going
-    c.in-Err.ensures.told p.1 (place_fits c.next.new.self.number c.next.new.self.limit c.record_number.result c.record_number.ensures.number c.record_number.ensures.within limit) p.0 p.2)
+    (g.S.Source.left c.records.lent.trace.now) (g.S.Source.left c.next.new.source) (g.K.Sink.kept c.records.lent.out.now) (g.K.Sink.kept c.print_fault.new.out) status c.record_number-place-in-Err.result c.in-Err.fault going
+    c.in-Err.ensures.told p.1 (place_fits c.next.new.self.number c.next.new.self.limit c.record_number-place-in-Err.result c.record_number-place-in-Err.ensures.number c.record_number-place-in-Err.ensures.within limit) p.0 p.2)
     c.print_fault.ensures.printed
 
 pub returns-in-Err-clause-cause : goal.returns-in-Err-clause-cause
