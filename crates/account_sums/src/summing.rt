@@ -6,8 +6,9 @@ ghost use Rattle.verdict.specs.declared.place.Chunk.{Chunk as AChunk};
 ghost use Rattle.accounts.specs.Broken.{broken_finding};
 ghost use Rattle.std.specs.List.{fold};
 ghost use Rattle.records.specs.Context.{has_sum_free};
-ghost use Rattle.records.specs.Part.{Located, located};
+ghost use Rattle.records.specs.Part.{IsLawful, Located, located, part_of};
 ghost use Rattle.records.specs.Postings.{account_fault};
+ghost use Rattle.records.specs.Takes.{with_accounted};
 ghost use Rattle.account_sums.specs.Kept.{chosen, summed_in};
 ghost use Rattle.account_sums.specs.Sums.{Summed, context_with, of_none, rest_of, with_record};
 
@@ -15,7 +16,7 @@ use crate::context::ImageContext;
 use crate::shown::SectorTally;
 use accounts::{Account, Postings, Tally, finding_of};
 use chunk_map::ChunkMap;
-use records::{RecAt, Taker};
+use records::{RecAt, Record, Taker};
 use std::alloc::Global;
 use verdict::{Finding, NoMemory};
 
@@ -62,6 +63,17 @@ impl<'a> Accounts<'a> {
         let sector = self.sectors.least_broken()?;
         Ok(first_of(self.alloc, sector, self.tally.least_broken()))
     }
+
+    // Adds what a record posts.
+    fn add(&mut self, one: &RecAt<'_>) -> Result<(), NoMemory>
+        requires { IsLawful (part_of one.now.part) }
+        ensures { OnOk result (summed_in self.new ≡
+            with_record (summed_in self.old) (located one.now)) }
+    {
+        post(self.alloc, &self.context, one, &mut self.waiting)?;
+        self.tally.add_all(&mut self.waiting)?;
+        self.sectors.take(&self.context, one)
+    }
 }
 
 // The finding of the lesser of a sector and an account of another kind: sectors stand between the kinds 4 and 6.
@@ -85,12 +97,14 @@ impl<'a> Taker for Accounts<'a> {
 
     ghost held = { summed_in };
 
-    ghost with = { with_record };
+    ghost with = { with_accounted with_record };
 
-    fn take(&mut self, one: &RecAt<'_>) -> Result<(), NoMemory> {
-        post(self.alloc, &self.context, one, &mut self.waiting)?;
-        self.tally.add_all(&mut self.waiting)?;
-        self.sectors.take(&self.context, one)
+    fn take(&mut self, one: &Record<'_>) -> Result<(), NoMemory> {
+        match one {
+            Record::Block(block) => self.add(&block.record()),
+            Record::Item(one) => self.add(one),
+            Record::Pointer(_) => Ok(()),
+        }
     }
 }
 

@@ -103,6 +103,7 @@ fn is_good(block: &Bytes) -> bool {
         level: bytes[0x64],
         low: None,
         high: None,
+        parent: 0,
     };
     read_block(bytes, &FSID, &expect).is_ok()
 }

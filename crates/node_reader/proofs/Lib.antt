@@ -1,3 +1,4 @@
 pub mod Steps
 pub mod Sound
 pub mod BlockLaws
+pub mod High

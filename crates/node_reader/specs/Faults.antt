@@ -1,5 +1,5 @@
 -- The rules of a tree block in their order, for a block that is expected somewhere in the walk of a tree.
-use Rattle.std.specs.Prelude.{ℕ, ◌+◌, ◌-◌, ◌*◌, ◌/◌, zero, suc, Bool, not, ◌&&◌, ◌||◌, ◌==◌, nat_lt, false, if◌then◌else◌, List, [], ◌∷◌, ◌++◌, length, drop, slice_index, bit_and, bytes_eq, Option, Some, None, is_some, Result, Ok, Err}
+use Rattle.std.specs.Prelude.{ℕ, ◌+◌, ◌-◌, ◌*◌, ◌/◌, zero, suc, Bool, not, ◌&&◌, ◌||◌, ◌==◌, nat_lt, false, if◌then◌else◌, List, [], ◌∷◌, ◌++◌, length, drop, slice_index, bit_and, bytes_eq, Option, Some, None, is_some, Result}
 use Rattle.recon_bytes.specs.Field.{field}
 use Rattle.recon_crc.specs.Checksum.{crc32c_of}
 use Rattle.verdict.specs.Image.{range}
@@ -91,13 +91,20 @@ count_rules bytes e =
     block_rule e (nat_lt (room_of bytes e.level) (count_of bytes) || (count_of bytes == 0 && needs_entry e)) N 9 (count_of bytes)
     ∷ []
 
--- then the keys: the first is the low key, they ascend, and the last is below the high key
-unfoldable pub key_rules : List ℕ → Expect → List TableRow
-key_rules bytes e =
+-- then the keys: the first is the low key, they ascend,
+abbrev pub order_rules : List ℕ → Expect → List TableRow
+order_rules bytes e =
     block_rule e (differs_from e.low (entry_key bytes (entry_size e.level) 0)) N 10 0
     ∷ place_rule e (least_from (disordered_at bytes (entry_size e.level)) 1 (count_of bytes - 1)) 11
-    ∷ block_rule e (not (count_of bytes == 0) && reaches e.high (entry_key bytes (entry_size e.level) (count_of bytes - 1))) N 12 (count_of bytes - 1)
     ∷ []
+
+-- and the last is below the high key
+abbrev pub high_rule : List ℕ → Expect → TableRow
+high_rule bytes e =
+    block_rule e (not (count_of bytes == 0) && reaches e.high (entry_key bytes (entry_size e.level) (count_of bytes - 1))) N 12 (count_of bytes - 1)
+
+unfoldable pub key_rules : List ℕ → Expect → List TableRow
+key_rules bytes e = order_rules bytes e ++ high_rule bytes e ∷ []
 
 -- then a node's pointers, which are no newer than the node, and a leaf's items, which fill it from its end
 unfoldable pub body_rules : List ℕ → Expect → List TableRow

@@ -1,7 +1,7 @@
 -- A tree block: a header of 101 bytes, and behind it entries of one size back to back, which are
 -- pointers of 33 bytes in a node and items of 25 bytes in a leaf. An item's bytes lie towards the end
 -- of the leaf, and its offset counts from the end of the header.
-use Rattle.std.specs.Prelude.{ℕ, ◌+◌, ◌*◌, ◌<◌, ◌≤◌, ◌≡◌, Bool, ◌&&◌, ◌||◌, ◌==◌, nat_lt, if◌then◌else◌, List, length, slice_index}
+use Rattle.std.specs.Prelude.{ℕ, ◌+◌, ◌*◌, ◌<◌, ◌≤◌, ◌≡◌, ◌==◌, if◌then◌else◌, List, length, slice_index, Option, Some, None}
 use Rattle.recon_bytes.specs.Field.{field}
 use Rattle.verdict.specs.Image.{range}
 use Rattle.verdict.specs.OnDisk.{key_of}
@@ -12,6 +12,10 @@ use Rattle.node_reader.specs.declared.expect.Pointer.{Pointer}
 -- the header's generation
 abbrev pub generation_of : List ℕ → ℕ
 generation_of bytes = field 8 bytes 0x50
+
+-- the id of the tree that the header names as the owner
+abbrev pub owner_of : List ℕ → ℕ
+owner_of bytes = field 8 bytes 0x58
 
 -- how many entries the header counts
 abbrev pub count_of : List ℕ → ℕ
@@ -32,6 +36,10 @@ entry_start size place = 101 + size * place
 -- the key of the entry at a place
 abbrev pub entry_key : List ℕ → ℕ → ℕ → Key
 entry_key bytes size place = key_of bytes (entry_start size place)
+
+-- the key of the first entry, if there is one
+abbrev pub first_key_of : List ℕ → Option Key
+first_key_of bytes = if count_of bytes == 0 then None else Some (entry_key bytes (entry_size (level_of bytes)) 0)
 
 -- the pointer at a place of a node
 abbrev pub pointer_of : List ℕ → ℕ → Pointer

@@ -1,4 +1,5 @@
 pub mod Places
 pub mod Layout
 pub mod Faults
-pub mod BlockBytes
+pub mod Stored
+pub mod HighLaw

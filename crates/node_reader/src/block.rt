@@ -2,7 +2,7 @@
 
 ghost use Rattle.std.specs.Prelude.{◌≡◌, ◌<◌, length, true, IfOk};
 ghost use Rattle.verdict.specs.Trees.{is_node_size};
-ghost use Rattle.node_reader.specs.Layout.{count_of, level_of, pointer_of, item_of};
+ghost use Rattle.node_reader.specs.Layout.{count_of, level_of, owner_of, first_key_of, pointer_of, item_of};
 ghost use Rattle.node_reader.specs.Faults.{block_of};
 
 use crate::entries::{HEADER, ITEM, POINTER};
@@ -60,6 +60,24 @@ impl<'a> Block<'a> {
         ensures { result ≡ count_of self.now }
     {
         self.count
+    }
+
+    /// The id of the tree that the header names as the owner, at byte 0x58.
+    pub fn owner(&self) -> u64
+        ensures { result ≡ owner_of self.now }
+    {
+        get_u64(self.bytes, 0x58)
+    }
+
+    /// The key of the first pointer or item, or `None` for an empty leaf.
+    pub fn first_key(&self) -> Option<Key>
+        ensures { result ≡ first_key_of self.now }
+    {
+        if self.count == 0 {
+            None
+        } else {
+            Some(get_key(self.bytes, HEADER))
+        }
     }
 
     /// The pointer at place `i` of a node, counted from 0.

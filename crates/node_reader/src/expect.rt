@@ -20,6 +20,8 @@ pub struct Expect {
     pub low: Option<Key>,
     /// The key that all its keys are below, or `None` on the rightmost path of a tree.
     pub high: Option<Key>,
+    /// The logical address in bytes of the node above, 0 for the root of a tree. No rule looks at it.
+    pub parent: u64,
 }
 
 impl Expect {

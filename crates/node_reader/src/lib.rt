@@ -5,10 +5,12 @@
 mod block;
 mod entries;
 mod expect;
+mod law;
 mod rules;
 
 pub use block::{Block, read_block};
 pub use expect::{Expect, Pointer};
+pub use law::high_decides;
 
 #[cfg(test)]
 mod tests;

@@ -86,6 +86,7 @@ fn expected(level: u8, root: bool) -> Expect
         level,
         low: if root { None } else { Some(key(256)) },
         high: if root { None } else { Some(key(300)) },
+        parent: 0,
     }
 }
 

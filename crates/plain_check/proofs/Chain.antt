@@ -1,5 +1,5 @@
 -- The check by its steps.
-use Rattle.std.proofs.Common.{◌≡◌, ℕ, List, ◌∷◌, Result, Ok, Err, refl}
+use Rattle.std.proofs.Common.{◌≡◌, ℕ, List, Result, Ok, Err, refl}
 use Rattle.verdict.specs.Rules.{and_then}
 use Rattle.verdict.specs.declared.finding.Finding.{Finding}
 use Rattle.verdict.specs.declared.place.Chunk.{Chunk}
@@ -7,7 +7,7 @@ use Rattle.super_reader.specs.declared.Super.{Super}
 use Rattle.super_reader.specs.Superblock.{array_place}
 use Rattle.volume_items.specs.SystemArray.{array_chunks}
 use Rattle.volume_items.specs.declared.root.RootItem.{RootItem}
-use Rattle.records.specs.Part.{Located}
+use Rattle.records.specs.Seen.{Seen}
 use Rattle.records.specs.FullCheck.{checked}
 use Rattle.records.specs.Walk.{Records}
 use Rattle.records.specs.Contents.{Contents, contents, superblock_in, all_records, chunk_map_in, root_items_in}
@@ -25,8 +25,8 @@ steps_of image =
 
 -- what an image holds, and the step that follows, as one
 after_contents : (sup : Super) (chunks : List Chunk) (roots : List RootItem) (records : Records)
-    → and_then {A = Contents} {B = ℕ} (and_then {A = List Located} {B = Contents} records (λ rs. Ok (with_records sup chunks roots rs))) (λ held. and_then (accounts_of held) (λ _. Ok held.sup.generation))
-    ≡ and_then {A = Unit {0}} {B = ℕ} (and_then {A = List Located} {B = Unit {0}} records (λ rs. accounts_of (with_records sup chunks roots rs))) (λ _. Ok sup.generation)
+    → and_then {A = Contents} {B = ℕ} (and_then {A = List Seen} {B = Contents} records (λ rs. Ok (with_records sup chunks roots rs))) (λ held. and_then (accounts_of held) (λ _. Ok held.sup.generation))
+    ≡ and_then {A = Unit {0}} {B = ℕ} (and_then {A = List Seen} {B = Unit {0}} records (λ rs. accounts_of (with_records sup chunks roots rs))) (λ _. Ok sup.generation)
 after_contents sup chunks roots (Err finding) = refl
 after_contents sup chunks roots (Ok records) = refl
 

@@ -1,5 +1,4 @@
-pub mod Copies
-pub mod Walking
+pub mod SuperLaws
 pub mod Chain
 pub mod Sums
 pub mod RootList

@@ -5,23 +5,22 @@ ghost use Rattle.verdict.specs.Trees.{is_node_size};
 ghost use Rattle.recon_disk.specs.Keeping.{Kept};
 ghost use Rattle.super_reader.specs.Superblock.{array_place};
 ghost use Rattle.volume_items.specs.SystemArray.{array_chunks};
-ghost use Rattle.records.specs.Part.{IsLawful, located, part_of};
+ghost use Rattle.records.specs.Seen.{seen};
+ghost use Rattle.records.specs.Seen.Seen.{ItemSeen};
 ghost use Rattle.records.specs.Contents.{chunk_map_in, root_items_in, super_record, tree_records};
 ghost use Rattle.records.specs.FullCheck.{checked};
 ghost use Rattle.plain_check.specs.Accounts.{accounts_in, records_in};
-ghost use Rattle.plain_check.specs.Gives.{Gives, IsOutcome, is_disk_halt};
-ghost use Rattle.plain_check.specs.Takes.{ReadsInto, handing};
+ghost use Rattle.block_source.specs.Gives.{Gives, IsOutcome, is_disk_halt};
+ghost use Rattle.block_source.specs.Takes.{ReadsInto, handing};
 
-use crate::halt::Halt;
 use crate::primary::read_superblock;
-use crate::read::Volume;
 use crate::roots::{check_roots, chunk_root, named, top_root};
 use crate::takers::{Chunks, Roots};
-use crate::walk::walk_into;
 use account_sums::Accounts;
+use block_source::{BlockSource, Halt, walk_into};
 use chunk_map::{ChunkMap, Sys};
 use recon_disk::Disk;
-use records::{Rec, RecAt, Taker};
+use records::{Rec, RecAt, Record, Taker};
 use std::alloc::Global;
 use super_reader::Super;
 use verdict::Key;
@@ -41,14 +40,14 @@ pub fn check<D: Disk>(alloc: Global, disk: &mut D, cache: &WriteCache) -> Result
     let end = disk.length()?;
     let sup = read_superblock(disk, cache, end)?;
     let array = system_chunks(alloc, &sup)?;
-    let base = Volume {
+    let base = BlockSource {
         cache,
         map: &array,
         sup: &sup,
         end,
     };
     let chunks = chunk_map(alloc, disk, &base)?;
-    let volume = Volume {
+    let volume = BlockSource {
         map: &chunks,
         ..base
     };
@@ -71,8 +70,12 @@ fn system_chunks(alloc: Global, sup: &Super) -> Result<ChunkMap, Halt>
 
 // The chunks of the chunk tree, where the rules on the chunk map keep. It is walked through the chunks of the system
 // array.
-#[tactic(auto, unfolding(records::specs::Contents::chunk_map_in), using(crate::proofs::Copies::overlays))]
-fn chunk_map<D: Disk>(alloc: Global, disk: &mut D, volume: &Volume<'_>) -> Result<ChunkMap, Halt>
+#[tactic(auto, unfolding(records::specs::Contents::chunk_map_in), using(block_source::proofs::Copies::overlays))]
+fn chunk_map<D: Disk>(
+    alloc: Global,
+    disk: &mut D,
+    volume: &BlockSource<'_>,
+) -> Result<ChunkMap, Halt>
     requires size { is_node_size volume.now.sup.now.nodesize ≡ true }
     requires end { volume.now.end ≡ D.len disk.old }
     ensures gives { let sup = volume.now.sup.now in
@@ -94,7 +97,7 @@ fn chunk_map<D: Disk>(alloc: Global, disk: &mut D, volume: &Volume<'_>) -> Resul
 fn root_items<D: Disk>(
     alloc: Global,
     disk: &mut D,
-    volume: &Volume<'_>,
+    volume: &BlockSource<'_>,
 ) -> Result<Vec<RootItem>, Halt>
     requires size { is_node_size volume.now.sup.now.nodesize ≡ true }
     requires end { volume.now.end ≡ D.len disk.old }
@@ -111,12 +114,12 @@ fn root_items<D: Disk>(
 
 // The accounts of all that the image says. All its trees are walked, so that the chunk tree and the root tree are read
 // a second time: they are few blocks, and only now is it known what all records are read by.
-#[tactic(auto, unfolding(crate::specs::Accounts::accounts_in))]
+#[tactic(auto, unfolding(crate::specs::Accounts::accounts_in), using(block_source::proofs::Walking::steps))]
 fn check_accounts<D: Disk>(
     alloc: Global,
     disk: &mut D,
-    base: &Volume<'_>,
-    volume: &Volume<'_>,
+    base: &BlockSource<'_>,
+    volume: &BlockSource<'_>,
     roots: &[RootItem],
 ) -> Result<(), Halt>
     requires size { is_node_size volume.now.sup.now.nodesize ≡ true }
@@ -137,29 +140,28 @@ fn check_accounts<D: Disk>(
 }
 
 // The record of the superblock.
-fn record_of_superblock(sup: &Super) -> RecAt<'static>
-    ensures says { located result ≡ super_record sup.now }
-    ensures lawful { IsLawful (part_of result.part) }
+fn record_of_superblock(sup: &Super) -> Record<'static>
+    ensures { seen result ≡ ItemSeen (super_record sup.now) }
 {
-    RecAt {
+    Record::Item(RecAt {
         tree: 0,
         block: 0,
         key: Key::none(),
         part: Rec::Super {
             bytes_used: sup.bytes_used,
         },
-    }
+    })
 }
 
 // Gives all records of the image to a taker: that of the superblock, then those of the chunk tree, which is walked
 // through the chunks of the system array, of the root tree, and of all trees that root items name, which are walked
 // through the whole chunk map. The pairs of the system array are no records.
-#[tactic(auto, unfolding(records::specs::Contents::all_records), using(crate::proofs::Walking::steps))]
+#[tactic(auto, unfolding(records::specs::Contents::all_records), using(block_source::proofs::Walking::steps))]
 fn read_all<D: Disk, T: Taker>(
     alloc: Global,
     disk: &mut D,
-    base: &Volume<'_>,
-    volume: &Volume<'_>,
+    base: &BlockSource<'_>,
+    volume: &BlockSource<'_>,
     roots: &[RootItem],
     into: &mut T,
 ) -> Result<(), Halt>
@@ -179,11 +181,11 @@ fn read_all<D: Disk, T: Taker>(
 }
 
 // Walks the trees that root items name, one after the other, and gives their records to a taker.
-#[tactic(auto, using(crate::proofs::Walking::steps))]
+#[tactic(auto, using(block_source::proofs::Walking::then_held))]
 fn walk_trees<D: Disk, T: Taker>(
     alloc: Global,
     disk: &mut D,
-    volume: &Volume<'_>,
+    volume: &BlockSource<'_>,
     roots: &[RootItem],
     into: &mut T,
 ) -> Result<(), Halt>

@@ -4,12 +4,11 @@ ghost use Rattle.std.specs.Prelude.{◌≡◌, IfOk, IfSome};
 ghost use Rattle.recon_disk.specs.Keeping.{Kept};
 ghost use Rattle.write_cache.specs.Cache.{overlaid};
 ghost use Rattle.records.specs.FullCheck.{full_check};
-ghost use Rattle.plain_check.specs.Gives.{is_disk_fault};
+ghost use Rattle.block_source.specs.Gives.{is_disk_fault};
 ghost use Rattle.plain_check.specs.Judged.{HasRoom};
 
-use crate::Fault;
 use crate::check::check;
-use crate::halt::told;
+use block_source::{Fault, told};
 use recon_disk::Disk;
 use std::alloc::Global;
 use verdict::Verdict;

@@ -2,18 +2,12 @@
 #![tactic(auto)]
 
 mod check;
-mod halt;
-mod items;
 mod judging;
 mod primary;
-mod read;
 mod roots;
 mod takers;
-mod walk;
 
-pub use halt::Fault;
+pub use block_source::{BlockSource, Fault, read_under, walk_tree};
 pub use judging::judge;
 pub use primary::superblock;
-pub use read::{Volume, read_under};
 pub use verdict::Verdict;
-pub use walk::walk_tree;

@@ -5,11 +5,9 @@ ghost use Rattle.super_reader.specs.Superblock.{IsReadable};
 ghost use Rattle.recon_disk.specs.Keeping.{Kept};
 ghost use Rattle.write_cache.specs.Cache.{overlaid};
 ghost use Rattle.records.specs.Contents.{superblock_in};
-ghost use Rattle.plain_check.specs.Gives.{Gives, is_disk_fault, is_disk_halt};
+ghost use Rattle.block_source.specs.Gives.{Gives, is_disk_fault, is_disk_halt};
 
-use crate::Fault;
-use crate::halt::{Halt, told};
-use crate::read::read_under;
+use block_source::{Fault, Halt, read_under, told};
 use recon_disk::Disk;
 use super_reader::{Super, read_super};
 use verdict::{Family, Finding, SUPERBLOCK_AT, SUPERBLOCK_SIZE};

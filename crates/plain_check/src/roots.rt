@@ -13,9 +13,9 @@ ghost use Rattle.records.specs.Contents.{
   roots_fault,
   roots_finding,
 };
-ghost use Rattle.plain_check.specs.Gives.{IsOutcome};
+ghost use Rattle.block_source.specs.Gives.{IsOutcome};
 
-use crate::halt::Halt;
+use block_source::Halt;
 use node_reader::Expect;
 use std::alloc::Global;
 use std::collections::BTreeSet;
@@ -34,6 +34,7 @@ pub fn chunk_root(sup: &Super) -> Expect
         level: sup.chunk_root_level,
         low: None,
         high: None,
+        parent: 0,
     }
 }
 
@@ -48,6 +49,7 @@ pub fn top_root(sup: &Super) -> Expect
         level: sup.root_level,
         low: None,
         high: None,
+        parent: 0,
     }
 }
 
@@ -62,6 +64,7 @@ pub fn named(root: &RootItem) -> Expect
         level: root.level,
         low: None,
         high: None,
+        parent: 0,
     }
 }
 
@@ -90,9 +93,7 @@ fn repeated(alloc: Global, roots: &[RootItem]) -> Result<Option<Finding>, Halt>
         if seen.contains(&id) {
             return Ok(Some(finding(1, root.key)));
         }
-        let Ok(_) = seen.insert(id) else {
-            return Err(Halt::NoMemory);
-        };
+        seen.insert(id)?;
     }
     Ok(None)
 }

@@ -6,7 +6,7 @@ ghost use Rattle.volume_items.specs.declared.root.RootItem.{RootItem as ARoot};
 ghost use Rattle.records.specs.Takes.{with_chunk, with_root};
 
 use chunk_map::ChunkMap;
-use records::{Rec, RecAt, Taker};
+use records::{Rec, RecAt, Record, Taker};
 use std::alloc::Global;
 use verdict::NoMemory;
 use volume_items::RootItem;
@@ -38,11 +38,16 @@ impl Taker for Chunks {
 
     ghost with = { with_chunk };
 
-    fn take(&mut self, one: &RecAt<'_>) -> Result<(), NoMemory> {
-        if let Rec::ChunkItem(item) = one.part {
-            return self.map.add(&item.chunk());
+    fn take(&mut self, one: &Record<'_>) -> Result<(), NoMemory> {
+        match one {
+            Record::Item(
+                RecAt {
+                    part: Rec::ChunkItem(item),
+                    ..
+                },
+            ) => self.map.add(&item.chunk()),
+            _ => Ok(()),
         }
-        Ok(())
     }
 }
 
@@ -73,8 +78,9 @@ impl Taker for Roots {
 
     ghost with = { with_root };
 
-    fn take(&mut self, one: &RecAt<'_>) -> Result<(), NoMemory> {
-        if let Rec::RootItem(item) = one.part
+    fn take(&mut self, one: &Record<'_>) -> Result<(), NoMemory> {
+        if let Record::Item(one) = one
+            && let Rec::RootItem(item) = one.part
             && self.items.push(item).is_err()
         {
             return Err(NoMemory);

@@ -10,8 +10,8 @@ use Rattle.recon_disk.specs.declared.disk.Disk.{Ghosts}
 use Rattle.recon_disk.specs.Keeping.{IsCounted}
 use Rattle.write_cache.specs.Cache.{overlaid}
 use Rattle.records.specs.FullCheck.{full_check}
-use Rattle.plain_check.specs.declared.halt.Fault.{Fault}
-use Rattle.plain_check.specs.declared.halt.Fault.TheVariants.{Disk, NoMemory}
+use Rattle.block_source.specs.declared.halt.Fault.{Fault}
+use Rattle.block_source.specs.declared.halt.Fault.TheVariants.{Disk, NoMemory}
 use Rattle.recon_core.specs.Machine.{answer_to, image_by}
 use Rattle.recon_core.specs.Stops.{IsLeftBy}
 

@@ -4,7 +4,7 @@ ghost use Rattle.std.specs.Prelude.{◌≡◌, ◌+◌, ◌^◌, ◌<◌, ◌≤
 ghost use Rattle.verdict.specs.Image.{range};
 ghost use Rattle.recon_disk.specs.Keeping.{Kept};
 ghost use Rattle.write_cache.specs.Cache.{overlaid};
-ghost use Rattle.plain_check.specs.Gives.{is_disk_fault};
+ghost use Rattle.block_source.specs.Gives.{is_disk_fault};
 
 use plain_check::{Fault, read_under};
 use recon_disk::Disk;

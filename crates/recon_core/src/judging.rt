@@ -2,7 +2,7 @@
 
 ghost use Rattle.std.specs.Prelude.{◌≡◌, ◌^◌, ◌<◌, IfOk, OnOk, OnErr, IsErrOf};
 ghost use Rattle.std.specs.FinMap as map;
-ghost use Rattle.plain_check.specs.Gives.{is_disk_fault};
+ghost use Rattle.block_source.specs.Gives.{is_disk_fault};
 ghost use Rattle.recon_core.specs.Standing.{IsBelow};
 ghost use Rattle.recon_core.specs.Judged.{Judges};
 ghost use Rattle.recon_core.specs.Order.{HasSentBy, HasSentPart};

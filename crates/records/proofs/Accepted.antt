@@ -1,15 +1,16 @@
 -- What an accepted image has.
-use Rattle.std.proofs.Common.{◌≡◌, ℕ, List, ◌∷◌, refl, ap, sym, ◌∙◌}
+use Rattle.std.proofs.Common.{◌≡◌, ℕ, List, ◌∷◌, refl, ap, ◌∙◌}
 use Rattle.std.specs.Prelude.{Result, Ok, Err}
+use Rattle.std.specs.List.{filter_map}
 use Rattle.verdict.specs.Rules.{and_then, finding_or}
 use Rattle.verdict.specs.declared.finding.Finding.{Finding}
-use Rattle.verdict.specs.declared.finding.Verdict.{Verdict}
-use Rattle.verdict.specs.declared.finding.Verdict.TheVariants.{Accept, Found}
+use Rattle.verdict.specs.declared.finding.Verdict.TheVariants.{Accept}
 use Rattle.super_reader.specs.declared.Super.{Super}
 use Rattle.super_reader.specs.Superblock.{array_place}
 use Rattle.volume_items.specs.SystemArray.{array_chunks}
 use Rattle.records.specs.Contents.{Contents, contents, superblock_in, chunk_map_in, root_items_in, all_records, super_record}
 use Rattle.records.specs.Context.{context_of}
+use Rattle.records.specs.Seen.{accounted}
 use Rattle.records.specs.Postings.{account_fault}
 use Rattle.records.specs.FullCheck.{checked, verdict_of, full_check}
 
@@ -31,7 +32,7 @@ held_superblock image held is =
     let third = and_then-ok (chunk_map_in first.0 second.0 image) _ held second.2 in
     let fourth = and_then-ok (root_items_in first.0 third.0 image) _ held third.2 in
     let fifth = and_then-ok (all_records first.0 second.0 third.0 fourth.0 image) _ held fourth.2 in
-    let whole : record { sup = first.0; chunks = third.0; roots = fourth.0; records = super_record first.0 ∷ fifth.0 } ≡ held = cc (fifth.2) in
+    let whole : record { sup = first.0; chunks = third.0; roots = fourth.0; records = super_record first.0 ∷ filter_map accounted fifth.0 } ≡ held = cc (fifth.2) in
     first.1 ∙ ap (λ h. Ok h.sup) whole
 
 -- an accepted image has a superblock of the generation

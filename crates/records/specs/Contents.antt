@@ -1,7 +1,7 @@
 -- What an image holds: the records of its superblock, and of all blocks and items of its trees; or the first finding. The steps come
 -- in the order of the check.
 use Rattle.std.specs.Prelude.{ℕ, Bool, not, ◌==◌, nat_lt, List, [], ◌∷◌, ◌++◌, length, Option, Some, None, Result, Ok, Err, if◌then◌else◌}
-use Rattle.std.specs.List.{list_any}
+use Rattle.std.specs.List.{list_any, filter_map}
 use Rattle.verdict.specs.Image.{range}
 use Rattle.verdict.specs.Rules.{TableRow, first_failing, or_found, finding_or, and_then, image_finding, no_key}
 use Rattle.verdict.specs.declared.finding.Finding.{Finding}
@@ -16,7 +16,8 @@ use Rattle.volume_items.specs.declared.root.RootItem.{RootItem}
 use Rattle.node_reader.specs.declared.expect.Expect.{Expect}
 use Rattle.records.specs.Part.{Located}
 use Rattle.records.specs.Part.Part.{SuperPart}
-use Rattle.records.specs.Walk.{Records, each, then_records, walk_of, block_reading}
+use Rattle.records.specs.Seen.{accounted}
+use Rattle.records.specs.Walk.{Records, each, then_records, walk_in}
 use Rattle.records.specs.Takes.{held_after, with_chunk, with_root}
 
 -- the superblock of an image, or the first finding: the image has fewer than 69,632 bytes, so that no superblock lies in it, or a
@@ -26,7 +27,7 @@ superblock_in image =
     if nat_lt (length image) 69632 then Err (image_finding S 1 (length image))
     else superblock_of (range 65536 4096 image)
 
--- what is expected of the root block of a tree, which has no low key and no high key
+-- what is expected of the root block of a tree, which has no low key, no high key and no node above
 abbrev pub root_expected : ℕ → ℕ → ℕ → ℕ → Expect
 root_expected tree address generation level = record {
   tree = tree;
@@ -35,6 +36,7 @@ root_expected tree address generation level = record {
   level = level;
   low = None;
   high = None;
+  parent = 0;
 }
 
 -- the root of the chunk tree, by the superblock
@@ -77,7 +79,7 @@ roots_fault roots = or_found (repeated_after [] roots) (first_failing (missing_r
 
 -- the chunk tree's records, read through the chunks of the system array
 abbrev pub chunk_records : Super → List Chunk → List ℕ → Records
-chunk_records sup array image = walk_of sup (block_reading array sup image) (chunk_tree_root sup)
+chunk_records sup array image = walk_in sup array (chunk_tree_root sup) image
 
 -- the chunks of the chunk tree, where the rules on the chunk map keep
 unfoldable pub chunk_map_in : Super → List Chunk → List ℕ → Result (List Chunk) Finding
@@ -88,7 +90,7 @@ chunk_map_in sup array image =
 
 -- the root tree's records
 abbrev pub root_records : Super → List Chunk → List ℕ → Records
-root_records sup chunks image = walk_of sup (block_reading chunks sup image) (root_tree_root sup)
+root_records sup chunks image = walk_in sup chunks (root_tree_root sup) image
 
 -- the root items of the root tree, where the rules on their list keep
 unfoldable pub root_items_in : Super → List Chunk → List ℕ → Result (List RootItem) Finding
@@ -99,7 +101,7 @@ root_items_in sup chunks image =
 
 -- the records of the trees that root items name, in the order of the items, which is that of the ids as unsigned numbers
 abbrev pub tree_records : Super → List Chunk → List RootItem → List ℕ → Records
-tree_records sup chunks roots image = each (λ root. walk_of sup (block_reading chunks sup image) (named_root root)) roots
+tree_records sup chunks roots image = each (λ root. walk_in sup chunks (named_root root) image) roots
 
 -- the records of all trees
 unfoldable pub all_records : Super → List Chunk → List Chunk → List RootItem → List ℕ → Records
@@ -110,7 +112,7 @@ all_records sup array chunks roots image =
 abbrev pub super_record : Super → Located
 super_record sup = record { tree = 0; block = 0; key = no_key; part = SuperPart sup.bytes_used }
 
--- what an image holds: its superblock, its chunks, its root items and all records
+-- what an image holds: its superblock, its chunks, its root items and all records that accounts see, of the superblock, of blocks and of items
 pub record Contents : Type 0 where
   pub sup : Super
   pub chunks : List Chunk
@@ -126,4 +128,4 @@ contents image =
     and_then (chunk_map_in sup array image) (λ chunks.
     and_then (root_items_in sup chunks image) (λ roots.
     and_then (all_records sup array chunks roots image) (λ records.
-    Ok (record { sup = sup; chunks = chunks; roots = roots; records = super_record sup ∷ records }))))))
+    Ok (record { sup = sup; chunks = chunks; roots = roots; records = super_record sup ∷ filter_map accounted records }))))))

@@ -1,6 +1,7 @@
 pub mod Part
 pub mod Item
 pub mod Reads
+pub mod Seen
 pub mod Walk
 pub mod Takes
 pub mod Contents

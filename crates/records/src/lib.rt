@@ -8,7 +8,7 @@ mod rec;
 mod take;
 
 pub use item::read_item;
-pub use law::visits_decide;
+pub use law::{high_leaves, visits_decide};
 pub use owned::{ItemAt, OwnedRec};
-pub use rec::{Rec, RecAt};
+pub use rec::{BlockAt, PointerAt, Rec, RecAt, Record};
 pub use take::{Both, Nothing, Taker};

@@ -2,10 +2,12 @@
 
 ghost use Rattle.std.specs.Prelude.{◌≡◌};
 ghost use Rattle.records.specs.Part.{located};
+ghost use Rattle.records.specs.Seen.{block_record};
 ghost use Rattle.records.specs.Context.{sum_free_inode};
 
 use extent_items::{ExtentItem, GroupItem, KeyedRef};
 use fs_items::{DirItem, FileExtent, InodeItem, InodeRef, Orphan, SumRun, Xattr};
+use node_reader::Pointer;
 use verdict::Key;
 use volume_items::{ChunkItem, DevExtent, DeviceItem, RootItem, RootLink};
 
@@ -58,7 +60,7 @@ pub enum Rec<'a> {
     },
 }
 
-/// A record where it stands.
+/// A record where it stands, as accounts see it.
 #[derive(Clone, Copy, Debug)]
 pub struct RecAt<'a> {
     /// The id of the tree, 0 for the superblock.
@@ -69,6 +71,70 @@ pub struct RecAt<'a> {
     pub key: Key,
     /// What it says.
     pub part: Rec<'a>,
+}
+
+/// A block where a walk came to it: what was expected of it but for its high key, and what its bytes say of their
+/// owner and their first key.
+#[derive(Clone, Copy, Debug)]
+pub struct BlockAt {
+    /// The id of the tree.
+    pub tree: u64,
+    /// The block's logical address in bytes.
+    pub address: u64,
+    /// Its level, 0 for a leaf.
+    pub level: u8,
+    /// The generation in which it was written.
+    pub generation: u64,
+    /// Its low key, or `None` for the root of a tree.
+    pub low: Option<Key>,
+    /// The logical address in bytes of the node above, 0 for the root of a tree.
+    pub parent: u64,
+    /// The id of the tree that its header names as the owner.
+    pub owner: u64,
+    /// The key of its first pointer or item, or `None` for an empty leaf.
+    pub first: Option<Key>,
+}
+
+impl BlockAt {
+    /// The block as accounts see it: its address and its level.
+    pub fn record(&self) -> RecAt<'static>
+        ensures { located result ≡ block_record self.now }
+    {
+        RecAt {
+            tree: self.tree,
+            block: self.address,
+            key: Key::none(),
+            part: Rec::Block {
+                address: self.address,
+                level: self.level,
+            },
+        }
+    }
+}
+
+/// A pointer where a walk came to it.
+#[derive(Clone, Copy, Debug)]
+pub struct PointerAt {
+    /// The id of the tree.
+    pub tree: u64,
+    /// The logical address in bytes of the node.
+    pub block: u64,
+    /// The node's level, which is above 0.
+    pub level: u8,
+    /// The pointer.
+    pub pointer: Pointer,
+}
+
+/// What a walk gives of each block: the block, then a node's pointers or a leaf's items. The superblock's record is one
+/// of the last sort, of no tree.
+#[derive(Clone, Copy, Debug)]
+pub enum Record<'a> {
+    /// A block.
+    Block(BlockAt),
+    /// A pointer of a node.
+    Pointer(PointerAt),
+    /// An item of a leaf, or the superblock.
+    Item(RecAt<'a>),
 }
 
 /// The flag of an inode whose data has no checksums.

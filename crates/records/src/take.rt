@@ -1,10 +1,10 @@
 //! What takes the records of walks.
 
 ghost use Rattle.std.specs.Prelude.{◌≡◌, OnOk};
-ghost use Rattle.records.specs.Part.{IsLawful, Located, located, part_of};
+ghost use Rattle.records.specs.Seen.{IsLawfulSeen, Seen, seen};
 ghost use Rattle.records.specs.Takes.{with_both};
 
-use crate::RecAt;
+use crate::Record;
 use verdict::NoMemory;
 
 /// One that takes records, and makes something of them.
@@ -14,12 +14,12 @@ pub trait Taker {
     /// What it has made so far.
     ghost held: { Self → Held };
     /// That, with one record more.
-    ghost with: { Held → Located → Held };
+    ghost with: { Held → Seen → Held };
 
-    /// Takes a record that a reader gave. Where memory runs out, it may have taken it or not.
-    fn take(&mut self, one: &RecAt<'_>) -> Result<(), NoMemory>
-        requires { IsLawful (part_of one.now.part) }
-        ensures { OnOk result (held self.new ≡ with (held self.old) (located one.now)) };
+    /// Takes a record that a walk gave. Where memory runs out, it may have taken it or not.
+    fn take(&mut self, one: &Record<'_>) -> Result<(), NoMemory>
+        requires { IsLawfulSeen (seen one.now) }
+        ensures { OnOk result (held self.new ≡ with (held self.old) (seen one.now)) };
 }
 
 /// One that makes nothing of records.
@@ -33,7 +33,7 @@ impl Taker for Nothing {
 
     ghost with = { λ _ _. tt {0} };
 
-    fn take(&mut self, _one: &RecAt<'_>) -> Result<(), NoMemory> {
+    fn take(&mut self, _one: &Record<'_>) -> Result<(), NoMemory> {
         Ok(())
     }
 }
@@ -54,7 +54,7 @@ impl<A: Taker, B: Taker> Taker for Both<A, B> {
 
     ghost with = { with_both A.with B.with };
 
-    fn take(&mut self, one: &RecAt<'_>) -> Result<(), NoMemory> {
+    fn take(&mut self, one: &Record<'_>) -> Result<(), NoMemory> {
         self.first.take(one)?;
         self.second.take(one)
     }

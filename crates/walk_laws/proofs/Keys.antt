@@ -1,12 +1,13 @@
 -- Lists of keys that ascend between two bounds.
-use Rattle.std.proofs.Common.{◌≡◌, ℕ, zero, suc, ◌+◌, ◌-◌, ◌<◌, true, false, cond, List, [], ◌∷◌, ◌++◌, refl, ap, ◌∙◌, arith}
+use Rattle.std.proofs.Common.{◌≡◌, ℕ, zero, suc, ◌+◌, ◌-◌, ◌<◌, true, false, List, [], ◌∷◌, ◌++◌, refl, ap, ◌∙◌, arith}
 use Rattle.std.proofs.lemmas.Grind.{common_steps}
-use Rattle.std.specs.Prelude.{Option, Some, None, map}
+use Rattle.std.specs.Prelude.{Option, Some, None}
 use Rattle.verdict.specs.OnDisk.{key_below, key_same}
 use Rattle.verdict.specs.declared.key.Key.{Key}
 use Rattle.node_reader.specs.Places.{each_from}
-use Rattle.records.specs.Part.{Located}
-use Rattle.walk_laws.specs.WalkOrder.{is_item, item_keys, AllAbove, Ascend}
+use Rattle.records.specs.Seen.{Seen}
+use Rattle.records.specs.Seen.Seen.{BlockSeen, PointerSeen, ItemSeen}
+use Rattle.walk_laws.specs.WalkOrder.{item_keys, AllAbove, Ascend}
 
 pub below_trans : (a b c : Key) → key_below a b ≡ true → key_below b c ≡ true → key_below a c ≡ true
 below_trans a b c ab bc = grind (arith, common_steps)
@@ -35,42 +36,12 @@ pub record Lie (low high : Option Key) (keys : List Key) : Type 0 where
   pub from : NoneBelow low keys
   pub upto : AllBelow high keys
 
--- a list of keys without some of them
-above_items : (key : Key) (records : List Located) → AllAbove key (map (λ one. one.key) records) → AllAbove key (item_keys records)
-above_items key [] all = tt
-above_items key (one ∷ more) all =
-    elim (is_item one.part) as (λ b. AllAbove key (cond b (one.key ∷ item_keys more) (item_keys more)))
-    [ true ↦ (all.0, above_items key more all.1) | false ↦ above_items key more all.1 ]
-
-ascend_items : (records : List Located) → Ascend (map (λ one. one.key) records) → Ascend (item_keys records)
-ascend_items [] all = tt
-ascend_items (one ∷ more) all =
-    elim (is_item one.part) as (λ b. Ascend (cond b (one.key ∷ item_keys more) (item_keys more)))
-    [ true ↦ (above_items one.key more all.0, ascend_items more all.1) | false ↦ ascend_items more all.1 ]
-
-from_items : (low : Option Key) (records : List Located) → NoneBelow low (map (λ one. one.key) records) → NoneBelow low (item_keys records)
-from_items None records all = tt
-from_items (Some low) [] all = tt
-from_items (Some low) (one ∷ more) all =
-    elim (is_item one.part) as (λ b. NoneBelow (Some low) (cond b (one.key ∷ item_keys more) (item_keys more)))
-    [ true ↦ (all.0, from_items (Some low) more all.1) | false ↦ from_items (Some low) more all.1 ]
-
-upto_items : (high : Option Key) (records : List Located) → AllBelow high (map (λ one. one.key) records) → AllBelow high (item_keys records)
-upto_items None records all = tt
-upto_items (Some high) [] all = tt
-upto_items (Some high) (one ∷ more) all =
-    elim (is_item one.part) as (λ b. AllBelow (Some high) (cond b (one.key ∷ item_keys more) (item_keys more)))
-    [ true ↦ (all.0, upto_items (Some high) more all.1) | false ↦ upto_items (Some high) more all.1 ]
-
-pub lie_items : (low high : Option Key) (records : List Located) → Lie low high (map (λ one. one.key) records) → Lie low high (item_keys records)
-lie_items low high records all = record { ascend = ascend_items records all.ascend; from = from_items low records all.from; upto = upto_items high records all.upto }
-
 -- the keys of two lists of records
-pub item_keys-append : (first later : List Located) → item_keys (first ++ later) ≡ item_keys first ++ item_keys later
+pub item_keys-append : (first later : List Seen) → item_keys (first ++ later) ≡ item_keys first ++ item_keys later
 item_keys-append [] later = refl
-item_keys-append (one ∷ more) later =
-    elim (is_item one.part) as (λ b. cond b (one.key ∷ item_keys (more ++ later)) (item_keys (more ++ later)) ≡ cond b (one.key ∷ item_keys more) (item_keys more) ++ item_keys later)
-    [ true ↦ ap (λ ks. one.key ∷ ks) (item_keys-append more later) | false ↦ item_keys-append more later ]
+item_keys-append (BlockSeen block ∷ more) later = item_keys-append more later
+item_keys-append (PointerSeen pointer ∷ more) later = item_keys-append more later
+item_keys-append (ItemSeen one ∷ more) later = ap (λ ks. one.key ∷ ks) (item_keys-append more later)
 
 above_joined : (key : Key) (first later : List Key) → AllAbove key first → AllAbove key later → AllAbove key (first ++ later)
 above_joined key [] later a b = b

@@ -1,26 +1,27 @@
 -- The keys of a walk, by the level.
-use Rattle.std.proofs.Common.{◌≡◌, ℕ, zero, suc, ◌-◌, false, List, [], ◌∷◌, ◌++◌, refl, ap, sym, subst, ◌∙◌, arith}
+use Rattle.std.proofs.Common.{◌≡◌, ℕ, zero, suc, false, ◌==◌, List, [], ◌∷◌, ◌++◌, refl, ap, sym, subst, ◌∙◌, arith}
 use Rattle.std.proofs.lemmas.Grind.{common_steps}
-use Rattle.std.specs.Prelude.{Option, Some, None, Result, Ok, Err, map}
+use Rattle.std.specs.Prelude.{Option, Some, None, Result, Ok, Err, map, if◌then◌else◌}
 use Rattle.verdict.specs.Rules.{and_then}
 use Rattle.verdict.specs.OnDisk.{key_below}
 use Rattle.verdict.specs.declared.key.Key.{Key}
 use Rattle.verdict.specs.declared.finding.Finding.{Finding}
-use Rattle.verdict.specs.declared.place.Chunk.{Chunk}
 use Rattle.super_reader.specs.declared.Super.{Super}
 use Rattle.super_reader.specs.Superblock.{item_place}
+use Rattle.verdict.specs.declared.place.At.{At}
 use Rattle.node_reader.specs.Places.{each_from}
 use Rattle.node_reader.specs.Layout.{LeafItem, count_of, entry_key, entry_size, items_of, pointers_of}
-use Rattle.node_reader.specs.BlockBytes.{block_bytes}
+use Rattle.node_reader.specs.Stored.{Stored, block_in, found_by}
 use Rattle.node_reader.specs.Faults.{block_fault, block_of}
 use Rattle.node_reader.specs.declared.expect.Expect.{Expect}
 use Rattle.node_reader.specs.declared.expect.Pointer.{Pointer}
 use Rattle.node_reader.proofs.BlockLaws.{block_read}
-use Rattle.records.specs.Part.{Located}
+use Rattle.records.specs.Seen.{Seen}
+use Rattle.records.specs.Seen.Seen.{BlockSeen, ItemSeen}
 use Rattle.records.specs.Item.{item_record}
-use Rattle.records.specs.Walk.{Reading, Records, block_and, block_reading, block_record, below, children_of, child_of, each, just, leaf_record, leaf_records, then_records}
+use Rattle.records.specs.Walk.{Records, behind, below, block_and, block_at, child_of, children_of, each, entry_records, just, leaf_record, leaf_records, own_records, pointer_records, then_records}
 use Rattle.walk_laws.specs.WalkOrder.{Ascend, WalksAscend, item_keys}
-use Rattle.walk_laws.proofs.Keys.{AllBelow, Lie, NoneBelow, item_keys-append, lie_items, lie_joined}
+use Rattle.walk_laws.proofs.Keys.{AllBelow, Lie, NoneBelow, item_keys-append, lie_joined}
 use Rattle.walk_laws.proofs.Blocks.{block_keys, item_keys_of, pointer_keys_of}
 
 -- a step that comes to a value, and what followed
@@ -28,48 +29,55 @@ step_ok : {A B : Type 0} (step : Result A Finding) (next : A → Result B Findin
 step_ok (Err finding) next value is = absurd (cc)
 step_ok (Ok a) next value is = (a, refl, is)
 
--- a reading gives blocks that break no rule
-abbrev IsSoundReading : List ℕ → Reading → Type 0
-IsSoundReading fsid read = (e : Expect) (bytes : List ℕ) → read e ≡ Ok bytes → block_fault bytes fsid e ≡ None
+-- a block that was read breaks no rule
+read_sound : (stored : Stored) (fsid : List ℕ) (e : Expect) (bytes : List ℕ) → block_in stored fsid e ≡ Ok bytes → block_fault bytes fsid e ≡ None
+unfolding block_in
+read_sound stored fsid e bytes is =
+    let read = step_ok (found_by e (stored e.address)) (λ b. block_of b fsid e) bytes is in
+    let both = block_read read.0 fsid e bytes read.2 in
+    subst (λ b. block_fault b fsid e ≡ None) (sym both.1) both.0
 
-image_sound : (chunks : List Chunk) (sup : Super) (image : List ℕ) → IsSoundReading sup.fsid (block_reading chunks sup image)
-unfolding block_reading
-image_sound chunks sup image e bytes is =
-    let read = step_ok (block_bytes image chunks sup.nodesize e) (λ b. block_of b sup.fsid e) bytes is in
-    let both = block_read read.0 sup.fsid e bytes read.2 in
-    subst (λ b. block_fault b sup.fsid e ≡ None) (sym both.1) both.0
+behind_ok : (first : List Seen) (later : Records) (records : List Seen) → behind first later ≡ Ok records → (b : List Seen) × (later ≡ Ok b) × (records ≡ first ++ b)
+unfolding behind
+behind_ok first (Err f) records is = absurd (cc)
+behind_ok first (Ok b) records is = (b, refl, cc)
 
--- the keys of a leaf's records are those of its items
-record_key : (sup : Super) (e : Expect) (item : LeafItem) (one : Located) → leaf_record sup e item ≡ Ok one → one.key ≡ item.key
-record_key sup e item one is =
-    let made = step_ok (item_record (item_place sup e.tree e.address e.generation) item.key item.bytes) _ one is in
-    sym (ap (λ r. key_or item.key r) made.2)
-  where
-    key_or : Key → Result Located Finding → Key
-    key_or k (Ok r) = r.key
-    key_or k (Err f) = k
+then_ok : (first later : Records) (records : List Seen) → then_records first later ≡ Ok records → (a : List Seen) × (b : List Seen) × (first ≡ Ok a) × (later ≡ Ok b) × (records ≡ a ++ b)
+then_ok (Err f) later records is = absurd (cc)
+then_ok (Ok a) later records is =
+    let rest = behind_ok a later records is in
+    (a, rest.0, refl, rest.1, rest.2)
 
-just_ok : (one : Result Located Finding) (records : List Located) → just one ≡ Ok records → (r : Located) × (one ≡ Ok r) × (records ≡ r ∷ [])
+just_ok : (one : Result Seen Finding) (records : List Seen) → just one ≡ Ok records → (r : Seen) × (one ≡ Ok r) × (records ≡ r ∷ [])
 just_ok (Ok r) records is = (r, refl, cc)
 just_ok (Err f) records is = absurd (cc)
 
-then_ok : (first later : Records) (records : List Located) → then_records first later ≡ Ok records → (a : List Located) × (b : List Located) × (first ≡ Ok a) × (later ≡ Ok b) × (records ≡ a ++ b)
-then_ok (Err f) later records is = absurd (cc)
-then_ok (Ok a) (Err f) records is = absurd (cc)
-then_ok (Ok a) (Ok b) records is = (a, b, refl, refl, cc)
+-- the key of an item's record is the item's
+item_key : (at : At) (item : LeafItem) (one : Seen) → leaf_record at item ≡ Ok one → item_keys (one ∷ []) ≡ item.key ∷ []
+item_key at item one is =
+    let made = step_ok (item_record at item.key item.bytes) _ one is in
+    let same : ItemSeen (record { tree = at.tree; block = at.block; key = item.key; part = made.0 }) ≡ one = cc (made.2) in
+    sym (ap (λ r. item_keys (r ∷ [])) same)
 
-leaf_keys : (sup : Super) (e : Expect) (items : List LeafItem) (records : List Located) → leaf_records sup e items ≡ Ok records → map (λ one. one.key) records ≡ map (λ item. item.key) items
-leaf_keys sup e [] records is =
+-- the keys of a leaf's records are those of its items
+leaf_keys : (at : At) (items : List LeafItem) (records : List Seen) → each (λ item. just (leaf_record at item)) items ≡ Ok records → item_keys records ≡ map (λ item. item.key) items
+leaf_keys at [] records is =
     let none : records ≡ [] = cc in
-    ap (map (λ one. one.key)) none
-leaf_keys sup e (item ∷ items) records is =
-    let split = then_ok (just (leaf_record sup e item)) (leaf_records sup e items) records is in
-    let one = just_ok (leaf_record sup e item) split.0 split.2 in
-    let here : one.0.key ≡ item.key = record_key sup e item one.0 one.1 in
-    let rest : map (λ r. r.key) split.1 ≡ map (λ i. i.key) items = leaf_keys sup e items split.1 split.3 in
-    rw (split.4, one.2, here, rest) refl
+    ap item_keys none
+leaf_keys at (item ∷ items) records is =
+    let split = then_ok (just (leaf_record at item)) (each (λ other. just (leaf_record at other)) items) records is in
+    let one = just_ok (leaf_record at item) split.0 split.2 in
+    let rest : item_keys split.1 ≡ map (λ i. i.key) items = leaf_keys at items split.1 split.3 in
+    ap item_keys split.4 ∙ item_keys-append split.0 split.1
+    ∙ ap (λ a. item_keys a ++ item_keys split.1) one.2 ∙ ap (λ ks. ks ++ item_keys split.1) (item_key at item one.0 one.1)
+    ∙ ap (λ ks. item.key ∷ ks) rest
 
-no_records : (found : Records) (records : List Located) → found ≡ Ok [] → found ≡ Ok records → records ≡ []
+-- pointers have no keys of items
+pointers_keyless : (e : Expect) (pointers : List Pointer) → item_keys (pointer_records e pointers) ≡ []
+pointers_keyless e [] = refl
+pointers_keyless e (pointer ∷ pointers) = pointers_keyless e pointers
+
+no_records : (found : Records) (records : List Seen) → found ≡ Ok [] → found ≡ Ok records → records ≡ []
 no_records found records none is = cc
 
 -- nothing lies between any two keys
@@ -88,53 +96,66 @@ from_first (Some low) first others (key ∷ keys) is from = (over_low low first 
     over_low : (low first key : Key) → key_below first low ≡ false → key_below key first ≡ false → key_below key low ≡ false
     over_low low first key a b = grind (arith, common_steps)
 
--- the records of a block below which these records are
-block_ok : (sup : Super) (read : Reading) (level : ℕ) (e : Expect) (records : List Located) → block_and (below level sup read) read e ≡ Ok records
-    → (bytes : List ℕ) × (rest : List Located) × (read e ≡ Ok bytes) × (below level sup read e bytes ≡ Ok rest) × (item_keys records ≡ item_keys rest)
-block_ok sup read level e records is =
-    let found = step_ok (read e) (λ bytes. then_records (just (Ok (block_record e))) (below level sup read e bytes)) records is in
-    let split = then_ok (just (Ok (block_record e))) (below level sup read e found.0) records found.2 in
-    let own : split.0 ≡ block_record e ∷ [] = head_is (block_record e ∷ []) split.0 split.2 in
-    let keys : item_keys records ≡ item_keys split.1 = ap item_keys split.4 ∙ ap (λ a. item_keys (a ++ split.1)) own in
-    (found.0, split.1, found.1, split.3, keys)
+-- the keys of a block's own records are those of the records of what it has
+own_keys : (sup : Super) (e : Expect) (bytes : List ℕ) (entries : Records) (own : List Seen) → entry_records sup e bytes ≡ entries → own_records sup e bytes ≡ Ok own
+    → (rest : List Seen) × (entries ≡ Ok rest) × (item_keys own ≡ item_keys rest)
+unfolding own_records
+own_keys sup e bytes entries own has is =
+    let found = behind_ok (BlockSeen (block_at e bytes) ∷ []) entries own (sym (ap (behind (BlockSeen (block_at e bytes) ∷ [])) has) ∙ is) in
+    (found.0, found.1, ap item_keys found.2)
+
+leaf_has : (sup : Super) (e : Expect) (bytes : List ℕ) → e.level ≡ 0 → entry_records sup e bytes ≡ leaf_records (item_place sup e.tree e.address e.generation) (items_of bytes)
+leaf_has sup e bytes leaf =
+    ap (λ n. if n == 0 then leaf_records (item_place sup e.tree e.address e.generation) (items_of bytes) else Ok (pointer_records e (pointers_of bytes))) leaf
+
+node_has : (sup : Super) (level : ℕ) (e : Expect) (bytes : List ℕ) → e.level ≡ suc level → entry_records sup e bytes ≡ Ok (pointer_records e (pointers_of bytes))
+node_has sup level e bytes node =
+    ap (λ b. if b then leaf_records (item_place sup e.tree e.address e.generation) (items_of bytes) else Ok (pointer_records e (pointers_of bytes))) (above e.level level node)
   where
-    head_is : (x a : List Located) → just (Ok (block_record e)) ≡ Ok a → a ≡ block_record e ∷ []
-    head_is x a is = cc
+    above : (n level : ℕ) → n ≡ suc level → (n == 0) ≡ false
+    above n level is = grind (arith, common_steps)
+
+-- the records of a block are its own and those below it
+block_ok : (sup : Super) (stored : Stored) (level : ℕ) (e : Expect) (records : List Seen) → block_and (below level sup stored) sup stored e ≡ Ok records
+    → (bytes : List ℕ) × (own : List Seen) × (rest : List Seen) × (block_in stored sup.fsid e ≡ Ok bytes) × (own_records sup e bytes ≡ Ok own)
+    × (below level sup stored e bytes ≡ Ok rest) × (item_keys records ≡ item_keys own ++ item_keys rest)
+block_ok sup stored level e records is =
+    let found = step_ok (block_in stored sup.fsid e) (λ bytes. then_records (own_records sup e bytes) (below level sup stored e bytes)) records is in
+    let split = then_ok (own_records sup e found.0) (below level sup stored e found.0) records found.2 in
+    (found.0, split.0, split.1, found.1, split.2, split.3, ap item_keys split.4 ∙ item_keys-append split.0 split.1)
 
 -- a leaf's
-leaf_lie : (sup : Super) (e : Expect) (bytes : List ℕ) (records : List Located) → e.level ≡ 0 → block_fault bytes sup.fsid e ≡ None → leaf_records sup e (items_of bytes) ≡ Ok records
+leaf_lie : (fsid : List ℕ) (at : At) (e : Expect) (bytes : List ℕ) (records : List Seen) → e.level ≡ 0 → block_fault bytes fsid e ≡ None → leaf_records at (items_of bytes) ≡ Ok records
     → Lie e.low e.high (item_keys records)
-leaf_lie sup e bytes records level kept is =
+unfolding leaf_records
+leaf_lie fsid at e bytes records level kept is =
     let size : entry_size e.level ≡ 25 = ap entry_size level in
-    let keys : Lie e.low e.high (each_from (entry_key bytes (entry_size e.level)) 0 (count_of bytes)) = block_keys bytes sup.fsid e kept in
-    let same : each_from (entry_key bytes (entry_size e.level)) 0 (count_of bytes) ≡ map (λ one. one.key) records =
-    ap (λ s. each_from (entry_key bytes s) 0 (count_of bytes)) size ∙ sym (item_keys_of bytes) ∙ sym (leaf_keys sup e (items_of bytes) records is) in
-    lie_items e.low e.high records (subst (Lie e.low e.high) same keys)
+    let keys : Lie e.low e.high (each_from (entry_key bytes (entry_size e.level)) 0 (count_of bytes)) = block_keys bytes fsid e kept in
+    let same : each_from (entry_key bytes (entry_size e.level)) 0 (count_of bytes) ≡ item_keys records =
+    ap (λ s. each_from (entry_key bytes s) 0 (count_of bytes)) size ∙ sym (item_keys_of bytes) ∙ sym (leaf_keys at (items_of bytes) records is) in
+    subst (Lie e.low e.high) same keys
+
+append_nil : (x : List Key) → x ++ [] ≡ x
+append_nil [] = refl
+append_nil (k ∷ ks) = ap (λ more. k ∷ more) (append_nil ks)
 
 -- what the walk below each pointer of a level gives
-abbrev IsLevel : Super → Reading → ℕ → Type 0
-IsLevel sup read level = (e : Expect) (records : List Located) → e.level ≡ level → block_and (below level sup read) read e ≡ Ok records → Lie e.low e.high (item_keys records)
+abbrev IsLevel : Super → Stored → ℕ → Type 0
+IsLevel sup stored level = (e : Expect) (records : List Seen) → e.level ≡ level → block_and (below level sup stored) sup stored e ≡ Ok records → Lie e.low e.high (item_keys records)
 
-one_less : (n level : ℕ) → n ≡ suc level → n - 1 ≡ level
-one_less n level at = omega arith
-
-children_lie : (sup : Super) (read : Reading) (level : ℕ) (e : Expect) → IsLevel sup read level → e.level ≡ suc level → (first : Pointer) (others : List Pointer) (records : List Located)
+children_lie : (sup : Super) (stored : Stored) (level : ℕ) (e : Expect) → IsLevel sup stored level → (first : Pointer) (others : List Pointer) (records : List Seen)
     → Ascend (map (λ pointer. pointer.key) (first ∷ others)) → AllBelow e.high (map (λ pointer. pointer.key) (first ∷ others))
-    → each (block_and (below level sup read) read) (children_of e (first ∷ others)) ≡ Ok records → Lie (Some first.key) e.high (item_keys records)
-children_lie sup read level e down at first [] records ascend upto is =
-    let split = then_ok (block_and (below level sup read) read (child_of e first e.high)) (Ok []) records is in
-    let own : Lie (Some first.key) e.high (item_keys split.0) = down (child_of e first e.high) split.0 (one_less e.level level at) split.2 in
+    → each (block_and (below level sup stored) sup stored) (children_of level e (first ∷ others)) ≡ Ok records → Lie (Some first.key) e.high (item_keys records)
+children_lie sup stored level e down first [] records ascend upto is =
+    let split = then_ok (block_and (below level sup stored) sup stored (child_of level e first e.high)) (Ok []) records is in
+    let own : Lie (Some first.key) e.high (item_keys split.0) = down (child_of level e first e.high) split.0 refl split.2 in
     let none : split.1 ≡ [] = no_records (Ok []) split.1 refl split.3 in
     let same : item_keys split.0 ≡ item_keys records = sym (append_nil (item_keys split.0)) ∙ sym (item_keys-append split.0 []) ∙ sym (ap (λ b. item_keys (split.0 ++ b)) none) ∙ sym (ap item_keys split.4) in
     subst (Lie (Some first.key) e.high) same own
-  where
-    append_nil : (x : List Key) → x ++ [] ≡ x
-    append_nil [] = refl
-    append_nil (k ∷ ks) = ap (λ more. k ∷ more) (append_nil ks)
-children_lie sup read level e down at first (next ∷ others) records ascend upto is =
-    let split = then_ok (block_and (below level sup read) read (child_of e first (Some next.key))) (each (block_and (below level sup read) read) (children_of e (next ∷ others))) records is in
-    let own : Lie (Some first.key) (Some next.key) (item_keys split.0) = down (child_of e first (Some next.key)) split.0 (one_less e.level level at) split.2 in
-    let rest : Lie (Some next.key) e.high (item_keys split.1) = children_lie sup read level e down at next others split.1 ascend.1 (tail_below e.high first.key (map (λ pointer. pointer.key) (next ∷ others)) upto) split.3 in
+children_lie sup stored level e down first (next ∷ others) records ascend upto is =
+    let split = then_ok (block_and (below level sup stored) sup stored (child_of level e first (Some next.key))) (each (block_and (below level sup stored) sup stored) (children_of level e (next ∷ others))) records is in
+    let own : Lie (Some first.key) (Some next.key) (item_keys split.0) = down (child_of level e first (Some next.key)) split.0 refl split.2 in
+    let rest : Lie (Some next.key) e.high (item_keys split.1) = children_lie sup stored level e down next others split.1 ascend.1 (tail_below e.high first.key (map (λ pointer. pointer.key) (next ∷ others)) upto) split.3 in
     let same : item_keys split.0 ++ item_keys split.1 ≡ item_keys records = sym (item_keys-append split.0 split.1) ∙ sym (ap item_keys split.4) in
     subst (Lie (Some first.key) e.high) same
     (lie_joined first.key next.key e.high (item_keys split.0) (item_keys split.1) ascend.0.0
@@ -149,35 +170,42 @@ children_lie sup read level e down at first (next ∷ others) records ascend upt
     second_below (Some high) key other keys all = (all.1.0, tt)
 
 -- a node's
-node_lie : (sup : Super) (read : Reading) (level : ℕ) (e : Expect) → IsLevel sup read level → e.level ≡ suc level → (pointers : List Pointer) (records : List Located)
+node_lie : (sup : Super) (stored : Stored) (level : ℕ) (e : Expect) → IsLevel sup stored level → (pointers : List Pointer) (records : List Seen)
     → Lie e.low e.high (map (λ pointer. pointer.key) pointers)
-    → each (block_and (below level sup read) read) (children_of e pointers) ≡ Ok records → Lie e.low e.high (item_keys records)
-node_lie sup read level e down at [] records keys is =
+    → each (block_and (below level sup stored) sup stored) (children_of level e pointers) ≡ Ok records → Lie e.low e.high (item_keys records)
+node_lie sup stored level e down [] records keys is =
     let none : records ≡ [] = no_records (Ok []) records refl is in
     subst (λ r. Lie e.low e.high (item_keys r)) (sym none) (lie_none e.low e.high)
-node_lie sup read level e down at (first ∷ others) records keys is =
-    let found : Lie (Some first.key) e.high (item_keys records) = children_lie sup read level e down at first others records keys.ascend keys.upto is in
+node_lie sup stored level e down (first ∷ others) records keys is =
+    let found : Lie (Some first.key) e.high (item_keys records) = children_lie sup stored level e down first others records keys.ascend keys.upto is in
     record { ascend = found.ascend; from = from_first e.low first.key (map (λ pointer. pointer.key) others) (item_keys records) keys.from found.from; upto = found.upto }
 
 node_size : (n level : ℕ) → n ≡ suc level → entry_size n ≡ 33
 node_size n level at = grind (arith, common_steps)
 
 -- of a block on a level
-level_lie : (sup : Super) (read : Reading) → IsSoundReading sup.fsid read → (level : ℕ) → IsLevel sup read level
+level_lie : (sup : Super) (stored : Stored) (level : ℕ) → IsLevel sup stored level
 unfolding below
-level_lie sup read sound zero e records at is =
-    let block = block_ok sup read zero e records is in
-    subst (Lie e.low e.high) (sym block.4) (leaf_lie sup e block.0 block.1 at (sound e block.0 block.2) block.3)
-level_lie sup read sound (suc level) e records at is =
-    let block = block_ok sup read (suc level) e records is in
+level_lie sup stored zero e records at is =
+    let block = block_ok sup stored zero e records is in
+    let own = own_keys sup e block.0 _ block.1 (leaf_has sup e block.0 at) block.4 in
+    let none : block.2 ≡ [] = no_records (Ok []) block.2 refl block.5 in
+    let same : item_keys own.0 ≡ item_keys records = sym own.2 ∙ sym (append_nil (item_keys block.1)) ∙ sym (ap (λ b. item_keys block.1 ++ item_keys b) none) ∙ sym block.6 in
+    subst (Lie e.low e.high) same
+    (leaf_lie sup.fsid (item_place sup e.tree e.address e.generation) e block.0 own.0 at (read_sound stored sup.fsid e block.0 block.3) own.1)
+level_lie sup stored (suc level) e records at is =
+    let block = block_ok sup stored (suc level) e records is in
     let bytes : List ℕ = block.0 in
+    let own = own_keys sup e bytes _ block.1 (node_has sup level e bytes at) block.4 in
+    let pointers : own.0 ≡ pointer_records e (pointers_of bytes) = cc (own.1) in
+    let keyless : item_keys block.1 ≡ [] = own.2 ∙ ap item_keys pointers ∙ pointers_keyless e (pointers_of bytes) in
+    let whole : item_keys block.2 ≡ item_keys records = sym (ap (λ ks. ks ++ item_keys block.2) keyless) ∙ sym block.6 in
     let size : entry_size e.level ≡ 33 = node_size e.level level at in
-    let keys : Lie e.low e.high (each_from (entry_key bytes (entry_size e.level)) 0 (count_of bytes)) = block_keys bytes sup.fsid e (sound e bytes block.2) in
+    let keys : Lie e.low e.high (each_from (entry_key bytes (entry_size e.level)) 0 (count_of bytes)) = block_keys bytes sup.fsid e (read_sound stored sup.fsid e bytes block.3) in
     let same : each_from (entry_key bytes (entry_size e.level)) 0 (count_of bytes) ≡ map (λ pointer. pointer.key) (pointers_of bytes) =
     ap (λ s. each_from (entry_key bytes s) 0 (count_of bytes)) size ∙ sym (pointer_keys_of bytes) in
-    subst (Lie e.low e.high) (sym block.4) (node_lie sup read level e (level_lie sup read sound level) at (pointers_of bytes) block.1 (subst (Lie e.low e.high) same keys) block.3)
+    subst (Lie e.low e.high) whole (node_lie sup stored level e (level_lie sup stored level) (pointers_of bytes) block.2 (subst (Lie e.low e.high) same keys) block.5)
 
--- the keys of the items that a walk of an image gives ascend
+-- the keys of the items that a walk gives ascend
 pub walk_ascends : WalksAscend
-walk_ascends sup chunks image e records is =
-    (level_lie sup (block_reading chunks sup image) (image_sound chunks sup image) e.level e records refl is).ascend
+walk_ascends sup stored e records is = (level_lie sup stored e.level e records refl is).ascend

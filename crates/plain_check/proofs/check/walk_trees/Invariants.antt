@@ -1,6 +1,6 @@
 use Rattle.std.proofs.Common.{drop}
 use Rattle.records.specs.Contents.{tree_records}
-use Rattle.plain_check.proofs.Walking.{SoFar}
+use Rattle.block_source.proofs.Walking.{SoFar}
 use Rattle.plain_check.proofs.check.walk_trees.Given as goal
 
 -- what is left of the trees gives what all of them give

@@ -1,5 +1,5 @@
 use Rattle.std.proofs.Common.{arith}
-use Rattle.plain_check.proofs.Copies.{superblock_short, superblock_long}
+use Rattle.plain_check.proofs.SuperLaws.{superblock_short, superblock_long}
 use Rattle.plain_check.proofs.primary.read_superblock.Goals as goal
 
 pub returns-then-end-clause-gives : goal.returns-then-end-clause-gives

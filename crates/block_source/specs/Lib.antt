@@ -1,0 +1,4 @@
+pub mod Gives
+pub mod Takes
+pub mod Counts
+pub mod Private

@@ -1,0 +1,12 @@
+//! The tree blocks of a disk with writes that wait over its bytes: reading a block where a walk expects it, and walking a
+//! tree.
+#![tactic(auto)]
+
+mod halt;
+mod own;
+mod read;
+mod walk;
+
+pub use halt::{Fault, Halt, told};
+pub use read::{BlockSource, read_block, read_under};
+pub use walk::{walk_into, walk_tree};
