@@ -5,12 +5,12 @@ mod why;
 
 use recon_cli::recon_run;
 use recon_disk::Steps;
-use recon_host::{FileDisk, HeldStreams, StdSink, StdSource};
+use recon_host::{FileDisk, HeldStreams, Sharing, StdSink, StdSource};
 use std::env;
 use std::io::{self, ErrorKind};
 use std::process::ExitCode;
 use std::rt::Env;
-use why::Why;
+use why::{Opened, Why};
 
 // The words behind the program's name.
 fn words<R: Env + AllocGlobal>(rt: &R) -> io::Result<Vec<String>> {
@@ -28,6 +28,14 @@ fn stop(rt: &impl Eprint, why: Why) -> u8 {
     why.status()
 }
 
+// How IMAGE is shared while these words run: what writes to it has it alone.
+fn sharing(words: &[String]) -> Sharing {
+    match words.first() {
+        Some(word) if word.as_str() == "replay" || word.as_str() == "make" => Sharing::Exclusive,
+        _ => Sharing::Shared,
+    }
+}
+
 // Does what the words ask for, over the last of them as IMAGE and the standard streams, and answers the
 // status.
 fn run(rt: &HostRuntime, words: &[String]) -> u8 {
@@ -35,7 +43,7 @@ fn run(rt: &HostRuntime, words: &[String]) -> u8 {
         Some(word) => word.as_str(),
         None => "",
     };
-    let mut disk = FileDisk::at_path(rt, image);
+    let mut disk = FileDisk::at_path(rt, image, sharing(words));
     let mut trace = StdSource::new(rt.stdin());
     let mut out = StdSink::new(rt.stdout());
     let status = recon_run(
@@ -46,7 +54,14 @@ fn run(rt: &HostRuntime, words: &[String]) -> u8 {
         &mut out,
         &mut Steps::new(()),
     );
-    if let Some(why) = Why::of(status, words, image, disk.is_open()) {
+    let opened = if disk.is_open() {
+        Opened::Yes
+    } else if disk.is_in_use() {
+        Opened::InUse
+    } else {
+        Opened::No
+    };
+    if let Some(why) = Why::of(status, words, image, opened) {
         stop(rt, why);
     }
     status

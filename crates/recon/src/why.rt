@@ -11,6 +11,17 @@ const HELP: &str = "checks a Btrfs volume, and each commit to it before it is le
       to TRACE the writes of 1 to 200 commits on it, which are drawn from the number SEED
 IMAGE has to be readable and writable, and must not be mounted.";
 
+/// Whether a device was opened.
+#[derive(Clone, Copy)]
+pub enum Opened {
+    /// It was.
+    Yes,
+    /// It was not, since another program holds it.
+    InUse,
+    /// It was not.
+    No,
+}
+
 /// Why a run ended before its outcome.
 #[derive(Clone, Copy)]
 pub enum Why<'a> {
@@ -18,8 +29,10 @@ pub enum Why<'a> {
     Help,
     /// The words are none of the forms.
     NoForm,
-    /// This device could not be opened for reading and writing.
+    /// This device could not be opened for reading and writing, or not be locked.
     Unopened(&'a str),
+    /// Another program holds this device.
+    InUse(&'a str),
     /// A call of this device failed.
     Device(&'a str),
     /// A read of the trace failed.
@@ -38,13 +51,16 @@ pub enum Why<'a> {
 
 impl<'a> Why<'a> {
     /// Why a run of these words ended with a status, where its lines do not say it: the last word is
-    /// `image`, which was `opened` or not.
-    pub fn of(status: u8, words: &[String], image: &'a str, opened: bool) -> Option<Why<'a>> {
+    /// `image`, which was opened or not.
+    pub fn of(status: u8, words: &[String], image: &'a str, opened: Opened) -> Option<Why<'a>> {
         match status {
             2 if asks_help(words) => Some(Why::Help),
             2 => Some(Why::NoForm),
-            4 if opened => Some(Why::Device(image)),
-            4 => Some(Why::Unopened(image)),
+            4 => Some(match opened {
+                Opened::Yes => Why::Device(image),
+                Opened::InUse => Why::InUse(image),
+                Opened::No => Why::Unopened(image),
+            }),
             5 => Some(Why::Trace),
             6 => Some(Why::Lines),
             7 => Some(Why::Memory),
@@ -57,7 +73,7 @@ impl<'a> Why<'a> {
     pub fn status(&self) -> u8 {
         match self {
             Why::Help | Why::NoForm => 2,
-            Why::Unopened(_) | Why::Device(_) => 4,
+            Why::Unopened(_) | Why::InUse(_) | Why::Device(_) => 4,
             Why::Trace => 5,
             Why::Lines => 6,
             Why::Memory => 7,
@@ -83,6 +99,7 @@ impl fmt::Display for Why<'_> {
                     "the device {image:?} could not be opened for reading and writing"
                 )
             }
+            Why::InUse(image) => { write!(f, "the device {image:?} is in use by another program") }
             Why::Device(image) => write!(f, "a call of the device {image:?} failed"),
             Why::Trace => write!(f, "a read of the trace from standard input failed"),
             Why::Lines => write!(f, "a write to standard output failed"),

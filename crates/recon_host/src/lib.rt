@@ -4,11 +4,13 @@
 #![tactic(auto)]
 
 mod file_disk;
+mod lock;
 mod std_sink;
 mod std_source;
 mod streams;
 
 pub use file_disk::FileDisk;
+pub use lock::{LockFile, Sharing};
 pub use std_sink::StdSink;
 pub use std_source::StdSource;
 pub use streams::HeldStreams;
