@@ -11,10 +11,10 @@ is found before its superblock. Trim is not offered, and zeros come as writes.
 
 After a rejection each later write and flush fails until the bridge is started anew: else what follows, as the copy of
 its superblock at 64 MiB, would pass with the next settle. Reads go on. The client sees an I/O error; the finding is on
-standard error (without -f or --run, in the system's log). An image that is refused ends the bridge before it serves.
+standard error (without -f or --run, in the system's log). An image that is refused, or that another `recon` has open,
+ends the bridge before it serves: `recon` keeps it locked.
 """
 import binascii
-import fcntl
 import os
 import struct
 import sys
@@ -35,10 +35,6 @@ class Bridge:
     def __init__(self, recon, image, most):
         self.waits, self.most, self.judged, self.stopped, self.ended = 0, most, 0, None, False
         self.image = os.open(image, os.O_RDONLY)
-        try:
-            fcntl.flock(self.image, fcntl.LOCK_EX | fcntl.LOCK_NB)
-        except BlockingIOError:
-            raise OSError(f'{image} is served by another bridge') from None
         # In its own session: an interrupt ends nbdkit, which ends the trace. What is freed is kept for what waits next.
         kept = dict(os.environ, MALLOC_MMAP_MAX_='0', MALLOC_TRIM_THRESHOLD_=str(1 << 30))
         self.child = Popen([recon, 'replay', image], MOST_FETCH, None, PIPE, PIPE, pipesize=MOST_WRITE,

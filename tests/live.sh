@@ -110,7 +110,7 @@ serve 1 'size= is no parameter' true "$image" "$ours" size=1
 serve 1 'could not parse size string (much)' true "$image" "$ours" waiting=much
 serve 1 'image refused S2 ' true image="$folder/trace" "$ours"
 serve 1 'recon ended without a line' true "$image" recon=true
-serve 1 'is served by another bridge' "$bridge $image $ours --run true" "$image" "$ours"
+serve 1 'is in use by another program' "$bridge $image $ours --run true" "$image" "$ours"
 
 # A program whose lines end early, or are others.
 stand_in 'image accepted generation 1'

@@ -5,12 +5,12 @@ mod why;
 
 use recon_cli::recon_run;
 use recon_disk::Steps;
-use recon_host::{FileDisk, HeldStreams, StdSink, StdSource};
+use recon_host::{FileDisk, HeldStreams, Sharing, StdSink, StdSource};
 use std::env;
 use std::io::{self, ErrorKind};
 use std::process::ExitCode;
 use std::rt::Env;
-use why::Why;
+use why::{Opened, Why};
 
 // The arguments behind the program's name.
 fn arguments<R: Env + AllocGlobal>(rt: &R) -> io::Result<Vec<String>> {
@@ -28,6 +28,14 @@ fn stop(rt: &impl Eprint, why: Why) -> u8 {
     why.status()
 }
 
+// How IMAGE is shared while this command line is carried out: what writes to it has it alone.
+fn sharing(arguments: &[String]) -> Sharing {
+    match arguments.first() {
+        Some(command) if command.as_str() == "replay" || command.as_str() == "make" => Sharing::Exclusive,
+        _ => Sharing::Shared,
+    }
+}
+
 // Does what the command line asks for, over its last argument as IMAGE and the standard streams, and answers the
 // status.
 fn run(rt: &HostRuntime, arguments: &[String]) -> u8 {
@@ -35,7 +43,7 @@ fn run(rt: &HostRuntime, arguments: &[String]) -> u8 {
         Some(argument) => argument.as_str(),
         None => "",
     };
-    let mut disk = FileDisk::at_path(rt, image);
+    let mut disk = FileDisk::at_path(rt, image, sharing(arguments));
     let mut trace = StdSource::new(rt.stdin());
     let mut out = StdSink::new(rt.stdout());
     let status = recon_run(
@@ -46,7 +54,14 @@ fn run(rt: &HostRuntime, arguments: &[String]) -> u8 {
         &mut out,
         &mut Steps::new(()),
     );
-    if let Some(why) = Why::of(status, arguments, image, disk.is_open()) {
+    let opened = if disk.is_open() {
+        Opened::Yes
+    } else if disk.is_in_use() {
+        Opened::InUse
+    } else {
+        Opened::No
+    };
+    if let Some(why) = Why::of(status, arguments, image, opened) {
         stop(rt, why);
     }
     status

@@ -16,6 +16,17 @@ status: 0 accepted, or all passed; 1 refused, or something was rejected; 2 comma
   4 device; 5 trace input; 6 output; 7 out of memory; 8 IMAGE too short for make; 9 system
 findings: docs/findings.md";
 
+/// Whether a device was opened.
+#[derive(Clone, Copy)]
+pub enum Opened {
+    /// It was.
+    Yes,
+    /// It was not, since another program holds it.
+    InUse,
+    /// It was not.
+    No,
+}
+
 /// Why a run ended before its outcome.
 #[derive(Clone, Copy)]
 pub enum Why<'a> {
@@ -23,8 +34,10 @@ pub enum Why<'a> {
     Help,
     /// The command line is none of the commands.
     NoCommand,
-    /// This device could not be opened for reading and writing.
+    /// This device could not be opened for reading and writing, or not be locked.
     Unopened(&'a str),
+    /// Another program holds this device.
+    InUse(&'a str),
     /// A call of this device failed.
     Device(&'a str),
     /// A read of the trace failed.
@@ -43,13 +56,16 @@ pub enum Why<'a> {
 
 impl<'a> Why<'a> {
     /// Why a run of these arguments ended with a status, where its lines do not say it: the last argument is
-    /// `image`, which was `opened` or not.
-    pub fn of(status: u8, arguments: &[String], image: &'a str, opened: bool) -> Option<Why<'a>> {
+    /// `image`, which was opened or not.
+    pub fn of(status: u8, arguments: &[String], image: &'a str, opened: Opened) -> Option<Why<'a>> {
         match status {
             2 if asks_help(arguments) => Some(Why::Help),
             2 => Some(Why::NoCommand),
-            4 if opened => Some(Why::Device(image)),
-            4 => Some(Why::Unopened(image)),
+            4 => Some(match opened {
+                Opened::Yes => Why::Device(image),
+                Opened::InUse => Why::InUse(image),
+                Opened::No => Why::Unopened(image),
+            }),
             5 => Some(Why::Trace),
             6 => Some(Why::Lines),
             7 => Some(Why::Memory),
@@ -62,7 +78,7 @@ impl<'a> Why<'a> {
     pub fn status(&self) -> u8 {
         match self {
             Why::Help | Why::NoCommand => 2,
-            Why::Unopened(_) | Why::Device(_) => 4,
+            Why::Unopened(_) | Why::InUse(_) | Why::Device(_) => 4,
             Why::Trace => 5,
             Why::Lines => 6,
             Why::Memory => 7,
@@ -88,6 +104,7 @@ impl fmt::Display for Why<'_> {
                     "the device {image:?} could not be opened for reading and writing"
                 )
             }
+            Why::InUse(image) => { write!(f, "the device {image:?} is in use by another program") }
             Why::Device(image) => write!(f, "a call of the device {image:?} failed"),
             Why::Trace => write!(f, "a read of the trace from standard input failed"),
             Why::Lines => write!(f, "a write to standard output failed"),

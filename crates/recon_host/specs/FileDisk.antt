@@ -2,9 +2,13 @@
 use Rattle.std.specs.Prelude.{ℕ, Bool, is_some}
 use Rattle.recon_host.specs.declared.file_disk.FileDisk.{FileDisk}
 
--- the file was opened for reading and writing, and its length learned
+-- the file was opened for reading and writing and locked, and its length learned
 abbrev pub is_opened : {F : Type 0} → FileDisk F → Bool
 is_opened disk = is_some disk.file
+
+-- another program holds the file
+abbrev pub is_held : {F : Type 0} → FileDisk F → Bool
+is_held disk = disk.in_use
 
 -- the length in bytes that was learned, 0 where none was
 abbrev pub size_of : {F : Type 0} → FileDisk F → ℕ

@@ -1,49 +1,64 @@
 //! A file as a disk.
 
-ghost use Rattle.std.specs.Prelude.{◌≡◌, IsErr, None};
+ghost use Rattle.std.specs.Prelude.{◌≡◌, IsErr, IsTrue, None, false};
 ghost use Rattle.recon_disk.specs.Outside.{HasCause};
 
+use crate::lock::{LockFile, Sharing};
 use recon_disk::{Disk, Failed};
-use std::fs::{OpenFile, OpenOptions};
+use std::fs::{OpenFile, OpenOptions, TryLockError};
 use std::io::{Read, Seek, SeekFrom, Write};
 use std::rt::Files;
 
 /// A file or a block device as a disk. It tells no bytes, and not what was sent to it. Where the file
-/// could not be opened for reading and writing, or its length could not be learned then, each call fails.
+/// could not be opened for reading and writing or not be locked, or its length could not be learned then, each
+/// call fails. The lock is held until the disk is dropped.
 #[derive(Drop)]
-pub struct FileDisk<F: Read + Write + Seek + OpenFile + Drop> {
+pub struct FileDisk<F: Read + Write + Seek + OpenFile + LockFile + Drop> {
     file: Option<F>,
+    // Whether another program holds the file.
+    in_use: bool,
     size: u64,
     reads: u64,
     faults: u64,
 }
 
-impl<F: Read + Write + Seek + OpenFile + Drop> FileDisk<F> {
-    ghost use Rattle.recon_host.specs.FileDisk.{is_opened, size_of, reads_of, faults_of};
+impl<F: Read + Write + Seek + OpenFile + LockFile + Drop> FileDisk<F> {
+    ghost use Rattle.recon_host.specs.FileDisk.{is_opened, is_held, size_of, reads_of, faults_of};
 
-    /// The disk that is the file at a path. Its length is the one learned here, in bytes.
-    pub fn at_path<R: Files<File = F>>(rt: &R, path: &str) -> FileDisk<F>
+    /// The disk that is the file at a path, locked against programs that may not share it. Its length is the one
+    /// learned here, in bytes.
+    pub fn at_path<R: Files<File = F>>(rt: &R, path: &str, sharing: Sharing) -> FileDisk<F>
         ensures untold { ⟦<FileDisk<F> as Disk>⟧.bytes result ≡ None }
         ensures reads { ⟦<FileDisk<F> as Disk>⟧.reads result ≡ 0 }
         ensures faults { ⟦<FileDisk<F> as Disk>⟧.faults result ≡ 0 }
+        ensures held { IsTrue (is_held result) → is_opened result ≡ false }
     {
-        let (file, size) = match opened(rt, path) {
-            Some((file, size)) => (Some(file), size),
-            None => (None, 0),
+        let (file, in_use, size) = match opened(rt, path, sharing) {
+            Opening::Opened(file, size) => (Some(file), false, size),
+            Opening::InUse => (None, true, 0),
+            Opening::Failed => (None, false, 0),
         };
         FileDisk {
             file,
+            in_use,
             size,
             reads: 0,
             faults: 0,
         }
     }
 
-    /// Whether the file was opened for reading and writing, and its length learned.
+    /// Whether the file was opened for reading and writing and locked, and its length learned.
     pub fn is_open(&self) -> bool
         ensures { result ≡ is_opened self.now }
     {
         self.file.is_some()
+    }
+
+    /// Whether the file was not locked since another program holds it.
+    pub fn is_in_use(&self) -> bool
+        ensures { result ≡ is_held self.now }
+    {
+        self.in_use
     }
 
     // Counts a failed call, and gives its answer.
@@ -59,16 +74,30 @@ impl<F: Read + Write + Seek + OpenFile + Drop> FileDisk<F> {
     }
 }
 
-// The file, opened for reading and writing, with its length: where the end lies, since a block
+// What came of opening a file: the file with its length in bytes, or not.
+enum Opening<F> {
+    Opened(F, u64),
+    InUse,
+    Failed,
+}
+
+// The file, opened for reading and writing and locked, with its length: where the end lies, since a block
 // device has no length of its own.
-fn opened<R: Files>(rt: &R, path: &str) -> Option<(R::File, u64)> {
-    let mut file = match OpenOptions::new().read(true).write(true).open(rt, path) {
-        Ok(file) => file,
-        Err(_) => return None,
+fn opened<R: Files>(rt: &R, path: &str, sharing: Sharing) -> Opening<R::File>
+where
+    R::File: LockFile,
+{
+    let Ok(mut file) = OpenOptions::new().read(true).write(true).open(rt, path) else {
+        return Opening::Failed;
     };
+    match file.lock_as(sharing) {
+        Ok(()) => {}
+        Err(TryLockError::WouldBlock) => return Opening::InUse,
+        Err(TryLockError::Error(_)) => return Opening::Failed,
+    }
     match file.seek(SeekFrom::End(0)) {
-        Ok(size) => Some((file, size)),
-        Err(_) => None,
+        Ok(size) => Opening::Opened(file, size),
+        Err(_) => Opening::Failed,
     }
 }
 
@@ -102,7 +131,7 @@ fn write_at<F: Write + Seek>(file: &mut F, at: u64, from: &[u8]) -> bool {
     true
 }
 
-impl<F: Read + Write + Seek + OpenFile + Drop> Disk for FileDisk<F> {
+impl<F: Read + Write + Seek + OpenFile + LockFile + Drop> Disk for FileDisk<F> {
     ghost use Rattle.std.specs.Prelude.{false, not, is_err, None, IfOk};
     ghost use Rattle.recon_disk.specs.Outside.{counted};
     ghost use Rattle.recon_host.specs.FileDisk.{is_opened, size_of, reads_of, faults_of};
@@ -196,7 +225,7 @@ mod tests {
             dir.as_path().to_str().unwrap_or(".")
         )?;
         fs::write(&rt, path.as_str(), [7u8; 16].as_slice())?;
-        let mut disk = FileDisk::at_path(&rt, path.as_str());
+        let mut disk = FileDisk::at_path(&rt, path.as_str(), Sharing::Shared);
         assert!(rt; disk.is_open());
         assert_eq!(rt; disk.length().ok(), Some(16));
         let mut bytes = [0u8; 4];
@@ -205,12 +234,37 @@ mod tests {
         assert!(rt; disk.read(5, &mut bytes).is_ok());
         assert_eq!(rt; bytes.as_slice(), [7u8, 1, 2, 7].as_slice());
         fs::remove_file(&rt, path.as_str())?;
-        let mut none = FileDisk::at_path(&rt, path.as_str());
-        assert!(rt; !none.is_open());
+        let mut none = FileDisk::at_path(&rt, path.as_str(), Sharing::Shared);
+        assert!(rt; !none.is_open() && !none.is_in_use());
         assert!(rt; none.length().is_err());
         assert!(rt; none.read(5, &mut bytes).is_err());
         assert!(rt; none.write(6, &[1, 2]).is_err());
         assert!(rt; none.flush().is_err());
+        Ok(())
+    }
+
+    #[test]
+    fn a_file_is_shared_by_readers_alone(rt: HostRuntime) -> Result<(), Fail> {
+        let dir = std::env::temp_dir(&rt)?;
+        let path = format!(in rt.alloc();
+            "{}/recon_file_lock_test",
+            dir.as_path().to_str().unwrap_or(".")
+        )?;
+        fs::write(&rt, path.as_str(), [7u8; 16].as_slice())?;
+        for (first, second, refused) in [
+            (Sharing::Shared, Sharing::Shared, false),
+            (Sharing::Shared, Sharing::Exclusive, true),
+            (Sharing::Exclusive, Sharing::Shared, true),
+            (Sharing::Exclusive, Sharing::Exclusive, true),
+        ] {
+            let disk = FileDisk::at_path(&rt, path.as_str(), first);
+            assert!(rt; disk.is_open());
+            let mut other = FileDisk::at_path(&rt, path.as_str(), second);
+            assert_eq!(rt; other.is_in_use(), refused);
+            assert_eq!(rt; other.is_open(), !refused);
+            assert_eq!(rt; other.length().is_err(), refused);
+        }
+        fs::remove_file(&rt, path.as_str())?;
         Ok(())
     }
 }

@@ -1,11 +1,14 @@
 //! A writer as a sink.
 
-ghost use Rattle.std.specs.Prelude.{◌≡◌, None};
+ghost use Rattle.std.specs.Prelude.{◌≡◌, None, IsTrue, OnOk};
+ghost use Rattle.std.specs.Io.KnownBytes.{Appends};
+ghost use Rattle.recon_disk.specs.Outside.{HasCause};
 
 use recon_disk::{Failed, Sink};
 use std::io::Write;
 
-/// A writer, as standard output, as a sink. It tells no bytes. What is written is handed on at once.
+/// A writer, as standard output, as a sink. It tells no bytes of its own: each call hands the writer exactly its
+/// bytes, where the writer tells what it holds. What is written is handed on at once.
 #[derive(Drop)]
 pub struct StdSink<W: Write + Drop> {
     writer: W,
@@ -23,7 +26,10 @@ impl<W: Write + Drop> StdSink<W> {
 }
 
 // Writes all the bytes and hands them on, and says whether it did.
-fn write_whole<W: Write>(writer: &mut W, from: &[u8]) -> bool {
+fn write_whole<W: Write>(writer: &mut W, from: &[u8]) -> bool
+    ensures { IsTrue result
+        → Appends (W.contents writer.old) (W.contents writer.new) from.now }
+{
     let mut done = 0;
     while done < from.len() {
         match writer.write(&from[done..]) {
@@ -35,7 +41,9 @@ fn write_whole<W: Write>(writer: &mut W, from: &[u8]) -> bool {
 }
 
 impl<W: Write + Drop> Sink for StdSink<W> {
-    ghost use Rattle.std.specs.Prelude.{None};
+    ghost use Rattle.std.specs.Prelude.{None, OnOk};
+    ghost use Rattle.std.specs.Io.KnownBytes.{Appends};
+    ghost use Rattle.recon_disk.specs.Outside.{HasCause};
 
     ghost kept = { λ s. None };
 
@@ -43,7 +51,11 @@ impl<W: Write + Drop> Sink for StdSink<W> {
 
     ghost faults = { λ s. s.faults };
 
-    fn write(&mut self, from: &[u8]) -> Result<(), Failed> {
+    fn write(&mut self, from: &[u8]) -> Result<(), Failed>
+        ensures handed { OnOk result
+            (Appends (W.contents self.old.writer) (W.contents self.new.writer) from.now) }
+        ensures cause { HasCause self.old.faults self.new.faults result }
+    {
         if write_whole(&mut self.writer, from) {
             return Ok(());
         }

@@ -5,7 +5,8 @@ ghost use Rattle.std.specs.Prelude.{◌≡◌, None};
 use recon_disk::{Failed, Source};
 use std::io::Read;
 
-/// A reader, as standard input, as a source. It tells no bytes.
+/// A reader, as standard input, as a source. It tells no bytes of its own: each call gives exactly the bytes that it
+/// took from the reader, where the reader tells what it has left.
 #[derive(Drop)]
 pub struct StdSource<R: Read + Drop> {
     reader: R,
@@ -28,7 +29,9 @@ impl<R: Read + Drop> StdSource<R> {
 }
 
 impl<R: Read + Drop> Source for StdSource<R> {
-    ghost use Rattle.std.specs.Prelude.{None};
+    ghost use Rattle.std.specs.Prelude.{None, IfOk, ℕ, ◌≤◌, length, take, true};
+    ghost use Rattle.std.specs.Io.KnownBytes.{Consumes};
+    ghost use Rattle.recon_disk.specs.Outside.{HasCause};
 
     ghost left = { λ s. None };
 
@@ -36,7 +39,15 @@ impl<R: Read + Drop> Source for StdSource<R> {
 
     ghost faults = { λ s. s.faults };
 
-    fn read(&mut self, into: &mut [u8]) -> Result<usize, Failed> {
+    fn read(&mut self, into: &mut [u8]) -> Result<usize, Failed>
+        ensures count { IfOk result (λ n. n ≤ length into.old) }
+        ensures taken { IfOk result (λ n. Consumes (R.remaining self.old.reader)
+            (R.remaining self.new.reader) (take n into.new)) }
+        ensures end { IfOk result (λ n. n ≡ 0 → self.new.ended ≡ true) }
+        ensures stays { self.old.ended ≡ true → IfOk result (λ n. n ≡ 0) }
+        ensures goes_on { self.old.ended ≡ true → self.new.ended ≡ true }
+        ensures cause { HasCause self.old.faults self.new.faults result }
+    {
         if self.ended {
             return Ok(0);
         }
