@@ -127,5 +127,5 @@ class Device:
             fail(row, f'{" ".join(words)} ended with {got[0]} and {got[1]!r}, not {status} and {lines!r}')
 
     def must_hold(self, row, data):
-        if self.bytes() != bytes(data):
+        if self.bytes() != data:
             fail(row, 'the device holds other bytes')
