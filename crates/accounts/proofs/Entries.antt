@@ -12,7 +12,7 @@ use Rattle.accounts.specs.Order.{account_cmp}
 use Rattle.accounts.specs.Sums.{added, total_of, sum_in, is_same}
 use Rattle.accounts.specs.Tally.{balances, difference_if, kept, kept_sums, no_sums, sums_at, with_amount, with_postings}
 use Rattle.accounts.proofs.Same.{same_account}
-use Rattle.accounts.proofs.Kept.{kept_more, kept_nothing}
+use Rattle.accounts.proofs.Kept.{balanced_kept, kept_more, kept_nothing}
 
 plus_none : (n : ℕ) → n + 0 ≡ n
 plus_none n = omega arith
@@ -116,8 +116,8 @@ equal_case x y false false same = refl
 
 -- where the difference decides, equal sums are as none
 pub equal_kept : (kind : ℕ) (f : ℕ → ℕ) → balances kind ≡ true → f 0 ≡ f 1 → kept kind f ≡ kept kind (λ _. 0)
-unfolding kept
-equal_kept kind f balanced same = ap (λ b. difference_if b f) balanced ∙ fun_ext (λ n. equal_case (f 0) (f 1) (n == 0) (n == 1) same) ∙ ap (λ b. difference_if b (λ _. 0)) (sym balanced)
+equal_kept kind f balanced same =
+    balanced_kept kind f balanced ∙ fun_ext (λ n. equal_case (f 0) (f 1) (n == 0) (n == 1) same) ∙ sym (balanced_kept kind (λ _. 0) balanced)
 
 -- the sums of the posting's account once it is added
 new_sums : (entry : Account → Option Totals) (p : Posting) (field : ℕ) (old new : Totals) → field ≡ p.field
