@@ -1,6 +1,6 @@
 -- What a tally keeps, by its entries.
 use Rattle.std.proofs.Common.{◌≡◌, ℕ, ◌+◌, ◌-◌, ◌<◌, ◌==◌, ◌&&◌, Bool, true, false, cond, [], ◌∷◌, refl, ap, sym, ◌∙◌, arith, subst}
-use Rattle.std.specs.Prelude.{Option, Some, None, nat_lt}
+use Rattle.std.specs.Prelude.{Option, Some, None, is_some, nat_lt}
 use Rattle.std.specs.BTreeMap.{BTreeMap, get, is_at, IsEmpty}
 use Rattle.std.specs.Map.{lookup}
 use Rattle.std.proofs.Math.Path.{fun_ext}
@@ -153,3 +153,12 @@ added_removed entry after p field old new same small was is balanced equal updat
 pub none_kept : (entry : Account → Option Totals) → with_postings (kept_sums entry) [] ≡ kept_sums entry
 unfolding kept_sums with_postings total_of
 none_kept entry = fun_ext (λ account. kept_more account.kind (sums_at (entry account)) (λ _. 0) ∙ ap (kept account.kind) (fun_ext (λ n. plus_none (sums_at (entry account) n))))
+
+-- nothing is kept of an account without an entry
+none_case : (account : Account) (o : Option Totals) → is_some o ≡ false → kept account.kind (sums_at o) ≡ (λ _. 0)
+none_case account None is = kept_nothing account.kind
+none_case account (Some totals) is = absurd (cc is)
+
+pub none_at : (entry : Account → Option Totals) (account : Account) → is_some (entry account) ≡ false → kept_sums entry account ≡ no_sums account
+unfolding kept_sums
+none_at entry account is = none_case account (entry account) is

@@ -18,7 +18,7 @@ use Rattle.accounts.specs.declared.postings.Posting.{Posting}
 use Rattle.accounts.specs.Order.{account_cmp}
 use Rattle.accounts.specs.OrderLaws.{account_total, account_equiv}
 use Rattle.accounts.specs.Sums.{added, is_same, sum_in, total_of}
-use Rattle.accounts.specs.Tally.{balances, difference, inode_class, kept, kept_as, kept_sums, no_sums, sums_at, type_class, with_postings}
+use Rattle.accounts.specs.Tally.{Sums, balances, difference, inode_class, kept, kept_as, kept_sums, no_sums, sums_at, type_class, with_postings}
 use Rattle.accounts.specs.Broken.{Line, gives, inode_keeps, is_broken, line_of, lines}
 use Rattle.accounts.specs.Least.{IsLeastBroken, LeastBrokenIsOne, is_broken_by, least_broken, least_posted, lesser}
 use Rattle.accounts.proofs.Same.{account_ties, is_Equal, same_account}
@@ -376,19 +376,24 @@ least_broken_is_one ps = (least_is_least ps, λ other is. one_least (is_broken_b
 zero_plus : (n : ℕ) → 0 + n ≡ n
 zero_plus n = omega arith
 
-same_broken : (es : List (Account × Totals)) (ps : List Posting) → kept_sums (λ a. lookup (is_at (account_cmp a)) es) ≡ with_postings no_sums ps → broken_at es ≡ is_broken_by ps
-unfolding kept_sums with_postings
-same_broken es ps is = fun_ext (λ a.
-    sym (broken_kept a (sums_at (lookup (is_at (account_cmp a)) es)))
-    ∙ ap (λ s. is_broken a (s a)) is
+kept_broken : (m : BTreeMap Account Totals) → broken_at m.entries ≡ (λ a. is_broken a (kept_sums (get account_cmp m) a))
+unfolding kept_sums
+kept_broken m = fun_ext (λ a. sym (broken_kept a (sums_at (lookup (is_at (account_cmp a)) m.entries))))
+
+pub first_is_least : (m : BTreeMap Account Totals) → IsOrdered account_cmp m → IsLeastBroken (λ a. is_broken a (kept_sums (get account_cmp m) a)) (first_broken m.entries)
+first_is_least m ordered = subst (λ b. IsLeastBroken b (first_broken m.entries)) (kept_broken m) (entries_least m.entries ordered)
+
+-- what postings come to is broken where they are
+posted_broken : (sums : Sums) (ps : List Posting) → sums ≡ with_postings no_sums ps → (λ a. is_broken a (sums a)) ≡ is_broken_by ps
+unfolding with_postings
+posted_broken sums ps is = fun_ext (λ a.
+    ap (λ s. is_broken a (s a)) is
     ∙ ap (λ f. is_broken a (kept a.kind f)) (fun_ext (λ n. zero_plus (total_of ps a n)))
     ∙ broken_kept a (total_of ps a))
 
-pub tally_least : (m : BTreeMap Account Totals) → IsOrdered account_cmp m → (ps : List Posting) → kept_sums (get account_cmp m) ≡ with_postings no_sums ps → first_broken m.entries ≡ least_broken ps
-tally_least m ordered ps is =
-    one_least (is_broken_by ps) (first_broken m.entries) (least_broken ps)
-    (subst (λ b. IsLeastBroken b (first_broken m.entries)) (same_broken m.entries ps is) (entries_least m.entries ordered))
-    (least_is_least ps)
+pub least_by_sums : (sums : Sums) (least : Option Account) (ps : List Posting) → IsLeastBroken (λ a. is_broken a (sums a)) least → sums ≡ with_postings no_sums ps → least ≡ least_broken ps
+least_by_sums sums least ps is posted =
+    one_least (is_broken_by ps) least (least_broken ps) (subst (λ b. IsLeastBroken b least) (posted_broken sums ps posted) is) (least_is_least ps)
 
 -- the first of some entries, by the first entry
 pub first_here : (e : Account × Totals) (es : List (Account × Totals)) → is_broken e.0 (sum_in e.1) ≡ true → first_broken (e ∷ es) ≡ Some e.0
