@@ -115,9 +115,10 @@ pub at_type : (tree ino : ℕ) (more : Gathered) (a : Account) → is_same (inod
     → (total_of (gathered_postings tree ino more) a 0 ≡ cond (is_same (inode_type tree ino more.sort) a) more.entries 0)
     × (total_of (gathered_postings tree ino more) a 1 ≡ cond (is_same (inode_type tree ino more.sort) a) more.typed 0)
 at_type tree ino more a other =
-    let b : Bool = is_same (inode_type tree ino more.sort) a in
-    (amounts_of tree ino more a 0 ∙ ap (λ s. amounts s b (slice_index more.f) more.entries more.typed 0) other ∙ entries_at b (slice_index more.f) more.entries more.typed,
-    amounts_of tree ino more a 1 ∙ ap (λ s. amounts s b (slice_index more.f) more.entries more.typed 1) other ∙ typed_at b (slice_index more.f) more.entries more.typed)
+    let b : Bool = is_same (inode_type tree ino more.sort) a in (
+      amounts_of tree ino more a 0 ∙ ap (λ s. amounts s b (slice_index more.f) more.entries more.typed 0) other ∙ entries_at b (slice_index more.f) more.entries more.typed,
+      amounts_of tree ino more a 1 ∙ ap (λ s. amounts s b (slice_index more.f) more.entries more.typed 1) other ∙ typed_at b (slice_index more.f) more.entries more.typed,
+    )
 
 -- ---- a class joined with more
 module _ (tree ino : ℕ) (class : InodeClass) (more : Gathered) (joined : InodeClass) (is : IsJoined class more joined) where

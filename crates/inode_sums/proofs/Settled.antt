@@ -134,17 +134,19 @@ module _ (at : ℕ × ℕ) (class : InodeClass) (es : Classes) (sorted : IsStric
   -- of the inode nothing else is left
   here : (a : Account) → is_at (inode_cmp (inode_of a)) at ≡ true → (n : ℕ) → (left es a n ≡ 0) × (left ((at, class) ∷ es) a n ≡ given a n)
   here a is n =
-      let one : inode_of a ≡ at = inode_ties (inode_of a) at is in
-      (ap (λ q. total_of (class_postings q (class_in (lookup (is_at (inode_cmp q)) es))) a n) one
-      ∙ ap (λ o. total_of (class_postings at (class_in o)) a n) (none_above at es (sorted_head inode_cmp at (keys_of es) sorted))
-      ∙ none_gathered at.0 at.1 a n,
-      ap (λ b. total_of (class_postings (inode_of a) (class_in (cond b (Some class) (lookup (is_at (inode_cmp (inode_of a))) es)))) a n) is
-      ∙ ap (λ q. total_of (class_postings q class) a n) one)
+      let one : inode_of a ≡ at = inode_ties (inode_of a) at is in (
+        ap (λ q. total_of (class_postings q (class_in (lookup (is_at (inode_cmp q)) es))) a n) one
+            ∙ ap (λ o. total_of (class_postings at (class_in o)) a n) (none_above at es (sorted_head inode_cmp at (keys_of es) sorted))
+            ∙ none_gathered at.0 at.1 a n,
+        ap (λ b. total_of (class_postings (inode_of a) (class_in (cond b (Some class) (lookup (is_at (inode_cmp (inode_of a))) es)))) a n) is
+            ∙ ap (λ q. total_of (class_postings q class) a n) one,
+      )
 
   away : (a : Account) → is_at (inode_cmp (inode_of a)) at ≡ false → (n : ℕ) → (given a n ≡ 0) × (left ((at, class) ∷ es) a n ≡ left es a n)
-  away a other n =
-      (elsewhere at (widened class) a (turned at (inode_of a) other) n,
-      ap (λ b. total_of (class_postings (inode_of a) (class_in (cond b (Some class) (lookup (is_at (inode_cmp (inode_of a))) es)))) a n) other)
+  away a other n = (
+    elsewhere at (widened class) a (turned at (inode_of a) other) n,
+    ap (λ b. total_of (class_postings (inode_of a) (class_in (cond b (Some class) (lookup (is_at (inode_cmp (inode_of a))) es)))) a n) other,
+  )
 
   both_left : (a : Account) (n : ℕ) → left ((at, class) ∷ es) a n ≡ given a n + left es a n
   both_left a n =
@@ -167,9 +169,9 @@ module _ (at : ℕ × ℕ) (class : InodeClass) (es : Classes) (sorted : IsStric
   skipped_class rest out a =
       elim (is_at (inode_cmp (inode_of a)) at) as (λ b. is_at (inode_cmp (inode_of a)) at ≡ b → is_broken a (λ n. rest a n + left es a n) ≡ is_broken a (λ n. rest a n + left ((at, class) ∷ es) a n)) [
         | true ↦ λ is. (
-          ap (is_broken a) (fun_ext (λ n. (let h = here a is n in let e : rest a n + left es a n ≡ rest a n = omega (arith, h.0) in e)))
-          ∙ sym (out a)
-          ∙ ap (is_broken a) (fun_ext (λ n. (let h = here a is n in let e : rest a n + given a n ≡ rest a n + left ((at, class) ∷ es) a n = omega (arith, h.1) in e))))
+            ap (is_broken a) (fun_ext (λ n. (let h = here a is n in let e : rest a n + left es a n ≡ rest a n = omega (arith, h.0) in e)))
+            ∙ sym (out a)
+            ∙ ap (is_broken a) (fun_ext (λ n. (let h = here a is n in let e : rest a n + given a n ≡ rest a n + left ((at, class) ∷ es) a n = omega (arith, h.1) in e))))
         | false ↦ λ is. ap (is_broken a) (fun_ext (λ n. ap (λ k. rest a n + k) (sym (away a is n).1)))
       ] refl
 

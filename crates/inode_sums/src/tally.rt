@@ -211,8 +211,16 @@ fn post(
         Posting::to(Account::inode(alloc, tree, ino), 6, f[6]),
         Posting::to(Account::inode(alloc, tree, ino), 7, f[7]),
         Posting::to(Account::inode(alloc, tree, ino), 8, f[8]),
-        Posting::to(Account::inode_type(alloc, tree, ino, more.sort), 0, more.entries),
-        Posting::to(Account::inode_type(alloc, tree, ino, more.sort), 1, more.typed),
+        Posting::to(
+            Account::inode_type(alloc, tree, ino, more.sort),
+            0,
+            more.entries,
+        ),
+        Posting::to(
+            Account::inode_type(alloc, tree, ino, more.sort),
+            1,
+            more.typed,
+        ),
     ])?;
     rest.add_all(&mut postings)
 }
