@@ -4,3 +4,4 @@ pub mod Joined
 pub mod Inodes
 pub mod ShownSums
 pub mod Decided
+pub mod Straight

@@ -2,6 +2,7 @@
 #![tactic(auto)]
 
 mod context;
+mod inode_posts;
 mod shown;
 mod summing;
 

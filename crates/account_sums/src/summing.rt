@@ -9,13 +9,15 @@ ghost use Rattle.records.specs.Context.{has_sum_free};
 ghost use Rattle.records.specs.Part.{IsLawful, Located, located, part_of};
 ghost use Rattle.records.specs.Postings.{account_fault};
 ghost use Rattle.records.specs.Takes.{with_accounted};
-ghost use Rattle.account_sums.specs.Kept.{chosen, summed_in};
-ghost use Rattle.account_sums.specs.Sums.{Summed, context_with, of_none, rest_of, with_record};
+ghost use Rattle.account_sums.specs.Kept.{chosen, listed_of, summed_in};
+ghost use Rattle.account_sums.specs.Sums.{Summed, context_with, of_none, with_record};
 
 use crate::context::ImageContext;
+use crate::inode_posts::post_inodes;
 use crate::shown::SectorTally;
-use accounts::{Account, Postings, Tally, finding_of};
+use accounts::{Account, Postings, finding_of};
 use chunk_map::ChunkMap;
+use inode_sums::InodeTally;
 use records::{RecAt, Record, Taker};
 use std::alloc::Global;
 use verdict::{Finding, NoMemory};
@@ -30,7 +32,7 @@ pub struct Accounts<'a> {
     // The context.
     context: ImageContext<'a>,
     // The sums, but for those of sectors.
-    tally: Tally,
+    tally: InodeTally,
     // What is not yet added to them.
     waiting: Postings,
     // The sums of sectors.
@@ -46,7 +48,7 @@ impl<'a> Accounts<'a> {
         Accounts {
             alloc,
             context: ImageContext { map, nodesize },
-            tally: Tally::new(alloc),
+            tally: InodeTally::new(alloc),
             waiting: Postings::new(alloc),
             sectors: SectorTally::new(alloc),
         }
@@ -61,6 +63,7 @@ impl<'a> Accounts<'a> {
     {
         self.tally.add_all(&mut self.waiting)?;
         let sector = self.sectors.least_broken()?;
+        self.tally.settle()?;
         Ok(first_of(self.alloc, sector, self.tally.least_broken()))
     }
 
@@ -72,6 +75,7 @@ impl<'a> Accounts<'a> {
     {
         post(self.alloc, &self.context, one, &mut self.waiting)?;
         self.tally.add_all(&mut self.waiting)?;
+        post_inodes(&mut self.tally, one.tree, &one.part)?;
         self.sectors.take(&self.context, one)
     }
 }
@@ -108,7 +112,7 @@ impl<'a> Taker for Accounts<'a> {
     }
 }
 
-// Puts behind the postings what a record posts but to sectors, a family of accounts after the other.
+// Puts behind the postings what a record posts but to inodes and sectors, a family of accounts after the other.
 fn post(
     alloc: Global,
     context: &ImageContext<'_>,
@@ -116,10 +120,9 @@ fn post(
     into: &mut Postings,
 ) -> Result<(), NoMemory>
     ensures { OnOk result (into.new ≡
-        into.old ++ rest_of context.now.map.now context.now.nodesize (located one.now)) }
+        into.old ++ listed_of context.now.map.now context.now.nodesize (located one.now)) }
 {
     extent_rules::post(alloc, context, one.tree, &one.part, into)?;
-    inode_rules::post(alloc, context, one.tree, &one.part, into)?;
     dir_rules::post(alloc, context, one.tree, &one.part, into)?;
     space_rules::post_rest(alloc, context, one.tree, &one.part, into)
 }

@@ -1,6 +1,6 @@
 -- What a tally keeps, by its entries.
 use Rattle.std.proofs.Common.{◌≡◌, ℕ, ◌+◌, ◌-◌, ◌<◌, ◌==◌, ◌&&◌, Bool, true, false, cond, [], ◌∷◌, refl, ap, sym, ◌∙◌, arith, subst}
-use Rattle.std.specs.Prelude.{Option, Some, None, nat_lt}
+use Rattle.std.specs.Prelude.{Option, Some, None, is_some, nat_lt}
 use Rattle.std.specs.BTreeMap.{BTreeMap, get, is_at, IsEmpty}
 use Rattle.std.specs.Map.{lookup}
 use Rattle.std.proofs.Math.Path.{fun_ext}
@@ -12,7 +12,7 @@ use Rattle.accounts.specs.Order.{account_cmp}
 use Rattle.accounts.specs.Sums.{added, total_of, sum_in, is_same}
 use Rattle.accounts.specs.Tally.{balances, difference_if, kept, kept_sums, no_sums, sums_at, with_amount, with_postings}
 use Rattle.accounts.proofs.Same.{same_account}
-use Rattle.accounts.proofs.Kept.{kept_more, kept_nothing}
+use Rattle.accounts.proofs.Kept.{balanced_kept, kept_more, kept_nothing}
 
 plus_none : (n : ℕ) → n + 0 ≡ n
 plus_none n = omega arith
@@ -116,8 +116,8 @@ equal_case x y false false same = refl
 
 -- where the difference decides, equal sums are as none
 pub equal_kept : (kind : ℕ) (f : ℕ → ℕ) → balances kind ≡ true → f 0 ≡ f 1 → kept kind f ≡ kept kind (λ _. 0)
-unfolding kept
-equal_kept kind f balanced same = ap (λ b. difference_if b f) balanced ∙ fun_ext (λ n. equal_case (f 0) (f 1) (n == 0) (n == 1) same) ∙ ap (λ b. difference_if b (λ _. 0)) (sym balanced)
+equal_kept kind f balanced same =
+    balanced_kept kind f balanced ∙ fun_ext (λ n. equal_case (f 0) (f 1) (n == 0) (n == 1) same) ∙ sym (balanced_kept kind (λ _. 0) balanced)
 
 -- the sums of the posting's account once it is added
 new_sums : (entry : Account → Option Totals) (p : Posting) (field : ℕ) (old new : Totals) → field ≡ p.field
@@ -153,3 +153,12 @@ added_removed entry after p field old new same small was is balanced equal updat
 pub none_kept : (entry : Account → Option Totals) → with_postings (kept_sums entry) [] ≡ kept_sums entry
 unfolding kept_sums with_postings total_of
 none_kept entry = fun_ext (λ account. kept_more account.kind (sums_at (entry account)) (λ _. 0) ∙ ap (kept account.kind) (fun_ext (λ n. plus_none (sums_at (entry account) n))))
+
+-- nothing is kept of an account without an entry
+none_case : (account : Account) (o : Option Totals) → is_some o ≡ false → kept account.kind (sums_at o) ≡ (λ _. 0)
+none_case account None is = kept_nothing account.kind
+none_case account (Some totals) is = absurd (cc is)
+
+pub none_at : (entry : Account → Option Totals) (account : Account) → is_some (entry account) ≡ false → kept_sums entry account ≡ no_sums account
+unfolding kept_sums
+none_at entry account is = none_case account (entry account) is

@@ -1,5 +1,5 @@
 -- The first broken account of some entries in their order is the least, and the least is one.
-use Rattle.std.proofs.Common.{◌≡◌, ℕ, ◌+◌, ◌-◌, ◌==◌, ◌||◌, ◌&&◌, Bool, true, false, not, cond, List, [], ◌∷◌, refl, ap, sym, ◌∙◌, subst, arith}
+use Rattle.std.proofs.Common.{◌≡◌, ℕ, ◌+◌, ◌-◌, ◌<◌, min, ◌==◌, ◌||◌, ◌&&◌, Bool, true, false, not, cond, List, [], ◌∷◌, refl, ap, sym, ◌∙◌, subst, arith}
 use Rattle.std.specs.Prelude.{Option, Some, None, nat_lt}
 use Rattle.std.proofs.Math.Path.{fun_ext}
 use Rattle.std.specs.List.{AllByRecursion}
@@ -10,7 +10,7 @@ use Rattle.std.specs.Ordering.{is_eq, is_gt, ordering_reverse}
 use Rattle.std.specs.declared.cmp.Ordering.{Ordering}
 use Rattle.std.specs.declared.cmp.Ordering.TheVariants.{Less, Equal, Greater}
 use Rattle.std.specs.Cmp.{both_ways}
-use Rattle.std.proofs.lemmas.Bool.{eqb-true, eq-eqb}
+use Rattle.std.proofs.lemmas.Bool.{eqb-true, eq-eqb, lt-ltb, ltb-true}
 use Rattle.std.proofs.lemmas.Map.Keys.{sorted_head, sorted_tail}
 use Rattle.accounts.specs.declared.account.Account.{Account}
 use Rattle.accounts.specs.declared.totals.Totals.{Totals}
@@ -18,8 +18,8 @@ use Rattle.accounts.specs.declared.postings.Posting.{Posting}
 use Rattle.accounts.specs.Order.{account_cmp}
 use Rattle.accounts.specs.OrderLaws.{account_total, account_equiv}
 use Rattle.accounts.specs.Sums.{added, is_same, sum_in, total_of}
-use Rattle.accounts.specs.Tally.{balances, difference, difference_if, kept, kept_sums, no_sums, sums_at, with_postings}
-use Rattle.accounts.specs.Broken.{Line, is_broken, line_of, lines}
+use Rattle.accounts.specs.Tally.{Sums, balances, difference, inode_class, kept, kept_as, kept_sums, no_sums, sums_at, type_class, with_postings}
+use Rattle.accounts.specs.Broken.{Line, gives, inode_keeps, is_broken, line_of, lines}
 use Rattle.accounts.specs.Least.{IsLeastBroken, LeastBrokenIsOne, is_broken_by, least_broken, least_posted, lesser}
 use Rattle.accounts.proofs.Same.{account_ties, is_Equal, same_account}
 
@@ -152,14 +152,59 @@ alike_rules kind f on =
       ),
     )
 
-broken_if : (b : Bool) (account : Account) (f : ℕ → ℕ) → balances account.kind ≡ b → is_broken account (difference_if b f) ≡ is_broken account f
+-- of an inode, and of a type
+is_some : (x : ℕ) → nat_lt 0 (min x 1) ≡ nat_lt 0 x
+is_some x =
+    both_ways (nat_lt 0 (min x 1)) (nat_lt 0 x)
+    (λ h. let e = ltb-true 0 (min x 1) h in let s : 0 < x = omega arith in lt-ltb 0 x s)
+    (λ h. let e = ltb-true 0 x h in let s : 0 < min x 1 = omega arith in lt-ltb 0 (min x 1) s)
+
+is_one : (x : ℕ) → (min x 2 == 1) ≡ (x == 1)
+is_one x =
+    both_ways (min x 2 == 1) (x == 1)
+    (λ h. let e = eqb-true (min x 2) 1 h in let s : x ≡ 1 = omega arith in eq-eqb x 1 s)
+    (λ h. let e = eqb-true x 1 h in let s : min x 2 ≡ 1 = omega arith in eq-eqb (min x 2) 1 s)
+
+same_left : (x y : ℕ) → (((x - y) + min 1 (min x y)) == ((y - x) + min 1 (min x y))) ≡ (x == y)
+same_left x y =
+    both_ways (((x - y) + min 1 (min x y)) == ((y - x) + min 1 (min x y))) (x == y)
+    (λ h. let e = eqb-true _ _ h in let s : x ≡ y = omega arith in eq-eqb x y s)
+    (λ h. let e = eqb-true x y h in let s : (x - y) + min 1 (min x y) ≡ (y - x) + min 1 (min x y) = omega arith in eq-eqb _ _ s)
+
+none_left : (x y : ℕ) → (((x - y) + min 1 (min x y)) == 0) ≡ (x == 0)
+none_left x y =
+    both_ways (((x - y) + min 1 (min x y)) == 0) (x == 0)
+    (λ h. let e = eqb-true _ _ h in let s : x ≡ 0 = omega arith in eq-eqb x 0 s)
+    (λ h. let e = eqb-true x 0 h in let s : (x - y) + min 1 (min x y) ≡ 0 = omega arith in eq-eqb _ _ s)
+
+inode_alike : (f : ℕ → ℕ) → inode_keeps (inode_class f) ≡ inode_keeps f
+inode_alike f =
+    let e0 = is_one (f 0) in
+    let e1 = is_some (f 1) in
+    let e2 = same_left (f 2) (f 3) in
+    let e3 = none_left (f 2) (f 3) in
+    let e4 = is_some (f 4) in
+    let e5 = same_difference (f 5) (f 6) in
+    let e6 = same_difference (f 7) (f 8) in
+    λ i. gives (e1 i) (e0 i) && (e2 i && (gives (e0 i && e3 i) (e4 i) && (e5 i && e6 i)))
+
+type_alike : (f : ℕ → ℕ) → gives (nat_lt 0 (min (f 0) 1)) (min (f 1) 2 == 1) ≡ gives (nat_lt 0 (f 0)) (f 1 == 1)
+type_alike f = let e0 = is_some (f 0) in let e1 = is_one (f 1) in λ i. gives (e0 i) (e1 i)
+
+kind_is : (n kind : ℕ) (f g : ℕ → ℕ) → (kind == n) ≡ true → line_of n (lines f) ≡ line_of n (lines g) → line_of kind (lines f) ≡ line_of kind (lines g)
+kind_is n kind f g is same = subst (λ k. line_of k (lines f) ≡ line_of k (lines g)) (sym (eqb-true kind n is)) same
+
+broken_if : (is_inode is_type b : Bool) (account : Account) (f : ℕ → ℕ) → (account.kind == 9) ≡ is_inode → (account.kind == 10) ≡ is_type → balances account.kind ≡ b
+    → is_broken account (kept_as is_inode is_type b f) ≡ is_broken account f
 unfolding is_broken
-broken_if true account f is = ap not (alike_lines account.kind (lines (difference f)) (lines f) (alike_rules account.kind f is))
-broken_if false account f is = refl
+broken_if true is_type b account f inode type is = ap not (kind_is 9 account.kind (inode_class f) f inode (inode_alike f))
+broken_if false true b account f inode type is = ap not (kind_is 10 account.kind (type_class f) f type (type_alike f))
+broken_if false false true account f inode type is = ap not (alike_lines account.kind (lines (difference f)) (lines f) (alike_rules account.kind f is))
+broken_if false false false account f inode type is = refl
 
 pub broken_kept : (account : Account) (f : ℕ → ℕ) → is_broken account (kept account.kind f) ≡ is_broken account f
 unfolding kept
-broken_kept account f = broken_if (balances account.kind) account f refl
+broken_kept account f = broken_if (account.kind == 9) (account.kind == 10) (balances account.kind) account f refl refl refl
 
 -- ---- the first of the entries
 
@@ -331,19 +376,24 @@ least_broken_is_one ps = (least_is_least ps, λ other is. one_least (is_broken_b
 zero_plus : (n : ℕ) → 0 + n ≡ n
 zero_plus n = omega arith
 
-same_broken : (es : List (Account × Totals)) (ps : List Posting) → kept_sums (λ a. lookup (is_at (account_cmp a)) es) ≡ with_postings no_sums ps → broken_at es ≡ is_broken_by ps
-unfolding kept_sums with_postings
-same_broken es ps is = fun_ext (λ a.
-    sym (broken_kept a (sums_at (lookup (is_at (account_cmp a)) es)))
-    ∙ ap (λ s. is_broken a (s a)) is
+kept_broken : (m : BTreeMap Account Totals) → broken_at m.entries ≡ (λ a. is_broken a (kept_sums (get account_cmp m) a))
+unfolding kept_sums
+kept_broken m = fun_ext (λ a. sym (broken_kept a (sums_at (lookup (is_at (account_cmp a)) m.entries))))
+
+pub first_is_least : (m : BTreeMap Account Totals) → IsOrdered account_cmp m → IsLeastBroken (λ a. is_broken a (kept_sums (get account_cmp m) a)) (first_broken m.entries)
+first_is_least m ordered = subst (λ b. IsLeastBroken b (first_broken m.entries)) (kept_broken m) (entries_least m.entries ordered)
+
+-- what postings come to is broken where they are
+posted_broken : (sums : Sums) (ps : List Posting) → sums ≡ with_postings no_sums ps → (λ a. is_broken a (sums a)) ≡ is_broken_by ps
+unfolding with_postings
+posted_broken sums ps is = fun_ext (λ a.
+    ap (λ s. is_broken a (s a)) is
     ∙ ap (λ f. is_broken a (kept a.kind f)) (fun_ext (λ n. zero_plus (total_of ps a n)))
     ∙ broken_kept a (total_of ps a))
 
-pub tally_least : (m : BTreeMap Account Totals) → IsOrdered account_cmp m → (ps : List Posting) → kept_sums (get account_cmp m) ≡ with_postings no_sums ps → first_broken m.entries ≡ least_broken ps
-tally_least m ordered ps is =
-    one_least (is_broken_by ps) (first_broken m.entries) (least_broken ps)
-    (subst (λ b. IsLeastBroken b (first_broken m.entries)) (same_broken m.entries ps is) (entries_least m.entries ordered))
-    (least_is_least ps)
+pub least_by_sums : (sums : Sums) (least : Option Account) (ps : List Posting) → IsLeastBroken (λ a. is_broken a (sums a)) least → sums ≡ with_postings no_sums ps → least ≡ least_broken ps
+least_by_sums sums least ps is posted =
+    one_least (is_broken_by ps) least (least_broken ps) (subst (λ b. IsLeastBroken b least) (posted_broken sums ps posted) is) (least_is_least ps)
 
 -- the first of some entries, by the first entry
 pub first_here : (e : Account × Totals) (es : List (Account × Totals)) → is_broken e.0 (sum_in e.1) ≡ true → first_broken (e ∷ es) ≡ Some e.0

@@ -1,5 +1,5 @@
 -- What a tally keeps of the sums of accounts.
-use Rattle.std.specs.Prelude.{ℕ, ◌+◌, ◌-◌, Bool, true, false, ◌||◌, ◌==◌, List, Option, Some, None, if◌then◌else◌}
+use Rattle.std.specs.Prelude.{ℕ, ◌+◌, ◌-◌, min, Bool, true, false, ◌||◌, ◌==◌, List, Option, Some, None, if◌then◌else◌}
 use Rattle.std.specs.BTreeMap.{get}
 use Rattle.accounts.specs.declared.account.Account.{Account}
 use Rattle.accounts.specs.declared.postings.Posting.{Posting}
@@ -26,9 +26,33 @@ abbrev pub difference_if : Bool → (ℕ → ℕ) → ℕ → ℕ
 difference_if true f = difference f
 difference_if false f = f
 
--- what is kept of the sums of an account of a kind
+-- what is kept of an inode: its items up to two; whether anything else is of it, and whether an orphan item; the differences of its links
+-- and its names, with one left of both where it has both; the differences of the others
+abbrev pub inode_class : (ℕ → ℕ) → ℕ → ℕ
+inode_class f field =
+    if field == 0 then min (f 0) 2 else
+    (if field == 1 then min (f 1) 1 else
+    (if field == 2 then (f 2 - f 3) + min 1 (min (f 2) (f 3)) else
+    (if field == 3 then (f 3 - f 2) + min 1 (min (f 2) (f 3)) else
+    (if field == 4 then min (f 4) 1 else
+    (if field == 5 then f 5 - f 6 else
+    (if field == 6 then f 6 - f 5 else
+    (if field == 7 then f 7 - f 8 else
+    (if field == 8 then f 8 - f 7 else 0))))))))
+
+-- what is kept of a type of an inode: whether an entry says it, and the items that do up to two
+abbrev pub type_class : (ℕ → ℕ) → ℕ → ℕ
+type_class f field = if field == 0 then min (f 0) 1 else (if field == 1 then min (f 1) 2 else 0)
+
+-- what is kept of the sums of an inode, of a type, or of another account
+abbrev pub kept_as : Bool → Bool → Bool → (ℕ → ℕ) → ℕ → ℕ
+kept_as true is_type balanced f = inode_class f
+kept_as false true balanced f = type_class f
+kept_as false false balanced f = difference_if balanced f
+
+-- what is kept of the sums of an account of a kind: no more than what the rule on the kind looks at
 unfoldable pub kept : ℕ → (ℕ → ℕ) → ℕ → ℕ
-kept kind f = difference_if (balances kind) f
+kept kind f = kept_as (kind == 9) (kind == 10) (balances kind) f
 
 -- some sums, with an amount added to one
 abbrev pub with_amount : (ℕ → ℕ) → ℕ → ℕ → ℕ → ℕ

@@ -1,9 +1,9 @@
 //! The sums of all accounts that are posted to.
 
-ghost use Rattle.std.specs.Prelude.{◌≡◌, List, [], ◌∷◌, OnOk};
-ghost use Rattle.accounts.specs.declared.postings.Posting.{Posting as APosting};
+ghost use Rattle.std.specs.Prelude.{◌≡◌, false, [], ◌∷◌, OnOk};
 ghost use Rattle.std.specs.Option.{option_copied};
-ghost use Rattle.accounts.specs.Least.{least_broken};
+ghost use Rattle.accounts.specs.Broken.{is_broken};
+ghost use Rattle.accounts.specs.Least.{IsLeastBroken};
 ghost use Rattle.accounts.specs.Tally.{no_sums, sums_in, with_postings};
 
 use crate::totals::is_settled;
@@ -73,10 +73,17 @@ impl Tally {
         }
     }
 
+    /// Whether anything is kept of an account: where not, its sums are zero.
+    pub fn has(&self, account: &Account) -> bool
+        ensures { result ≡ false → sums_in self.now account.now ≡ no_sums account.now }
+    {
+        self.entries.contains_key(account)
+    }
+
     /// The least account that is broken by what was posted, or `None` exactly where none is.
     pub fn least_broken(&self) -> Option<&Account>
-        ensures { (postings : List APosting) → sums_in self.now ≡ with_postings no_sums postings →
-            option_copied result ≡ least_broken postings }
+        ensures { IsLeastBroken (λ account. is_broken account (sums_in self.now account))
+            (option_copied result) }
     {
         for (account, totals) in &self.entries {
             if broken(account, totals) {

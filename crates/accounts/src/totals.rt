@@ -1,8 +1,8 @@
 //! The sums of an account, and the rule that they keep.
 
-ghost use Rattle.std.specs.Prelude.{◌≡◌, ◌&&◌, ◌==◌, ℕ, ◌<◌, OnOk};
+ghost use Rattle.std.specs.Prelude.{◌≡◌, ◌&&◌, ◌==◌, ℕ, ◌<◌, OnErr, OnOk};
 ghost use Rattle.accounts.specs.Sums.{sum_in};
-ghost use Rattle.accounts.specs.Tally.{balances, kept, with_amount};
+ghost use Rattle.accounts.specs.Tally.{balances, difference, kept, with_amount};
 ghost use Rattle.accounts.specs.Broken.{broken_finding, extent_keeps, group_keeps, inode_keeps, is_broken, sector_keeps};
 
 use crate::Account;
@@ -23,25 +23,42 @@ impl Totals {
         Totals { f: [0; 9] }
     }
 
+    /// Adds an amount to the sum with this number. A sum that would pass 128 bits is want of memory, and stays.
+    pub fn raise(&mut self, field: usize, amount: u64) -> Result<(), NoMemory>
+        requires { field < 9 }
+        ensures ok { OnOk result ((n : ℕ) →
+            sum_in self.new n ≡ with_amount (sum_in self.old) field amount n) }
+        ensures err { OnErr result ((n : ℕ) → sum_in self.new n ≡ sum_in self.old n) }
+    {
+        let Some(sum) = self.f[field].checked_add(u128::from(amount)) else {
+            return Err(NoMemory);
+        };
+        self.f[field] = sum;
+        Ok(())
+    }
+
     // Adds an amount to a sum of an account of a kind. Where the difference of the first two sums decides, that alone
     // is kept. A sum that would pass 128 bits is want of memory.
-    #[tactic(auto, unfolding(crate::specs::Tally::kept))]
     pub fn add(&mut self, kind: u8, field: usize, amount: u64) -> Result<(), NoMemory>
         requires { field < 9 }
         ensures { OnOk result ((n : ℕ) →
             kept kind (sum_in self.new) n
             ≡ kept kind (with_amount (sum_in self.old) field amount) n) }
     {
-        let Some(sum) = self.f[field].checked_add(u128::from(amount)) else {
-            return Err(NoMemory);
-        };
-        self.f[field] = sum;
+        self.raise(field, amount)?;
         if balances(kind) {
-            let less = self.f[0].min(self.f[1]);
-            self.f[0] -= less;
-            self.f[1] -= less;
+            self.cancel();
         }
         Ok(())
+    }
+
+    // Takes from the first two sums as much as both have.
+    fn cancel(&mut self)
+        ensures { (n : ℕ) → difference (sum_in self.new) n ≡ difference (sum_in self.old) n }
+    {
+        let less = self.f[0].min(self.f[1]);
+        self.f[0] -= less;
+        self.f[1] -= less;
     }
 }
 

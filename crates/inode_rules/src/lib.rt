@@ -6,4 +6,5 @@ mod table;
 #[cfg(test)]
 mod tests;
 
+pub use rows::type_of_mode;
 pub use table::post;

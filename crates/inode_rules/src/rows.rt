@@ -126,8 +126,8 @@ fn post_size(
     }
 }
 
-// The type that a mode's type bits say, as directory entries number the types; 0 for bits that no inode has.
-fn type_of_mode(mode: u32) -> u8
+/// The type that a mode's type bits say, as directory entries number the types; 0 for bits that no inode has.
+pub fn type_of_mode(mode: u32) -> u8
     ensures { result ≡ type_of_mode mode }
 {
     match mode & 0o170000 {

@@ -1,0 +1,35 @@
+use Rattle.std.proofs.Common.{◌≡◌, ◌∙◌, ◌+◌, ap, sym, subst}
+use Rattle.std.specs.Map.{keys_of}
+use Rattle.std.specs.List.Sorted.{IsStrictlySortedBy}
+use Rattle.std.proofs.lemmas.Map.Keys.{sorted_tail}
+use Rattle.accounts.specs.Broken.{is_broken}
+use Rattle.accounts.specs.Tally.{sums_in, with_postings}
+use Rattle.inode_sums.specs.Held.{gathered_postings, inode_cmp}
+use Rattle.inode_sums.proofs.Settled.{Classes, left, moved_class, none_left, skipped_class}
+use Rattle.inode_sums.proofs.tally.settle.Goals as goal
+
+pub loop-at-preserved-then-stays_out : goal.loop-at-preserved-then-stays_out
+loop-at-preserved-then-stays_out c =
+    let sorted = subst (λ (es : Classes). IsStrictlySortedBy inode_cmp (keys_of es)) c.in-Some.ensures.steps c.loop-at.invariant.sorted in
+    record {
+      sorted = sorted_tail inode_cmp c.in-Some.at.now (keys_of c.next.new.self) sorted;
+      same = λ a.
+          skipped_class c.in-Some.at.now c.in-Some.class.now c.next.new.self sorted (sums_in c.loop-at.rest) (c.stays_out.ensures c.if-stays_out.true) a
+          ∙ ap (λ (es : Classes). is_broken a (λ n. sums_in c.loop-at.rest a n + left es a n)) (sym c.in-Some.ensures.steps)
+          ∙ c.loop-at.invariant.same a;
+    }
+
+pub loop-at-preserved : goal.loop-at-preserved
+loop-at-preserved c =
+    let sorted = subst (λ (es : Classes). IsStrictlySortedBy inode_cmp (keys_of es)) c.in-Some.ensures.steps c.loop-at.invariant.sorted in
+    record {
+      sorted = sorted_tail inode_cmp c.in-Some.at.now (keys_of c.next.new.self) sorted;
+      same = λ a.
+          moved_class c.in-Some.at.now c.in-Some.class.now c.next.new.self sorted (sums_in c.loop-at.rest) (sums_in c.post.new.rest)
+          (c.in_ok-post.ensures ∙ ap (λ m. with_postings (sums_in c.loop-at.rest) (gathered_postings c.in-Some.at.now.0 c.in-Some.at.now.1 m)) c.widened.ensures) a
+          ∙ ap (λ (es : Classes). is_broken a (λ n. sums_in c.loop-at.rest a n + left es a n)) (sym c.in-Some.ensures.steps)
+          ∙ c.loop-at.invariant.same a;
+    }
+
+pub returns : goal.returns
+returns c = λ a. none_left (sums_in c.loop-at.rest) c.loop-at.at-iterator c.in-None.ensures.steps.0 a ∙ c.loop-at.invariant.same a
