@@ -2,7 +2,7 @@
 
 use crate::change::{Change, changed};
 use crate::record::Record;
-use crate::runs::{ACCEPTED, CHECK, run_over};
+use crate::runs::{ACCEPTED, checks_so};
 use image_maker::{base_image, wider_image};
 use std::test::Fail;
 use verdict::kinds::XATTR_ITEM;
@@ -14,6 +14,8 @@ const EMPTY_LEAF: &[Change] = &[
     Change::Drop(5, (257, XATTR_ITEM, 0)),
 ];
 
+const EMPTY: &str = "image refused N9 tree 5 block 5341184 key 257 24 0 detail 0\n";
+
 // The tree of checksums of the base image is one leaf without items.
 #[test]
 fn an_image_is_accepted_or_refused(rt: HostRuntime) -> Result<(), Fail> {
@@ -21,20 +23,8 @@ fn an_image_is_accepted_or_refused(rt: HostRuntime) -> Result<(), Fail> {
     let base = base_image(alloc)?;
     let empty_leaf = changed(alloc, base.as_slice(), EMPTY_LEAF)?;
     let wider = wider_image(alloc)?;
-    let rows = [
-        (base.as_slice(), 0, ACCEPTED),
-        (wider.as_slice(), 0, ACCEPTED),
-        (
-            empty_leaf.as_slice(),
-            1,
-            "image refused N9 tree 5 block 5341184 key 257 24 0 detail 0\n",
-        ),
-    ];
-    for (image, status, line) in rows {
-        let run = run_over(alloc, CHECK, image, &[], &[])?;
-        assert_eq!(rt; run.status, status, "{line}");
-        assert!(rt; run.out.bytes() == line.as_bytes(), "{line}");
-        assert!(rt; run.disk.bytes() == image, "{line}");
-    }
+    assert!(rt; checks_so(alloc, base.as_slice(), 0, ACCEPTED)?);
+    assert!(rt; checks_so(alloc, wider.as_slice(), 0, ACCEPTED)?);
+    assert!(rt; checks_so(alloc, &empty_leaf, 1, EMPTY)?);
     Ok(())
 }

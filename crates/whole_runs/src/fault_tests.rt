@@ -2,7 +2,9 @@
 
 use crate::bytes::{is_in_part, part, superblock_in};
 use crate::change::{Change, changed};
-use crate::runs::{ACCEPTED, CHECK, CREATED, Fault, Object, REPLAY, REPLAY_JSON, Run, run_over};
+use crate::runs::{
+    ACCEPTED, CHECK, CREATED, Fault, Object, REPLAY, REPLAY_JSON, Run, checks_so, run_over,
+};
 use crate::trace::{Step, trace_of};
 use image_maker::{BASE_LENGTH, base_image};
 use recon_disk::{MemSink, Op};
@@ -264,36 +266,37 @@ const WRITES: &[(u64, u32, u8, u8, &str)] = &[
     (4, 0, 0, 3, NEXT),
 ];
 
+// Whether a run ends as one of these rows says.
+fn ends_so(
+    alloc: Global,
+    run: &Run,
+    (old, new): (&[u8], &[u8]),
+    (_, _, status, pieces, line): (u64, u32, u8, u8, &str),
+) -> Result<bool, Fail> {
+    let lines = if status == 0 { CREATED } else { ACCEPTED };
+    let left = run.disk.bytes();
+    Ok(
+        run.status == status
+            && run.out.bytes() == lines.as_bytes()
+            && pieces_on(left, old, new) == Some(pieces)
+            && checks_so(alloc, left, 0, line)?,
+    )
+}
+
 #[test]
 fn a_new_file_is_three_writes(rt: HostRuntime) -> Result<(), Fail> {
     let alloc = rt.alloc();
     let base = base_image(alloc)?;
-    let new = changed(alloc, base.as_slice(), &[Change::NewFile])?;
-    let steps = [Step::Commit(&[Change::NewFile]), Step::End];
-    let trace = trace_of(alloc, base.as_slice(), &steps)?;
-    for (nth, keep, status, pieces, line) in WRITES.iter().copied() {
+    let base = base.as_slice();
+    let new = changed(alloc, base, &[Change::NewFile])?;
+    let trace = trace_of(alloc, base, &[Step::Commit(&[Change::NewFile]), Step::End])?;
+    for row in WRITES.iter().copied() {
+        let (nth, keep, ..) = row;
         let object = Object::Disk(Op::Write, keep);
-        let run = run_over(
-            alloc,
-            REPLAY,
-            base.as_slice(),
-            &trace,
-            &[Fault { object, nth }],
-        )?;
-        let lines = if status == 0 { CREATED } else { ACCEPTED };
-        assert_eq!(rt; run.status, status, "{nth} {keep}");
-        assert!(rt; run.out.bytes() == lines.as_bytes(), "{nth} {keep}");
-        let left = run.disk.bytes();
-        assert_eq!(rt; pieces_on(left, base.as_slice(), &new), Some(pieces));
-        assert!(rt; says(alloc, left, line)?, "{nth} {keep}");
+        let run = run_over(alloc, REPLAY, base, &trace, &[Fault { object, nth }])?;
+        assert!(rt; ends_so(alloc, &run, (base, &new), row)?, "{nth} {keep}");
     }
     Ok(())
-}
-
-// Whether a check of an image prints this line.
-fn says(alloc: Global, image: &[u8], line: &str) -> Result<bool, Fail> {
-    let run = run_over(alloc, CHECK, image, b"", &[])?;
-    Ok(run.out.bytes() == line.as_bytes())
 }
 
 // The image's line is there before a record is read, and what a failed write of it kept stays. The second line has a
@@ -310,15 +313,9 @@ fn a_run_that_ends_early_keeps_its_lines(rt: HostRuntime) -> Result<(), Fail> {
     let base = base_image(alloc)?;
     let trace = trace_of(alloc, base.as_slice(), &[Step::End])?;
     for (object, nth, status, lines) in EARLY.iter().copied() {
-        let run = run_over(
-            alloc,
-            REPLAY,
-            base.as_slice(),
-            &trace,
-            &[Fault { object, nth }],
-        )?;
-        assert_eq!(rt; run.status, status, "{lines}");
-        assert!(rt; run.out.bytes() == lines.as_bytes(), "{lines}");
+        let fault = Fault { object, nth };
+        let run = run_over(alloc, REPLAY, base.as_slice(), &trace, &[fault])?;
+        assert!(rt; run.status == status && run.out.bytes() == lines.as_bytes());
     }
     Ok(())
 }

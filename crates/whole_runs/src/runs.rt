@@ -93,3 +93,9 @@ pub fn run_over(
     );
     Ok(Run { status, disk, out })
 }
+
+/// Whether a check of an image ends with this status and this line, and leaves the device as it is.
+pub fn checks_so(alloc: Global, image: &[u8], status: u8, line: &str) -> Result<bool, Fail> {
+    let run = run_over(alloc, CHECK, image, b"", &[])?;
+    Ok(run.status == status && run.out.bytes() == line.as_bytes() && run.disk.bytes() == image)
+}
