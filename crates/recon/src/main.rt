@@ -31,7 +31,8 @@ fn stop(rt: &impl Eprint, why: Why) -> u8 {
 // How IMAGE is shared while this command line is carried out: what writes to it has it alone.
 fn sharing(arguments: &[String]) -> Sharing {
     match arguments.first() {
-        Some(command) if command.as_str() == "replay" || command.as_str() == "make" => Sharing::Exclusive,
+        Some(command) if command.as_str() == "replay" || command.as_str() == "make" =>
+            Sharing::Exclusive,
         _ => Sharing::Shared,
     }
 }
