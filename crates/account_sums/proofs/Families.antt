@@ -1,6 +1,6 @@
 -- What the families post to sectors, and what of it rests on which data has checksums.
-use Rattle.std.proofs.Common.{◌≡◌, ℕ, ◌==◌, Bool, true, false, not, cond, List, [], ◌∷◌, refl, ap, ◌∙◌}
-use Rattle.std.specs.Prelude.{Option, Some, None}
+use Rattle.std.proofs.Common.{◌≡◌, ℕ, ◌==◌, true, false, not, cond, List, [], ◌∷◌, refl, ap, ◌∙◌}
+use Rattle.std.specs.Prelude.{None}
 use Rattle.std.specs.List.{AllByRecursion, filter}
 use Rattle.verdict.specs.declared.place.Chunk.{Chunk}
 use Rattle.accounts.specs.declared.account.Account.{Account}

@@ -1,11 +1,11 @@
 -- The least broken account of sums of accounts and of sums of sectors.
-use Rattle.std.proofs.Common.{◌≡◌, ℕ, ◌+◌, ◌<◌, ◌≤◌, ◌==◌, ◌⊎◌, Bool, true, false, cond, List, refl, ap, sym, ◌∙◌, subst, arith}
+use Rattle.std.proofs.Common.{◌≡◌, ℕ, ◌<◌, ◌≤◌, ◌==◌, true, false, cond, List, refl, ap, sym, ◌∙◌, subst, arith}
 use Rattle.std.specs.Prelude.{Option, Some, None, nat_lt}
 use Rattle.std.proofs.Math.Path.{fun_ext}
 use Rattle.std.specs.Ordering.{nat_cmp, ordering_then}
 use Rattle.std.specs.declared.cmp.Ordering.{Ordering}
 use Rattle.std.specs.declared.cmp.Ordering.TheVariants.{Less, Equal, Greater}
-use Rattle.std.proofs.lemmas.Bool.{ltb-true, eqb-true}
+use Rattle.std.proofs.lemmas.Bool.{ltb-true}
 use Rattle.std.proofs.lemmas.Bool.Decides.{nat_tests}
 use Rattle.accounts.specs.declared.account.Account.{Account}
 use Rattle.accounts.specs.declared.postings.Posting.{Posting}
@@ -14,7 +14,7 @@ use Rattle.accounts.specs.Broken.{is_broken}
 use Rattle.accounts.specs.Kinds.{sector}
 use Rattle.accounts.specs.Least.{is_broken_by, least_broken}
 use Rattle.accounts.specs.Least as accounts
-use Rattle.accounts.specs.Sums.{is_same, total_of}
+use Rattle.accounts.specs.Sums.{is_same}
 use Rattle.accounts.proofs.First.{least_is_least, one_least, unposted}
 use Rattle.accounts.proofs.Same.{same_account}
 use Rattle.sector_runs.specs.Runs.{IsLeastBroken, SectorSums}

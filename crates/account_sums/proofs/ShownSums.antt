@@ -1,11 +1,9 @@
 -- What shown sectors come to.
-use Rattle.std.proofs.Common.{◌≡◌, ℕ, ◌+◌, ◌==◌, ◌||◌, Bool, true, false, cond, List, [], ◌∷◌, ◌++◌, refl, ap, sym, ◌∙◌, arith, subst}
+use Rattle.std.proofs.Common.{◌≡◌, ℕ, ◌+◌, Bool, true, false, cond, List, [], ◌∷◌, ◌++◌, refl, ap, sym, ◌∙◌, arith, subst}
 use Rattle.std.specs.Prelude.{Option, Some, None, Result, Ok, Err, OnOk}
 use Rattle.std.proofs.Math.Path.{fun_ext}
-use Rattle.std.specs.List.{All}
-use Rattle.std.proofs.lemmas.List.Elements.{All-push}
 use Rattle.verdict.specs.declared.place.Chunk.{Chunk}
-use Rattle.sector_runs.specs.Runs.{SectorSums, amount_in, amount_of, no_sectors, with_run}
+use Rattle.sector_runs.specs.Runs.{SectorSums, amount_in, amount_of, with_run}
 use Rattle.records.specs.Part.{Located, Part}
 use Rattle.records.specs.Part.Part.{RootPart, LinkPart, DevicePart, ChunkPart, DevExtentPart, ExtentPart, KeyedPart, GroupPart, InodePart, NamesPart, XattrPart, OrphanPart, EntriesPart, FileExtentPart, SumsPart, UnreadPart, SuperPart, BlockPart}
 use Rattle.fs_items.specs.declared.file_extent.FileExtent.{FileExtent}

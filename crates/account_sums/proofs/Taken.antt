@@ -1,6 +1,6 @@
 -- What is made of all records, one after the other.
-use Rattle.std.proofs.Common.{◌≡◌, ℕ, ◌+◌, ◌==◌, ◌||◌, Bool, true, false, cond, List, [], ◌∷◌, ◌++◌, refl, ap, sym, ◌∙◌, arith, append_assoc, append-nil}
-use Rattle.std.specs.Prelude.{Option, Some, None, flat_map, option_map}
+use Rattle.std.proofs.Common.{◌≡◌, ℕ, ◌+◌, ◌==◌, ◌||◌, Bool, true, false, List, [], ◌∷◌, ◌++◌, refl, ap, sym, ◌∙◌, arith, append_assoc, append-nil}
+use Rattle.std.specs.Prelude.{Option, Some, None, flat_map}
 use Rattle.std.specs.List.{cons_option, fold, filter_map, list_any}
 use Rattle.std.proofs.Math.Path.{fun_ext}
 use Rattle.verdict.specs.declared.place.Chunk.{Chunk}
@@ -15,7 +15,7 @@ use Rattle.records.specs.Context.{has_sum_free, is_inode, sum_free_inode}
 use Rattle.records.specs.ExtentPostings.{extent_postings}
 use Rattle.records.specs.InodePostings.{inode_postings}
 use Rattle.records.specs.DirPostings.{dir_postings}
-use Rattle.records.specs.SpacePostings.{rest_postings, sector_sum, space_postings}
+use Rattle.records.specs.SpacePostings.{rest_postings, space_postings}
 use Rattle.records.specs.Postings.{all_postings, postings_of}
 use Rattle.sector_runs.specs.Runs.{no_sectors}
 use Rattle.account_sums.specs.Kept.{AreSumsOf}

@@ -3,25 +3,18 @@ use Rattle.std.specs.Ordering.{nat_cmp}
 use Rattle.std.specs.FinMap.{FinMap}
 use Rattle.std.proofs.lemmas.Grind.{common_steps}
 use Rattle.std.proofs.Math.Nat.{mul-le-mul}
-use Rattle.verdict.specs.Image.{range}
 use Rattle.verdict.specs.Items.{is_multiple}
-use Rattle.verdict.specs.Rules.{image_finding}
 use Rattle.verdict.specs.Trees.{is_node_size}
-use Rattle.verdict.specs.declared.finding.Family.TheVariants.{N, S}
-use Rattle.super_reader.specs.Superblock.{superblock_of}
 use Rattle.write_cache.specs.Cache.{overlaid}
-use Rattle.node_reader.specs.Faults.{block_finding}
 use Rattle.node_reader.specs.declared.expect.Expect.{Expect}
-use Rattle.records.specs.Contents.{superblock_in}
 use Rattle.std.proofs.lemmas.Option.{IfSome_then}
 use Rattle.std.specs.Prelude.{IfSome, Result, Ok}
 use Rattle.recon_disk.specs.declared.disk.Disk.{Ghosts}
-use Rattle.super_reader.specs.declared.Super.{Super}
 use Rattle.verdict.specs.declared.finding.Finding.{Finding}
 use Rattle.block_source.specs.Gives.{Gives}
 use Rattle.block_source.specs.declared.halt.Halt.{Halt}
 use Rattle.block_source.specs.declared.halt.Halt.TheVariants.{Found as Halted, Disk, NoMemory}
-use Rattle.std.proofs.Common.{sym, length, ◌*◌, ◌<◌, ◌^◌, Err, nat_lt, ◌≡◌, ℕ, ◌+◌, ◌-◌, ◌≤◌, Bool, true, false, not, cond, List, Option, Some, None, refl, ap, ◌∙◌, arith}
+use Rattle.std.proofs.Common.{sym, length, ◌*◌, ◌<◌, ◌^◌, Err, ◌≡◌, ℕ, ◌+◌, ◌-◌, ◌≤◌, Bool, true, false, not, cond, List, Option, Some, None, refl, ap, ◌∙◌, arith}
 use Rattle.std.specs.Prelude.{nat_le, ◌&&◌, ◌==◌, slice_index}
 use Rattle.verdict.specs.Chunks.{place, place_in, home, place_of_copies}
 use Rattle.verdict.specs.declared.place.Chunk.{Chunk}

@@ -1,5 +1,5 @@
 -- The steps of a walk that gives records to a taker.
-use Rattle.std.proofs.Common.{◌≡◌, ℕ, zero, suc, ◌+◌, ◌-◌, ◌<◌, ◌≤◌, List, [], ◌∷◌, ◌++◌, ap, refl, sym, ◌∙◌, arith, IfSome, Option, Some, None, Ok, Err, false}
+use Rattle.std.proofs.Common.{◌≡◌, ℕ, zero, suc, ◌+◌, ◌-◌, ◌<◌, ◌≤◌, List, [], ◌∷◌, ap, refl, sym, ◌∙◌, arith, IfSome, Option, Some, None, Ok, Err, false}
 use Rattle.std.specs.List.{fold}
 use Rattle.std.specs.Ordering.{nat_cmp}
 use Rattle.std.specs.FinMap.{FinMap}
@@ -8,11 +8,9 @@ use Rattle.verdict.specs.Rules.{and_then}
 use Rattle.recon_disk.specs.Keeping.{Kept}
 use Rattle.recon_disk.specs.declared.disk.Disk.{Ghosts as DiskGhosts}
 use Rattle.super_reader.specs.declared.Super.{Super}
-use Rattle.node_reader.specs.Places.{each_from}
-use Rattle.node_reader.specs.Layout.{LeafItem, count_of, item_of, pointer_of, pointers_of}
+use Rattle.node_reader.specs.Layout.{count_of, item_of, pointer_of, pointers_of}
 use Rattle.node_reader.specs.Stored.{Stored}
 use Rattle.node_reader.specs.declared.expect.Expect.{Expect}
-use Rattle.node_reader.specs.declared.expect.Pointer.{Pointer}
 use Rattle.node_reader.proofs.BlockLaws.{each_left, each_left_none}
 use Rattle.write_cache.specs.Cache.{overlaid}
 use Rattle.block_source.specs.Private.{items_from, pointers_from}
@@ -20,6 +18,8 @@ use Rattle.records.specs.Seen.{Seen}
 use Rattle.records.specs.Takes.{held_after}
 use Rattle.records.specs.Walk.{Records, behind, then_records, each, block_and, below, children_of}
 use Rattle.records.specs.declared.take.Taker.{Ghosts as TakerGhosts}
+use Rattle.block_source.specs.declared.read.BlockSource.{BlockSource}
+use Rattle.block_source.specs.Counts.{with_read}
 
 pub items_more : (bytes : List ℕ) (i : ℕ) → i < count_of bytes → items_from bytes i ≡ item_of bytes i ∷ items_from bytes (i + 1)
 items_more bytes i inside = each_left (item_of bytes) i (count_of bytes) inside
@@ -41,6 +41,10 @@ pub ruleset children_left = (pointers_more, pointers_none)
 pub record SoFar {D T : Type 0} (disk : DiskGhosts D) (taker : TakerGhosts T) (waiting : FinMap nat_cmp ℕ) (first now : D) (old new : T) (rest whole : List ℕ → Records) : Type 0 where
   pub kept : Kept disk first now false
   pub same : IfSome (disk.bytes first) (λ image. held_after taker.with (taker.held new) (rest (overlaid waiting 0 image)) ≡ held_after taker.with (taker.held old) (whole (overlaid waiting 0 image)))
+
+-- it read so often that what is left makes of the counter what the whole makes
+pub record ReadSoFar {D : Type 0} (disk : DiskGhosts D) (source : BlockSource) (first now : D) (rest whole : List ℕ → Records) : Type 0 where
+  pub reads : IfSome (disk.bytes first) (λ image. held_after (with_read source) (disk.reads now) (rest (overlaid source.cache.now 0 image)) ≡ held_after (with_read source) (disk.reads first) (whole (overlaid source.cache.now 0 image)))
 
 -- records are taken before those that follow
 pub behind_held : {H : Type 0} (with : H → Seen → H) (held : H) (records : List Seen) (later : Records)

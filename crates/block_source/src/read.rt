@@ -140,8 +140,8 @@ fn read_bytes<D: Disk>(
     ensures gives { Gives D.Disk disk.old source.now.cache.now (leaving result first.new)
         (λ image. found_by e.now
         (stored_in image source.now.map.now (length first.old) e.now.address)) }
-    ensures reads { let at = place source.now.map.now e.now.address (length first.old) source.now.end in
-        OnOk result (D.reads disk.new ≡ after_copies at (D.reads disk.old)) }
+    ensures reads { let n = length first.old in OnOk result (D.reads disk.new ≡
+        after_copies (place source.now.map.now e.now.address n source.now.end) (D.reads disk.old)) }
     ensures kept { Kept D.Disk disk.old disk.new (is_disk_halt result) }
 {
     if !is_multiple(e.address) {

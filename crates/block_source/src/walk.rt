@@ -6,6 +6,7 @@ ghost use Rattle.recon_disk.specs.Keeping.{Kept};
 ghost use Rattle.node_reader.specs.Places.{each_from};
 ghost use Rattle.node_reader.specs.Layout.{level_of, count_of, pointer_of};
 ghost use Rattle.records.specs.Walk.{children_of, high_of, walk_in};
+ghost use Rattle.block_source.specs.Counts.{ReadsCopies, ReadsCopiesAsTold};
 ghost use Rattle.block_source.specs.Gives.{is_disk_fault, is_disk_halt};
 ghost use Rattle.block_source.specs.Takes.{ReadsInto, TakesAsTold};
 ghost use Rattle.block_source.specs.Private.{pointers_from};
@@ -21,8 +22,9 @@ use std::alloc::Global;
 use verdict::{Finding, Key};
 
 /// Walks the tree from the block on that is expected, and gives its records to a taker: a block's own, which are itself
-/// and its pointers or items, before those of what is below it, and children in their order. It stops at the first finding: of a block's copies, of
-/// the block, or of an item; what was taken before is with the taker then.
+/// and its pointers or items, before those of what is below it, and children in their order. It stops at the first
+/// finding: of a block's copies, of the block, or of an item; what was taken before is with the taker then. Each copy of
+/// each block is read once.
 pub fn walk_tree<D: Disk, T: Taker>(
     alloc: Global,
     disk: &mut D,
@@ -34,6 +36,9 @@ pub fn walk_tree<D: Disk, T: Taker>(
     requires end { source.now.end ≡ D.len disk.old }
     ensures taken { IfOk result (λ answer.
         TakesAsTold D.Disk T.Taker disk.old source.now.cache.now into.old into.new answer
+        (walk_in source.now.sup.now source.now.map.now e.now)) }
+    ensures reads { IfOk result (λ answer.
+        ReadsCopiesAsTold D.Disk source.now disk.old disk.new answer
         (walk_in source.now.sup.now source.now.map.now e.now)) }
     ensures kept { Kept D.Disk disk.old disk.new (is_disk_fault result) }
 {
@@ -51,8 +56,9 @@ pub fn walk_into<D: Disk, T: Taker>(
 ) -> Result<(), Halt>
     requires size { is_node_size source.now.sup.now.nodesize ≡ true }
     requires end { source.now.end ≡ D.len disk.old }
-    ensures taken {
-        ReadsInto D.Disk T.Taker disk.old source.now.cache.now into.old into.new result
+    ensures taken { ReadsInto D.Disk T.Taker disk.old source.now.cache.now into.old into.new result
+        (walk_in source.now.sup.now source.now.map.now e.now) }
+    ensures reads { ReadsCopies D.Disk source.now disk.old disk.new result
         (walk_in source.now.sup.now source.now.map.now e.now) }
     ensures kept { Kept D.Disk disk.old disk.new (is_disk_halt result) }
 {
@@ -76,8 +82,9 @@ fn walk<D: Disk, T: Taker>(
     requires end { source.now.end ≡ D.len disk.old }
     requires room { length room.old ≡ (e.now.level + 1) * source.now.sup.now.nodesize }
     requires second { length second.old ≡ source.now.sup.now.nodesize }
-    ensures taken {
-        ReadsInto D.Disk T.Taker disk.old source.now.cache.now into.old into.new result
+    ensures taken { ReadsInto D.Disk T.Taker disk.old source.now.cache.now into.old into.new result
+        (walk_in source.now.sup.now source.now.map.now e.now) }
+    ensures reads { ReadsCopies D.Disk source.now disk.old disk.new result
         (walk_in source.now.sup.now source.now.map.now e.now) }
     ensures kept { Kept D.Disk disk.old disk.new (is_disk_halt result) }
 {

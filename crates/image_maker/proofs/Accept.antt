@@ -57,11 +57,11 @@ same_bytes a b is = ap not ((bytes_eq-Decides a b).1 is)
 unset : (flags : ℕ) → flags ≡ 1 → (bit_and flags 2 == 2) ≡ false
 unset flags is = rw is refl
 
-pub header_clear : (h : BlockHeader) (low high : Option Key) (count : ℕ) (body bytes : List ℕ) → HeaderSays h count body bytes →
-    first_failing (header_rules bytes h.fsid (expect_of h low high)) ≡ None
+pub header_clear : (h : BlockHeader) (low high : Option Key) (parent : ℕ) (count : ℕ) (body bytes : List ℕ) → HeaderSays h count body bytes →
+    first_failing (header_rules bytes h.fsid (expect_of h low high parent)) ≡ None
 unfolding header_rules
-header_clear h low high count body bytes says =
-    clear (header_rules bytes h.fsid (expect_of h low high))
+header_clear h low high parent count body bytes says =
+    clear (header_rules bytes h.fsid (expect_of h low high parent))
     (same_is _ _ says.sum, (same_bytes _ _ says.fsid, (same_is _ _ says.address, (unset _ says.flags, (same_is _ _ says.owner, (same_is _ _ says.generation, (same_is _ _ says.level, tt)))))))
 
 and_false : (a : Bool) → (a && false) ≡ false
@@ -104,11 +104,11 @@ in_order : (bytes : List ℕ) (size : ℕ) (keys : List Key) (place : ℕ) → e
     key_below (key_at keys (place - 1)) (key_at keys place) ≡ true → disordered_at bytes size place ≡ false
 in_order bytes size keys place before here below = disordered_is bytes size place ∙ ap (λ k. not (key_below k (entry_key bytes size place))) before ∙ ap (λ k. not (key_below (key_at keys (place - 1)) k)) here ∙ ap not below
 
-pub key_clear : (h : BlockHeader) (low high : Option Key) (keys : List Key) (bytes : List ℕ) → IsBetween low high keys → count_of bytes ≡ length keys →
+pub key_clear : (h : BlockHeader) (low high : Option Key) (parent : ℕ) (keys : List Key) (bytes : List ℕ) → IsBetween low high keys → count_of bytes ≡ length keys →
     ((place : ℕ) → place < length keys → entry_key bytes (entry_size h.level) place ≡ key_at keys place) →
-    first_failing (key_rules bytes (expect_of h low high)) ≡ None
+    first_failing (key_rules bytes (expect_of h low high parent)) ≡ None
 unfolding key_rules
-key_clear h low high keys bytes between count each =
+key_clear h low high parent keys bytes between count each =
     let size : ℕ = entry_size h.level in
     let first : differs_from low (entry_key bytes size 0) ≡ false = first_is low keys (entry_key bytes size 0) between.first (λ some. each 0 some) in
     let order : least_from (disordered_at bytes size) 1 (count_of bytes - 1) ≡ None =
@@ -118,5 +118,5 @@ key_clear h low high keys bytes between count each =
     in_order bytes size keys place (each (place - 1) (omega (arith, count))) (each place (omega (arith, count))) (rw next at up)) in
     let ends : 0 < count_of bytes → reaches high (entry_key bytes size (count_of bytes - 1)) ≡ false =
     λ some. last_is high keys (entry_key bytes size (count_of bytes - 1)) between.last (omega (arith, count)) (each (count_of bytes - 1) (omega (arith, count)) ∙ ap (λ n. key_at keys (n - 1)) count) in
-    clear (key_rules bytes (expect_of h low high))
+    clear (key_rules bytes (expect_of h low high parent))
     (first, (none_some _ order, (last_or_none (count_of bytes) (reaches high (entry_key bytes size (count_of bytes - 1))) ends, tt)))

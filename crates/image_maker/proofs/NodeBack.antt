@@ -52,11 +52,11 @@ old_at h size ps bytes says newest place inside =
 node_size : (level : ℕ) → 0 < level → entry_size level ≡ 33
 node_size level node = rw (not_zero level node) refl
 
-node_body_clear : (h : BlockHeader) (low high : Option Key) (bytes : List ℕ) → 0 < h.level → least_from (newer_at bytes) 0 (count_of bytes) ≡ None →
-    first_failing (body_rules bytes (expect_of h low high)) ≡ None
+node_body_clear : (h : BlockHeader) (low high : Option Key) (parent : ℕ) (bytes : List ℕ) → 0 < h.level → least_from (newer_at bytes) 0 (count_of bytes) ≡ None →
+    first_failing (body_rules bytes (expect_of h low high parent)) ≡ None
 unfolding body_rules
-node_body_clear h low high bytes node none =
-    clear (body_rules bytes (expect_of h low high)) (rw (not_zero h.level node, none) refl, (rw (not_zero h.level node) refl, tt))
+node_body_clear h low high parent bytes node none =
+    clear (body_rules bytes (expect_of h low high parent)) (rw (not_zero h.level node, none) refl, (rw (not_zero h.level node) refl, tt))
 
 node_room : (h : BlockHeader) (size : ℕ) (ps : List ChildPointer) (bytes : List ℕ) → NodeSays h size ps bytes → 0 < h.level → count_of bytes ≤ room_of bytes h.level
 node_room h size ps bytes says node =
@@ -72,14 +72,14 @@ node_reads : (h : BlockHeader) (size : ℕ) (ps : List ChildPointer) (bytes : Li
 node_reads h size ps bytes says =
     let keys_long : count_of bytes ≡ length (pointer_keys ps) = says.header.count ∙ sym (length-map ps (λ (p : ChildPointer). p.key)) in
     record {
-      accepted = λ low high between node some newest.
-          rules_clear h low high bytes
-          (header_clear h low high (length ps) _ bytes says.header)
-          (count_clear bytes (expect_of h low high) (node_room h size ps bytes says node) (λ needs. omega (arith, says.header.count, some)))
-          (key_clear h low high (pointer_keys ps) bytes between keys_long (λ place inside.
+      accepted = λ low high parent between node some newest.
+          rules_clear h low high parent bytes
+          (header_clear h low high parent (length ps) _ bytes says.header)
+          (count_clear bytes (expect_of h low high parent) (node_room h size ps bytes says node) (λ needs. omega (arith, says.header.count, some)))
+          (key_clear h low high parent (pointer_keys ps) bytes between keys_long (λ place inside.
           let within : place < length ps = omega (arith, inside, length-map ps (λ (p : ChildPointer). p.key)) in
           rw (node_size h.level node) ((pointer_found h size ps bytes says place within).key ∙ sym (get_or-map (λ (p : ChildPointer). p.key) ps place no_pointer no_key within))))
-          (node_body_clear h low high bytes node (none_at_all (newer_at bytes) 0 (count_of bytes) (λ place above below. old_at h size ps bytes says newest place (omega (arith, says.header.count)))));
+          (node_body_clear h low high parent bytes node (none_at_all (newer_at bytes) 0 (count_of bytes) (λ place above below. old_at h size ps bytes says newest place (omega (arith, says.header.count)))));
       holds = same_lists (each_from (pointer_of bytes) 0 (count_of bytes)) (map read_pointer ps)
           (length_each (pointer_of bytes) 0 (count_of bytes) ∙ says.header.count ∙ sym (length-map ps read_pointer))
           (λ place d inside.

@@ -69,19 +69,19 @@ placed h size items bytes says (suc place) inside =
     (omega (arith, head.offset, head.size, before.offset, start_next items (size - 101) place no_item room inside))
     (omega (arith, says.header.count, head.offset, start_floor items (size - 101) (suc place) room inside))
 
-leaf_body_clear : (h : BlockHeader) (low high : Option Key) (bytes : List ℕ) → h.level ≡ 0 → least_from (misplaced_at bytes (count_of bytes)) 0 (count_of bytes) ≡ None →
-    first_failing (body_rules bytes (expect_of h low high)) ≡ None
+leaf_body_clear : (h : BlockHeader) (low high : Option Key) (parent : ℕ) (bytes : List ℕ) → h.level ≡ 0 → least_from (misplaced_at bytes (count_of bytes)) 0 (count_of bytes) ≡ None →
+    first_failing (body_rules bytes (expect_of h low high parent)) ≡ None
 unfolding body_rules
-leaf_body_clear h low high bytes leaf none =
-    clear (body_rules bytes (expect_of h low high)) (rw leaf refl, (rw (leaf, none) refl, tt))
+leaf_body_clear h low high parent bytes leaf none =
+    clear (body_rules bytes (expect_of h low high parent)) (rw leaf refl, (rw (leaf, none) refl, tt))
 
-pub rules_clear : (h : BlockHeader) (low high : Option Key) (bytes : List ℕ) →
-    first_failing (header_rules bytes h.fsid (expect_of h low high)) ≡ None → first_failing (count_rules bytes (expect_of h low high)) ≡ None →
-    first_failing (key_rules bytes (expect_of h low high)) ≡ None → first_failing (body_rules bytes (expect_of h low high)) ≡ None →
-    block_fault bytes h.fsid (expect_of h low high) ≡ None
+pub rules_clear : (h : BlockHeader) (low high : Option Key) (parent : ℕ) (bytes : List ℕ) →
+    first_failing (header_rules bytes h.fsid (expect_of h low high parent)) ≡ None → first_failing (count_rules bytes (expect_of h low high parent)) ≡ None →
+    first_failing (key_rules bytes (expect_of h low high parent)) ≡ None → first_failing (body_rules bytes (expect_of h low high parent)) ≡ None →
+    block_fault bytes h.fsid (expect_of h low high parent) ≡ None
 unfolding block_fault
-rules_clear h low high bytes header count keys body =
-    let e : Expect = expect_of h low high in
+rules_clear h low high parent bytes header count keys body =
+    let e : Expect = expect_of h low high parent in
     both_clear (header_rules bytes h.fsid e) (count_rules bytes e ++ (key_rules bytes e ++ body_rules bytes e)) header
     (both_clear (count_rules bytes e) (key_rules bytes e ++ body_rules bytes e) count (both_clear (key_rules bytes e) (body_rules bytes e) keys body))
 
@@ -91,11 +91,11 @@ leaf_size level leaf = rw leaf refl
 leaf_needs_is : (level : ℕ) (low : Option Key) → level ≡ 0 → (not (level == 0) || is_some low) ≡ is_some low
 leaf_needs_is level low leaf = rw leaf refl
 
-leaf_needs : (h : BlockHeader) (low high : Option Key) (items : List LeafItem) → h.level ≡ 0 → IsBetween low high (item_keys items) → needs_entry (expect_of h low high) ≡ true → 0 < length items
-leaf_needs h None high items leaf between needs =
+leaf_needs : (h : BlockHeader) (low high : Option Key) (parent : ℕ) (items : List LeafItem) → h.level ≡ 0 → IsBetween low high (item_keys items) → needs_entry (expect_of h low high parent) ≡ true → 0 < length items
+leaf_needs h None high parent items leaf between needs =
     let none : false ≡ true = sym (leaf_needs_is h.level None leaf) ∙ needs in
     cc
-leaf_needs h (Some low) high items leaf between needs = omega (arith, between.first.0, length-map items (λ (i : LeafItem). i.key))
+leaf_needs h (Some low) high parent items leaf between needs = omega (arith, between.first.0, length-map items (λ (i : LeafItem). i.key))
 
 item_read : (h : BlockHeader) (size : ℕ) (items : List LeafItem) (bytes : List ℕ) → LeafSays h size items bytes → (place : ℕ) → place < length items →
     item_of bytes place ≡ read_item (get_or items place no_item)
@@ -121,14 +121,14 @@ pub leaf_reads : (h : BlockHeader) (size : ℕ) (items : List LeafItem) (bytes :
 leaf_reads h size items bytes says =
     let keys_long : count_of bytes ≡ length (item_keys items) = says.header.count ∙ sym (length-map items (λ i. i.key)) in
     record {
-      accepted = λ low high between.
-          rules_clear h low high bytes
-          (header_clear h low high (length items) _ bytes says.header)
-          (count_clear bytes (expect_of h low high) (leaf_room h size items bytes says) (λ needs. omega (arith, says.header.count, leaf_needs h low high items says.leaf between needs)))
-          (key_clear h low high (item_keys items) bytes between keys_long (λ place inside.
+      accepted = λ low high parent between.
+          rules_clear h low high parent bytes
+          (header_clear h low high parent (length items) _ bytes says.header)
+          (count_clear bytes (expect_of h low high parent) (leaf_room h size items bytes says) (λ needs. omega (arith, says.header.count, leaf_needs h low high parent items says.leaf between needs)))
+          (key_clear h low high parent (item_keys items) bytes between keys_long (λ place inside.
           let within : place < length items = omega (arith, inside, length-map items (λ (i : LeafItem). i.key)) in
           rw (leaf_size h.level says.leaf) ((head_found h size items bytes says place within).key ∙ sym (get_or-map (λ (i : LeafItem). i.key) items place no_item no_key within))))
-          (leaf_body_clear h low high bytes says.leaf (none_at_all (misplaced_at bytes (count_of bytes)) 0 (count_of bytes) (λ place above below. placed h size items bytes says place (omega (arith, says.header.count)))));
+          (leaf_body_clear h low high parent bytes says.leaf (none_at_all (misplaced_at bytes (count_of bytes)) 0 (count_of bytes) (λ place above below. placed h size items bytes says place (omega (arith, says.header.count)))));
       holds = same_lists (each_from (item_of bytes) 0 (count_of bytes)) (map read_item items)
           (length_each (item_of bytes) 0 (count_of bytes) ∙ says.header.count ∙ sym (length-map items read_item))
           (λ place d inside.

@@ -12,10 +12,10 @@ use Rattle.image_maker.specs.declared.block.BlockHeader.{BlockHeader}
 use Rattle.image_maker.specs.declared.leaf_item.LeafItem.{LeafItem}
 use Rattle.image_maker.specs.declared.node.ChildPointer.{ChildPointer}
 
--- where a block with this header is expected, with a low and a high key
-abbrev pub expect_of : BlockHeader → Option Key → Option Key → Expect
-expect_of h low high =
-    record { tree = h.owner; address = h.address; generation = h.generation; level = h.level; low = low; high = high }
+-- where a block with this header is expected, with a low and a high key, below the node at an address
+abbrev pub expect_of : BlockHeader → Option Key → Option Key → ℕ → Expect
+expect_of h low high parent =
+    record { tree = h.owner; address = h.address; generation = h.generation; level = h.level; low = low; high = high; parent = parent }
 
 -- the key at a place
 abbrev pub key_at : List Key → ℕ → Key
@@ -47,7 +47,7 @@ read_item i = record { key = i.key; bytes = i.bytes }
 
 -- a leaf with this header that is accepted and holds these items
 pub record IsLeafOf (h : BlockHeader) (items : List LeafItem) (bytes : List ℕ) : Type 0 where
-  pub accepted : (low high : Option Key) → IsBetween low high (item_keys items) → block_fault bytes h.fsid (expect_of h low high) ≡ None
+  pub accepted : (low high : Option Key) (parent : ℕ) → IsBetween low high (item_keys items) → block_fault bytes h.fsid (expect_of h low high parent) ≡ None
   pub holds : Layout.items_of bytes ≡ map read_item items
 
 -- the keys of pointers
@@ -65,6 +65,6 @@ IsNewest generation (p ∷ ps) = (p.generation ≤ generation) × IsNewest gener
 
 -- a node with this header that is accepted, where it has pointers and none is newer, and holds these
 pub record IsNodeOf (h : BlockHeader) (pointers : List ChildPointer) (bytes : List ℕ) : Type 0 where
-  pub accepted : (low high : Option Key) → IsBetween low high (pointer_keys pointers) → 0 < h.level → 0 < length pointers → IsNewest h.generation pointers
-      → block_fault bytes h.fsid (expect_of h low high) ≡ None
+  pub accepted : (low high : Option Key) (parent : ℕ) → IsBetween low high (pointer_keys pointers) → 0 < h.level → 0 < length pointers → IsNewest h.generation pointers
+      → block_fault bytes h.fsid (expect_of h low high parent) ≡ None
   pub holds : Layout.pointers_of bytes ≡ map read_pointer pointers

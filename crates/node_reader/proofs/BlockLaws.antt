@@ -1,6 +1,6 @@
 -- What callers need of a block that was read, and of the lists of its pointers and items.
 use Rattle.std.proofs.Common.{◌≡◌, ℕ, zero, suc, ◌+◌, ◌-◌, ◌<◌, ◌≤◌, List, [], ◌∷◌, length, get_or, drop, refl, sym, ap, ◌∙◌, arith}
-use Rattle.std.specs.Prelude.{Option, Some, None, Ok, Err}
+use Rattle.std.specs.Prelude.{Some, None, Ok, Err}
 use Rattle.verdict.specs.declared.finding.Finding.{Finding}
 use Rattle.node_reader.specs.Places.{each_from}
 use Rattle.verdict.proofs.Tables.{finding_or-ok, finding_or-err}

@@ -4,7 +4,7 @@ use Rattle.std.specs.Prelude.{Option, Some, None}
 use Rattle.verdict.specs.Rules.{TableRow, first_failing, or_found}
 use Rattle.verdict.specs.declared.key.Key.{Key}
 use Rattle.verdict.specs.declared.finding.Finding.{Finding}
-use Rattle.verdict.proofs.Tables.{first_failing_joined, joined_none}
+use Rattle.verdict.proofs.Tables.{first_failing_joined}
 use Rattle.node_reader.specs.Faults.{header_rules, count_rules, key_rules, order_rules, high_rule, body_rules, block_fault}
 use Rattle.node_reader.specs.HighLaw.{under, rules_before, high_fault, fault_with, HighDecides}
 use Rattle.node_reader.specs.declared.expect.Expect.{Expect}

@@ -1,9 +1,8 @@
 -- A block that breaks no rule is sound: its entries and its items' bytes lie inside it.
-use Rattle.std.proofs.Common.{◌≡◌, ℕ, zero, suc, ◌+◌, ◌-◌, ◌*◌, ◌<◌, ◌≤◌, List, [], ◌∷◌, ◌++◌, length, Bool, true, false, not, cond, refl, sym, subst, ◌∙◌, arith, nat_lt}
+use Rattle.std.proofs.Common.{◌≡◌, ℕ, zero, suc, ◌+◌, ◌-◌, ◌*◌, ◌<◌, ◌≤◌, List, ◌++◌, length, Bool, true, false, not, cond, refl, sym, subst, ◌∙◌, arith, nat_lt}
 use Rattle.std.proofs.lemmas.Grind.{common_steps}
 use Rattle.std.specs.Prelude.{Option, Some, None, is_some, ◌==◌, ◌||◌, ◌&&◌, if◌then◌else◌}
-use Rattle.verdict.specs.Rules.{TableRow, first_failing}
-use Rattle.verdict.specs.declared.finding.Finding.{Finding}
+use Rattle.verdict.specs.Rules.{first_failing}
 use Rattle.node_reader.specs.Places.{least_from}
 use Rattle.node_reader.specs.Layout.{count_of, level_of, entry_size, item_offset, item_size, IsSound}
 use Rattle.node_reader.specs.Faults.{header_rules, count_rules, key_rules, body_rules, block_fault, misplaced_at, end_before, room_of, needs_entry}

@@ -1,7 +1,7 @@
 -- The steps of the loops over a block's entries, and of a table of rules in parts.
-use Rattle.std.proofs.Common.{◌≡◌, ℕ, zero, suc, ◌+◌, ◌-◌, ◌*◌, ◌<◌, ◌≤◌, List, [], ◌∷◌, ◌++◌, Bool, true, false, not, cond, refl, arith}
+use Rattle.std.proofs.Common.{◌≡◌, ℕ, zero, suc, ◌+◌, ◌-◌, ◌*◌, ◌<◌, ◌≤◌, List, Bool, true, false, not, cond, refl, arith}
 use Rattle.std.proofs.Math.Nat.{mul-suc, mul-le-mul_left, mul-div-le}
-use Rattle.std.specs.Prelude.{Option, Some, None, ◌/◌, ◌==◌, ◌||◌, nat_lt}
+use Rattle.std.specs.Prelude.{Some, None, ◌/◌, ◌==◌, ◌||◌, nat_lt}
 use Rattle.recon_bytes.specs.Field.{field}
 use Rattle.verdict.specs.OnDisk.{key_below}
 use Rattle.node_reader.specs.Layout.{generation_of, entry_start, entry_key, item_offset, item_size}

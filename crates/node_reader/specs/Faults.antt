@@ -1,5 +1,5 @@
 -- The rules of a tree block in their order, for a block that is expected somewhere in the walk of a tree.
-use Rattle.std.specs.Prelude.{ℕ, ◌+◌, ◌-◌, ◌*◌, ◌/◌, zero, suc, Bool, not, ◌&&◌, ◌||◌, ◌==◌, nat_lt, false, if◌then◌else◌, List, [], ◌∷◌, ◌++◌, length, drop, slice_index, bit_and, bytes_eq, Option, Some, None, is_some, Result, Ok, Err}
+use Rattle.std.specs.Prelude.{ℕ, ◌+◌, ◌-◌, ◌*◌, ◌/◌, zero, suc, Bool, not, ◌&&◌, ◌||◌, ◌==◌, nat_lt, false, if◌then◌else◌, List, [], ◌∷◌, ◌++◌, length, drop, slice_index, bit_and, bytes_eq, Option, Some, None, is_some, Result}
 use Rattle.recon_bytes.specs.Field.{field}
 use Rattle.recon_crc.specs.Checksum.{crc32c_of}
 use Rattle.verdict.specs.Image.{range}

@@ -1,7 +1,7 @@
 -- A tree block: a header of 101 bytes, and behind it entries of one size back to back, which are
 -- pointers of 33 bytes in a node and items of 25 bytes in a leaf. An item's bytes lie towards the end
 -- of the leaf, and its offset counts from the end of the header.
-use Rattle.std.specs.Prelude.{ℕ, ◌+◌, ◌*◌, ◌<◌, ◌≤◌, ◌≡◌, Bool, ◌&&◌, ◌||◌, ◌==◌, nat_lt, if◌then◌else◌, List, length, slice_index, Option, Some, None}
+use Rattle.std.specs.Prelude.{ℕ, ◌+◌, ◌*◌, ◌<◌, ◌≤◌, ◌≡◌, ◌==◌, if◌then◌else◌, List, length, slice_index, Option, Some, None}
 use Rattle.recon_bytes.specs.Field.{field}
 use Rattle.verdict.specs.Image.{range}
 use Rattle.verdict.specs.OnDisk.{key_of}

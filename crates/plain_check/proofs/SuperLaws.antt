@@ -2,7 +2,7 @@
 use Rattle.std.proofs.Common.{◌≡◌, ℕ, ◌<◌, ◌≤◌, true, false, List, length, nat_lt, Option, Some, None, Err, refl, ap, sym, ◌∙◌, arith}
 use Rattle.std.specs.Ordering.{nat_cmp}
 use Rattle.std.specs.FinMap.{FinMap}
-use Rattle.std.specs.Prelude.{IfSome, Result, Ok}
+use Rattle.std.specs.Prelude.{IfSome, Result}
 use Rattle.verdict.specs.Image.{range}
 use Rattle.verdict.specs.Rules.{image_finding}
 use Rattle.verdict.specs.declared.finding.Family.TheVariants.{S}

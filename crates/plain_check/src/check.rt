@@ -71,7 +71,11 @@ fn system_chunks(alloc: Global, sup: &Super) -> Result<ChunkMap, Halt>
 // The chunks of the chunk tree, where the rules on the chunk map keep. It is walked through the chunks of the system
 // array.
 #[tactic(auto, unfolding(records::specs::Contents::chunk_map_in), using(block_source::proofs::Copies::overlays))]
-fn chunk_map<D: Disk>(alloc: Global, disk: &mut D, volume: &BlockSource<'_>) -> Result<ChunkMap, Halt>
+fn chunk_map<D: Disk>(
+    alloc: Global,
+    disk: &mut D,
+    volume: &BlockSource<'_>,
+) -> Result<ChunkMap, Halt>
     requires size { is_node_size volume.now.sup.now.nodesize ≡ true }
     requires end { volume.now.end ≡ D.len disk.old }
     ensures gives { let sup = volume.now.sup.now in

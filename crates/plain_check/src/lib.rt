@@ -7,7 +7,7 @@ mod primary;
 mod roots;
 mod takers;
 
-pub use block_source::{Fault, read_under};
+pub use block_source::{BlockSource, Fault, read_under, walk_tree};
 pub use judging::judge;
 pub use primary::superblock;
 pub use verdict::Verdict;

@@ -40,10 +40,12 @@ impl Taker for Chunks {
 
     fn take(&mut self, one: &Record<'_>) -> Result<(), NoMemory> {
         match one {
-            Record::Item(RecAt {
-                part: Rec::ChunkItem(item),
-                ..
-            }) => self.map.add(&item.chunk()),
+            Record::Item(
+                RecAt {
+                    part: Rec::ChunkItem(item),
+                    ..
+                },
+            ) => self.map.add(&item.chunk()),
             _ => Ok(()),
         }
     }

@@ -1,11 +1,10 @@
 -- What an accepted image has.
-use Rattle.std.proofs.Common.{◌≡◌, ℕ, List, ◌∷◌, refl, ap, sym, ◌∙◌}
+use Rattle.std.proofs.Common.{◌≡◌, ℕ, List, ◌∷◌, refl, ap, ◌∙◌}
 use Rattle.std.specs.Prelude.{Result, Ok, Err}
 use Rattle.std.specs.List.{filter_map}
 use Rattle.verdict.specs.Rules.{and_then, finding_or}
 use Rattle.verdict.specs.declared.finding.Finding.{Finding}
-use Rattle.verdict.specs.declared.finding.Verdict.{Verdict}
-use Rattle.verdict.specs.declared.finding.Verdict.TheVariants.{Accept, Found}
+use Rattle.verdict.specs.declared.finding.Verdict.TheVariants.{Accept}
 use Rattle.super_reader.specs.declared.Super.{Super}
 use Rattle.super_reader.specs.Superblock.{array_place}
 use Rattle.volume_items.specs.SystemArray.{array_chunks}

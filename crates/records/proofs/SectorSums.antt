@@ -2,12 +2,8 @@
 use Rattle.std.proofs.Common.{◌≡◌, ℕ, ◌+◌, ◌==◌, ◌&&◌, ◌||◌, Bool, true, false, not, cond, List, [], ◌∷◌, ◌++◌, map, refl, ap, sym, ◌∙◌, subst, arith}
 use Rattle.std.specs.Prelude.{Option, Some, None, nat_lt}
 use Rattle.std.specs.List.{AllByRecursion, filter, flat_map}
-use Rattle.std.specs.Ordering.{is_eq, nat_cmp, ordering_then}
-use Rattle.std.specs.declared.cmp.Ordering.{Ordering}
-use Rattle.std.specs.declared.cmp.Ordering.TheVariants.{Less, Equal, Greater}
 use Rattle.std.proofs.lemmas.Bool.{eqb-true, eq-eqb}
 use Rattle.extent_items.specs.declared.reference.Reference.{Reference}
-use Rattle.extent_items.specs.ExtentRow.{ExtentFields}
 use Rattle.fs_items.specs.declared.file_extent.FileExtent.{FileExtent}
 use Rattle.fs_items.specs.declared.inode.InodeItem.{InodeItem}
 use Rattle.fs_items.specs.DirRow.{EntryFields}
@@ -16,15 +12,15 @@ use Rattle.verdict.specs.Chunks.{home}
 use Rattle.accounts.specs.declared.account.Account.{Account}
 use Rattle.accounts.specs.declared.context.Home.{Home}
 use Rattle.accounts.specs.declared.postings.Posting.{Posting}
-use Rattle.accounts.specs.Context.{Context, home_in, home_of}
+use Rattle.accounts.specs.Context.{Context, home_of}
 use Rattle.accounts.specs.Kinds.{inode_type, sector}
 use Rattle.accounts.specs.OrderLaws.{account_equiv}
 use Rattle.accounts.specs.Sums.{added, is_same, total_of}
 use Rattle.accounts.proofs.Same.{same_account}
 use Rattle.records.specs.Post.{to}
 use Rattle.records.specs.Part.{Part}
-use Rattle.records.specs.Part.Part.{RootPart, LinkPart, DevicePart, ChunkPart, DevExtentPart, ExtentPart, KeyedPart, GroupPart, InodePart, NamesPart, XattrPart, OrphanPart, EntriesPart, FileExtentPart, SumsPart, UnreadPart, SuperPart, BlockPart}
-use Rattle.records.specs.ExtentPostings.{extent_postings, has_extent, reference_account, reference_postings}
+use Rattle.records.specs.Part.Part.{RootPart, LinkPart, DevicePart, ChunkPart, DevExtentPart, ExtentPart, KeyedPart, GroupPart, InodePart, NamesPart, XattrPart, OrphanPart, EntriesPart, FileExtentPart, SumsPart, SuperPart, BlockPart}
+use Rattle.records.specs.ExtentPostings.{extent_postings, has_extent, reference_postings}
 use Rattle.records.specs.InodePostings.{inode_entry_postings, inode_name_postings, inode_postings, size_postings, type_of_mode}
 use Rattle.records.specs.DirPostings.{dir_entry_postings, dir_postings, is_root_name, is_subvolume_id, link_postings}
 use Rattle.records.specs.SpacePostings.{extent_length, is_data, is_other_class, is_to_sector, owned_postings, place_postings, rest_postings, sector_sum, sectors_from, sectors_of, shown_postings, shows_sums, space_postings}

@@ -1,5 +1,5 @@
 -- What a record says of names in directories and of subvolumes: the accounts A11 to A14 and A17.
-use Rattle.std.specs.Prelude.{ℕ, Bool, not, ◌&&◌, ◌==◌, nat_le, List, [], ◌∷◌, ◌++◌, flat_map, if◌then◌else◌}
+use Rattle.std.specs.Prelude.{ℕ, Bool, ◌&&◌, ◌==◌, nat_le, List, [], ◌∷◌, flat_map, if◌then◌else◌}
 use Rattle.verdict.specs.declared.key.Key.{Key}
 use Rattle.recon_crc.specs.Checksum.{name_hash_of}
 use Rattle.volume_items.specs.declared.root.RootItem.{RootItem}

@@ -1,6 +1,5 @@
 -- What a record says of inodes and their types: the accounts A9 and A10.
-use Rattle.std.specs.Prelude.{ℕ, Bool, ◌==◌, ◌||◌, bit_and, List, [], ◌∷◌, ◌++◌, length, flat_map, if◌then◌else◌}
-use Rattle.verdict.specs.declared.key.Key.{Key}
+use Rattle.std.specs.Prelude.{ℕ, ◌==◌, ◌||◌, bit_and, List, [], ◌∷◌, ◌++◌, length, flat_map, if◌then◌else◌}
 use Rattle.fs_items.specs.declared.inode.InodeItem.{InodeItem}
 use Rattle.fs_items.specs.declared.file_extent.FileExtent.{FileExtent}
 use Rattle.fs_items.specs.InodeRefRow.{NameFields}

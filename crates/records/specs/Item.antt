@@ -1,5 +1,5 @@
 -- The record of an item as a whole: the tree's sort and the kind say which row decides.
-use Rattle.std.specs.Prelude.{ℕ, Bool, false, ◌||◌, ◌==◌, List, Result, Ok, Err, if◌then◌else◌}
+use Rattle.std.specs.Prelude.{ℕ, ◌||◌, ◌==◌, List, Result, Ok, Err, if◌then◌else◌}
 use Rattle.verdict.specs.Rules.{and_then}
 use Rattle.verdict.specs.Items.{item_finding}
 use Rattle.verdict.specs.declared.key.Key.{Key}

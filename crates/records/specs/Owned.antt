@@ -1,5 +1,4 @@
 -- What a record says that owns its bytes.
-use Rattle.std.specs.Prelude.{drop}
 use Rattle.volume_items.specs.ChunkRow.{stripes_of}
 use Rattle.extent_items.specs.References.{references_of}
 use Rattle.fs_items.specs.InodeRefRow.{names_from}

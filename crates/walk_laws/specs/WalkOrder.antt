@@ -1,5 +1,5 @@
 -- The order of what a walk gives.
-use Rattle.std.specs.Prelude.{◌≡◌, ℕ, true, List, [], ◌∷◌, Ok}
+use Rattle.std.specs.Prelude.{◌≡◌, true, List, [], ◌∷◌, Ok}
 use Rattle.verdict.specs.OnDisk.{key_below}
 use Rattle.verdict.specs.declared.key.Key.{Key}
 use Rattle.super_reader.specs.declared.Super.{Super}

@@ -3,8 +3,8 @@
 
 ghost use Rattle.walk_laws.specs.WalkOrder.{WalksAscend};
 
-/// The keys of the items that a walk gives ascend, whatever is stored: each stands before all later ones, by object id, then
-/// kind, then offset, as unsigned numbers.
+/// The keys of the items that a walk gives ascend, whatever is stored: each stands before all later ones, by object id,
+/// then kind, then offset, as unsigned numbers.
 pub fn walks_ascend()
     ensures { WalksAscend }
 {}

@@ -1,9 +1,7 @@
-use Rattle.std.proofs.Common.{rules, ◌+◌, drop, get_or, subst}
-use Rattle.std.specs.Prelude.{None}
+use Rattle.std.proofs.Common.{rules, ◌+◌, drop, get_or}
 use Rattle.std.proofs.lemmas.List.{drop_more}
 use Rattle.volume_items.specs.declared.root.RootItem.{RootItem}
 use Rattle.records.specs.Contents.{named_root, tree_records}
-use Rattle.records.specs.Takes.{held_after}
 use Rattle.records.specs.Walk.{walk_in}
 use Rattle.block_source.proofs.Walking.{then_held, then_same}
 use Rattle.plain_check.proofs.check.walk_trees.Goals as goal

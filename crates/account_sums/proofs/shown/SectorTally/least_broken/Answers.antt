@@ -1,9 +1,8 @@
-use Rattle.std.proofs.Common.{rules, ◌≡◌, ◌+◌, ◌∙◌, ◌++◌, ◌∷◌, [], ℕ, false, true, refl, ap, sym, subst}
-use Rattle.std.specs.Prelude.{not}
+use Rattle.std.proofs.Common.{rules, ◌+◌, ◌∙◌, ap, sym, subst}
 use Rattle.std.proofs.Math.Path.{fun_ext}
 use Rattle.sector_runs.specs.Edges.{sums_of}
 use Rattle.sector_runs.specs.Runs.{IsLeastBroken}
-use Rattle.account_sums.specs.Kept.{free_in, sectors_in, shown_sums}
+use Rattle.account_sums.specs.Kept.{free_in, shown_sums}
 use Rattle.account_sums.proofs.ShownSums.{left_out, moved, none_left}
 use Rattle.account_sums.proofs.shown.SectorTally.least_broken.Goals as goal
 

@@ -1,12 +1,10 @@
-use Rattle.std.proofs.Common.{rules, ◌≡◌, ◌∙◌, ◌+◌, ℕ, cond, ap, sym}
+use Rattle.std.proofs.Common.{◌≡◌, ◌∙◌, ap, sym}
 use Rattle.std.specs.Prelude.{Some}
 use Rattle.accounts.specs.Context.{Context}
-use Rattle.records.specs.Part.{located, part_of}
+use Rattle.records.specs.Part.{located}
 use Rattle.records.specs.SpacePostings.{sector_sum}
 use Rattle.sector_runs.specs.Edges.{sums_of}
-use Rattle.sector_runs.specs.Runs.{amount_in, amount_of}
-use Rattle.fs_items.specs.declared.file_extent.FileExtent.{FileExtent}
-use Rattle.account_sums.specs.Kept.{sectors_in}
+use Rattle.sector_runs.specs.Runs.{amount_in}
 use Rattle.account_sums.specs.Sums.{context_with, none_free}
 use Rattle.account_sums.proofs.ShownSums.{added_run, on_ok, with_none, with_other, with_shown}
 use Rattle.account_sums.proofs.shown.SectorTally.take.Goals as goal

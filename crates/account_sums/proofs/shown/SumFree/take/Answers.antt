@@ -1,4 +1,4 @@
-use Rattle.std.proofs.Common.{◌≡◌, ◌∙◌, ap, sym}
+use Rattle.std.proofs.Common.{◌∙◌, ap, sym}
 use Rattle.account_sums.specs.Kept.{free_in}
 use Rattle.account_sums.specs.Sums.{or_free}
 use Rattle.account_sums.proofs.Inodes.{noted}
