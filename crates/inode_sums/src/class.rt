@@ -65,12 +65,10 @@ impl Gathered {
         if self.entries != 0 || self.typed != 0 {
             return None;
         }
-        Some(Gathered {
-            f: self.f,
-            sort,
-            entries: 0,
-            typed: 1,
-        })
+        let mut more = self;
+        more.sort = sort;
+        more.typed = 1;
+        Some(more)
     }
 
     // Whether of the sums that have to be equal each is.
