@@ -277,3 +277,25 @@ unfolding total_of added
 type_total tree ino sort more is a n =
     ap (λ m. total_of (gathered_postings tree ino m) a n) is
     ∙ (zero_dropped _ _ _ (zero_dropped _ _ _ (zero_dropped _ _ _ (zero_dropped _ _ _ (zero_dropped _ _ _ (zero_dropped _ _ _ (zero_dropped _ _ _ (zero_dropped _ _ _ (zero_dropped _ _ _ (zero_dropped _ _ _ refl))))))))))
+
+-- ---- an item that says a type
+
+no_more : (b : Bool) → ◌≡◌ {A = ℕ} (cond b 0 0) 0
+no_more true = refl
+no_more false = refl
+
+tail_more : (x0 x1 x2 x3 x4 x5 x6 x7 x8 more : ℕ) (a b c : Bool)
+    → x0 + (x1 + (x2 + (x3 + (x4 + (x5 + (x6 + (x7 + (x8 + (cond a 0 0 + (more + 0))))))))))
+    ≡ (x0 + (x1 + (x2 + (x3 + (x4 + (x5 + (x6 + (x7 + (x8 + (cond b 0 0 + (cond c 0 0 + 0))))))))))) + (more + 0)
+tail_more x0 x1 x2 x3 x4 x5 x6 x7 x8 more a b c = let i = no_more a in let j = no_more b in let k = no_more c in omega (arith, i, j, k)
+
+pub typed_total : (tree ino sort : ℕ) (old : Gathered) → old.entries ≡ 0 → old.typed ≡ 0 → (a : Account) (n : ℕ)
+    → total_of (gathered_postings tree ino (record { f = old.f; sort = sort; entries = 0; typed = 1 })) a n
+    ≡ total_of (gathered_postings tree ino old) a n + total_of (to (inode_type tree ino sort) 1 1 ∷ []) a n
+unfolding total_of added
+typed_total tree ino sort old none nothing a n =
+    let s : Bool = is_same (inode tree ino) a in
+    let u : Bool = is_same (inode_type tree ino old.sort) a in
+    let here : total_of (gathered_postings tree ino old) a n ≡ amounts s u (slice_index old.f) 0 0 n =
+    amounts_of tree ino old a n ∙ (λ i. amounts s u (slice_index old.f) (none i) (nothing i) n) in
+    tail_more _ _ _ _ _ _ _ _ _ _ _ _ _ ∙ ap (λ k. k + total_of (to (inode_type tree ino sort) 1 1 ∷ []) a n) (sym here)

@@ -20,7 +20,7 @@ use Rattle.inode_sums.specs.declared.class.InodeClass.{InodeClass}
 use Rattle.inode_sums.specs.declared.tally.Own.{Own}
 use Rattle.inode_sums.specs.Held.{aside, class_in, class_postings, gathered_postings, inode_cmp, inode_of, no_class, no_sums_of, sums_with, to, widened}
 use Rattle.inode_sums.specs.Joined.{IsJoined, Joins}
-use Rattle.inode_sums.proofs.Amounts.{joined_kept, none_at, none_gathered, raised_kept}
+use Rattle.inode_sums.proofs.Amounts.{joined_kept, none_at, none_gathered, raised_kept, typed_total}
 
 -- ---- what is kept of sums of sums
 
@@ -77,6 +77,19 @@ own_more sums entry tree ino old new field amount is types =
     y : ℕ = total_of (gathered_postings tree ino old) a n in let
     z : ℕ = total_of (to (inode tree ino) field amount ∷ []) a n in let
     e : x + (y + z) ≡ (x + y) + z = omega arith in e))))
+
+-- an item more that says its type
+pub own_typed : (sums : Sums) (entry : ℕ × ℕ → Option InodeClass) (tree ino sort : ℕ) (old : Gathered) → old.entries ≡ 0 → old.typed ≡ 0
+    → sums_with sums entry (record { tree = tree; ino = ino; sums = record { f = old.f; sort = sort; entries = 0; typed = 1 } })
+    ≡ with_postings (sums_with sums entry (record { tree = tree; ino = ino; sums = old })) (to (inode_type tree ino sort) 1 1 ∷ [])
+own_typed sums entry tree ino sort old none nothing =
+    more_aside sums entry entry (record { tree = tree; ino = ino; sums = old }) (record { tree = tree; ino = ino; sums = record { f = old.f; sort = sort; entries = 0; typed = 1 } })
+    (to (inode_type tree ino sort) 1 1 ∷ [])
+    (λ a. ap (kept a.kind) (fun_ext (λ n. (let
+    x : ℕ = total_of (class_postings (inode_of a) (class_in (entry (inode_of a)))) a n in let
+    h = typed_total tree ino sort old none nothing a n in let
+    e : x + total_of (gathered_postings tree ino (record { f = old.f; sort = sort; entries = 0; typed = 1 })) a n
+    ≡ (x + total_of (gathered_postings tree ino old) a n) + total_of (to (inode_type tree ino sort) 1 1 ∷ []) a n = omega (arith, h) in e))))
 
 -- what was gathered is given, and nothing is gathered
 pub own_given : (sums : Sums) (entry : ℕ × ℕ → Option InodeClass) (own : Own) (tree ino : ℕ)

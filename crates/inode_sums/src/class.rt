@@ -57,6 +57,20 @@ impl Gathered {
         Some(more)
     }
 
+    // One item that says a type beside the sums of the inode, or `None` where a type is said already.
+    pub fn typed_as(self, sort: u8) -> Option<Gathered>
+        ensures { IfSome result (λ more. (self.entries ≡ 0) × (self.typed ≡ 0)
+            × (more ≡ record { f = self.f; sort = sort; entries = 0; typed = 1 })) }
+    {
+        if self.entries != 0 || self.typed != 0 {
+            return None;
+        }
+        let mut more = self;
+        more.sort = sort;
+        more.typed = 1;
+        Some(more)
+    }
+
     // Whether of the sums that have to be equal each is.
     fn is_settled(&self) -> bool
         ensures { result ≡ true → (slice_index self.now.f 2 ≡ slice_index self.now.f 3)

@@ -103,6 +103,12 @@ impl InodeTally {
         ensures { OnOk result (sums_held self.new ≡ with_postings (sums_held self.old)
             (to (kinds.inode_type tree ino sort) 1 1 ∷ [])) }
     {
+        if self.own.tree == tree && self.own.ino == ino {
+            if let Some(sums) = self.own.sums.typed_as(sort) {
+                self.own.sums = sums;
+                return Ok(());
+            }
+        }
         let more = Gathered {
             f: [0, 0, 0, 0, 0, 0, 0, 0, 0],
             sort,
