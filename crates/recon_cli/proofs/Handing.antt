@@ -20,9 +20,9 @@ pub no_lines : {K : Type 0} {sinks : SinkGhosts K} {style : Style} {old new : K}
 no_lines {sinks = sinks} {old = old} same = record { lines = []; pieces = same ∙ nothing_behind (sinks.pieces old) }
 
 -- one was, in one write
-pub one_line : {K : Type 0} {sinks : SinkGhosts K} {style : Style} {old new : K} {piece : List ℕ} (line : Line) → piece ≡ line_in style line
-    → sinks.pieces new ≡ option_map (λ before. before ++ piece ∷ []) (sinks.pieces old) → TookLines sinks style old new
-one_line {sinks = sinks} {old = old} line is took = record { lines = line ∷ []; pieces = took ∙ ap (λ p. option_map (λ before. before ++ p ∷ []) (sinks.pieces old)) is }
+pub one_line : {K : Type 0} {sinks : SinkGhosts K} {style : Style} {old new : K} {piece : List ℕ} (line : Line) → sinks.pieces new ≡ option_map (λ before. before ++ piece ∷ []) (sinks.pieces old)
+    → piece ≡ line_in style line → TookLines sinks style old new
+one_line {sinks = sinks} {old = old} line took is = record { lines = line ∷ []; pieces = took ∙ ap (λ p. option_map (λ before. before ++ p ∷ []) (sinks.pieces old)) is }
 
 -- further ones were
 pub more_lines : {K : Type 0} {sinks : SinkGhosts K} {style : Style} {old mid new : K} → TookLines sinks style old mid → TookLines sinks style mid new → TookLines sinks style old new
