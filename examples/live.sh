@@ -34,10 +34,10 @@ fi
 
 # Of the trace: `whole` ends with a settle, as a client that leaves does; `before` ends before the last commit; `hurt`
 # is `before` and that commit, where a leaf of the extent tree says one use more of an extent; and two ways to go on.
-"$python" - "$OLDPWD/examples" 2> errors <<'PYTHON' || fail "the trace is cut, or its last commit has no such leaf"
+"$python" - "$OLDPWD/examples" 2> errors <<'PYTHON' || fail "the trace is cut, or its last commit has no such leaf: $(tail -n 1 errors)"
 import struct, sys
 sys.path.insert(0, sys.argv[1])
-from base_image import crc32c
+from made_image import crc32c
 
 trace = bytearray(open('trace', 'rb').read())
 writes, commits, at = [], [], 16
