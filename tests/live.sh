@@ -1,8 +1,9 @@
 #!/usr/bin/env bash
 # Tries that `recon replay` answers each record before the next one is written, by a pipe. Then examples/live.sh, and
-# where nbdkit is there what the bridge does where something goes wrong: an image, a program or a parameter that is no
-# good, a program whose lines end early or are others. Prints one line at the end, and ends with 1 at the first that
-# differs.
+# where nbdkit is there what a client reads at random (tests/bridge_reads.py), what the log of judged events has, and what
+# the bridge does where something goes wrong: an image, a program, a log or a parameter that is no good, a program that is
+# killed or whose lines end early or are others, a client that is cut off, SIGTERM. Prints one line at the end, and ends
+# with 1 at the first that differs.
 #
 # Usage: tests/live.sh [PROGRAM]. By default the program is the one that `rt ci` or `rt run` left.
 set -eu
@@ -80,7 +81,7 @@ stand_in() { # LINE..: a program in recon's place that writes these lines and no
 }
 image="image=$folder/image" ours="recon=$RECON" stand_in="recon=$folder/stand-in"
 
-# A commit that passes and one that does not; what waits is passed in between where little may wait.
+# A commit that passes and one that does not; what is pending is passed in between where little may be.
 serve 1 'commit 2 rejected S2 ' "$play" "$image" "$ours"
 grep -qxF 'nbd_bridge: end passed 1 rejected 1' "$folder/errors" || fail 'other commits or settles than the two commits'
 cp "$folder/image" "$folder/after"
@@ -96,11 +97,29 @@ serve 0 'nbd_bridge: end passed 2 rejected 0' \
 # Reads, of all the disk and of what waits.
 read="open(\"$folder/read\", \"wb\").write(h.pread(32 << 20, 0))"
 serve 0 'nbd_bridge: end passed 1 rejected 0' "$(client "h.pwrite(b\"a\" * 512, 31 << 20); $read")" "$image" "$ours"
-cmp -s "$folder/image" "$folder/start" && fail 'what waited did not reach the image'
+cmp -s "$folder/image" "$folder/start" && fail 'what was pending did not reach the image'
 cmp -s "$folder/image" "$folder/read" || fail 'a client reads other bytes than it leaves on the image'
+reads="'$python' tests/bridge_reads.py \"\$uri\" '$folder/start'"
+serve 0 ' rejected 0' "$reads 1000" "$image" "$ours" waiting=8M
+serve 0 ' rejected 1' "$reads 100 reject" "$image" "$ours"
 # A live block that is written over in place.
 serve 1 'settle 1 rejected N' "$(client 'h.pwrite(b"a" * 512, 5 << 20); h.flush()')" "$image" "$ours"
 cmp -s "$folder/image" "$folder/start" || fail 'a live block that was written over reached the image'
+
+# The log has the members of `recon replay --json` with a time and milliseconds; what a finding means is said.
+serve 1 'commit 2 rejected S2 ' "$play" "$image" "$ours" log="$folder/log"
+grep -qF '(S2, S3, S4: the superblock has no magic' "$folder/errors" || fail 'what the finding means is not said'
+grep -qF 'IMAGE is as before this commit' "$folder/errors" || fail 'that the image is as before is not said'
+cp "$folder/start" "$folder/image"
+"$RECON" replay --json "$folder/image" < "$folder/trace" | grep '"event":"commit"' > "$folder/json" || true
+sed -E 's/"milliseconds":[0-9.]+,//; s/,"time":"[-0-9T:.]+\+00:00"//' "$folder/log" | cmp -s - "$folder/json" ||
+    fail "the log has other lines: $(head -n 1 "$folder/log")"
+serve 1 '/dev/full cannot be appended to: No space left on device' "$play" "$image" "$ours" log=/dev/full
+grep -qxF 'nbd_bridge: end passed 1 rejected 1' "$folder/errors" || fail 'a full disk under the log changed a verdict'
+cmp -s "$folder/image" "$folder/after" || fail 'a full disk under the log changed what reached the image'
+serve 1 "No such file or directory: '$folder/none/log'" true "$image" "$ours" log="$folder/none/log"
+serve 1 'is IMAGE or another disk' true "$image" "$ours" log="$folder/image"
+cmp -s "$folder/image" "$folder/start" || fail 'a log that is the image changed it'
 
 # What ends the bridge before it serves.
 serve 1 'image=IMAGE is missing' true "$ours"
@@ -118,8 +137,47 @@ serve 1 'pwrite: error: OSError: recon ended without a line' "$play" "$image" "$
 stand_in 'image accepted generation 1' 'commit 2 passed generation 2 blocks 0 hot 0'
 serve 1 'pwrite: error: OSError: commit 2 passed ' "$play" "$image" "$stand_in"
 stand_in 'image accepted generation 1' "fetch 1 512 $(printf '%01024d' 0)"
-serve 1 'pread: error: ' "$(client 'h.pread(512, 0)')" "$image" "$stand_in"
+serve 1 'pread: error: ' "$(client 'h.pwrite(b"a" * 512, 0); h.pread(512, 0)')" "$image" "$stand_in"
 serve 1 'flush: error: OSError: fetch 1 512 00' "$(client 'h.pwrite(b"a" * 512, 0); h.flush()')" "$image" "$stand_in"
+
+# A program that is killed: no read is answered afterwards, neither of what is pending nor of the rest.
+printf '#!/bin/sh\necho $$ > "%s"\nexec "%s" "$@"\n' "$folder/pid" "$RECON" > "$folder/stand-in"
+killed='import os
+h.pwrite(b"a" * 512, 31 << 20)
+os.kill(int(open("'"$folder/pid"'").read()), 9)
+failed = 0
+for request in (lambda: h.pread(512, 31 << 20), lambda: h.pread(512, 0), lambda: h.pwrite(b"a", 0), h.flush):
+    try:
+        request()
+    except nbd.Error:
+        failed += 1
+print(failed)'
+serve 1 'pread: error: OSError: recon ended without a line' "$(client "$killed")" "$image" "$stand_in"
+[ "$(cat "$folder/out")" = 4 ] || fail "of 4 requests after recon was killed $(cat "$folder/out") failed"
+cmp -s "$folder/image" "$folder/start" || fail 'a write without a verdict reached the image'
+
+# A client that is cut off in a write: none of it arrives, what it wrote before is judged.
+cut='import os
+h.pwrite(b"a" * 512, 31 << 20)
+h.aio_pwrite(nbd.Buffer.from_bytearray(bytearray(8 << 20)), 22 << 20)
+os._exit(0)'
+serve 0 'nbd_bridge: end passed 1 rejected 0' "$(client "$cut")" "$image" "$ours"
+cmp -s "$folder/image" "$folder/read" || fail 'a client that was cut off left another image'
+
+# SIGTERM while a client is there: what is pending is judged before the bridge ends.
+cp "$folder/start" "$folder/image"
+nbdkit -f -P "$folder/pid" -U "$folder/socket" python examples/nbd_bridge.py "$image" "$ours" 2> "$folder/errors" &
+serving=$!
+for _ in $(seq 600); do [ -S "$folder/socket" ] && break; sleep 0.1; done
+uri="nbd+unix:///?socket=$folder/socket"
+"$python" -m nbd -u "$uri" -c 'import os
+h.pwrite(b"a" * 512, 31 << 20)
+os.kill(int(open("'"$folder/pid"'").read()), 15)
+h.poll(60000)'
+wait $serving || fail "after SIGTERM status $?: $(head -n 1 "$folder/errors")"
+grep -qxF 'nbd_bridge: end passed 1 rejected 0' "$folder/errors" || fail "after SIGTERM: $(cat "$folder/errors")"
+cmp -s "$folder/image" "$folder/read" || fail 'what was pending at SIGTERM did not reach the image'
+runs=$((runs + 1))
 
 shown=$(head -n 1 "$folder/lines")
 echo "live: as wanted: ${shown#live: }; and so are $runs further runs of the bridge"
