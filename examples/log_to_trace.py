@@ -8,8 +8,8 @@ A log has one sector with its header (magic, version, number of entries, size of
 one sector (device sector, number of sectors, flags, length of a mark; each u64) and, unless it is a discard or a mark,
 so many sectors of data. Numbers are little-endian. The number of entries in the header may be stale, so the log is read
 to its end, or to an entry of zeros. Writes become records of at most 1 MiB, in order; discards and marks are left out.
-With --settle each flush behind which something waits becomes a settle, which judges all that waits: without it only the
-superblock is judged, as a commit.
+With --settle each flush at which writes are pending becomes a settle, which judges them all, and so does the end of
+the log: without it only the superblock is judged, as a commit, and what is pending behind the last one is discarded.
 """
 import struct
 import sys
@@ -51,18 +51,18 @@ def entries(log):
 
 def convert(log, out, settle):
     """Writes the trace of a log."""
-    waits = False
+    pending = False
     out.write(b'RECONTRC' + struct.pack('<II', 1, 0))
     for at, flags, data in entries(log):
-        if settle and flags & FLUSH and waits:
+        if settle and flags & FLUSH and pending:
             out.write(b'\2')
-            waits = False
+            pending = False
         for start in range(0, len(data), MOST):
             piece = data[start:start + MOST]
             out.write(struct.pack('<BHQI', 1, 0, at + start, len(piece)) + piece)
             commit = at + start < PLACE.stop and PLACE.start < at + start + len(piece)
-            waits = not commit
-    out.write(b'\xff')
+            pending = not commit
+    out.write(b'\2\xff' if settle and pending else b'\xff')
     out.flush()
 
 

@@ -152,7 +152,7 @@ for request in (lambda: h.pread(512, 31 << 20), lambda: h.pread(512, 0), lambda:
     except nbd.Error:
         failed += 1
 print(failed)'
-serve 1 'pread: error: OSError: recon ended without a line' "$(client "$killed")" "$image" "$stand_in"
+serve 0 'pread: error: OSError: recon ended without a line' "$(client "$killed")" "$image" "$stand_in"
 [ "$(cat "$folder/out")" = 4 ] || fail "of 4 requests after recon was killed $(cat "$folder/out") failed"
 cmp -s "$folder/image" "$folder/start" || fail 'a write without a verdict reached the image'
 
@@ -173,7 +173,7 @@ uri="nbd+unix:///?socket=$folder/socket"
 "$python" -m nbd -u "$uri" -c 'import os
 h.pwrite(b"a" * 512, 31 << 20)
 os.kill(int(open("'"$folder/pid"'").read()), 15)
-h.poll(60000)'
+h.poll(300)'
 wait $serving || fail "after SIGTERM status $?: $(head -n 1 "$folder/errors")"
 grep -qxF 'nbd_bridge: end passed 1 rejected 0' "$folder/errors" || fail "after SIGTERM: $(cat "$folder/errors")"
 cmp -s "$folder/image" "$folder/read" || fail 'what was pending at SIGTERM did not reach the image'

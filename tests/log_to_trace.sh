@@ -19,10 +19,12 @@ log += entry(8192, b'a' * 512, 0) + entry(0, b'', 1)
 log += sector(9, 8, 4, 0)                           # a discard, which has no data
 log += sector(0, 0, 8, 4)                           # a mark
 log += entry(1 << 20, long, 16) + entry(65536, place, 2) + entry(0, b'', 1)
+log += entry(4 << 20, b'b' * 512, 0)                # and no flush behind it
 head, first = struct.pack('<8sII', b'RECONTRC', 1, 0), record(8192, b'a' * 512)
-rest = record(1 << 20, long[:1 << 20]) + record(2 << 20, long[1 << 20:]) + record(65536, place) + b'\xff'
+rest = record(1 << 20, long[:1 << 20]) + record(2 << 20, long[1 << 20:]) + record(65536, place)
+rest += record(4 << 20, b'b' * 512)
 for name, data in {'log': log + bytes(4096), 'cut': log[:1300], 'none': b'no log' * 200,
-                   'plain': head + first + rest, 'settled': head + first + b'\2' + rest}.items():
+                   'plain': head + first + rest + b'\xff', 'settled': head + first + b'\2' + rest + b'\2\xff'}.items():
     open(f'{folder}/{name}', 'wb').write(data)
 PYTHON
 examples/log_to_trace.py "$folder/log" | cmp - "$folder/plain" || fail 'another trace'
@@ -46,6 +48,6 @@ drive="$drive,log.driver=raw,log.file.driver=file,log.file.filename=$folder/qemu
 qemu-io --image-opts "$drive" -c 'write -P 7 8192 4096' -c flush -c 'write -P 9 20480 512' \
   -c "write -s $folder/place 65536 4096" -c flush > "$folder/out"
 examples/log_to_trace.py --settle "$folder/qemu" > "$folder/trace"
-crates/recon/out/recon replay "$folder/start" < "$folder/trace" > "$folder/lines" || fail 'the log of qemu is rejected'
+"${RECON:-crates/recon/out/recon}" replay "$folder/start" < "$folder/trace" > "$folder/lines" || fail 'the log of qemu is rejected'
 cmp "$folder/start" "$folder/image" || fail 'the image after the replay is not the one that qemu wrote'
 echo "log to trace: the traces are as wanted; of qemu's log $(tail -n 1 "$folder/lines")"
