@@ -113,7 +113,7 @@ class Bridge:
         self.pending, self.size, self.most = Pending(), 0, most
         self.judged, self.stopped, self.ended = 0, None, False
         self.image = os.open(image, os.O_RDONLY)
-        self.log = log and Log(log, self.image)
+        self.log = None if log is None else Log(log, self.image)
         # In its own session: an interrupt ends nbdkit, which ends the trace. What is freed is kept for what comes next.
         kept = dict(os.environ, MALLOC_MMAP_MAX_='0', MALLOC_TRIM_THRESHOLD_=str(1 << 30))
         self.child = Popen([recon, 'replay', image], MOST_FETCH, None, PIPE, PIPE, pipesize=MOST_WRITE,

@@ -80,6 +80,7 @@ def in_flight(twin):
 
 
 def many(twin):
+    twin.flush()
     for at in range(FREE, FREE + 60000, 3):
         twin.write(b'x', at)
 
