@@ -4,7 +4,8 @@
 # - 2048 reads of 1 MiB, and 16384 of 4 KiB, of which nothing is pending; 32 MiB read while they are pending;
 # - fsyncs of a small file, as the Linux driver has them: 4 KiB of data, two blocks of the log tree in two copies of 16
 #   KiB, a flush, and the superblock with FUA;
-# - commits, which are the volume's own superblock with FUA and nothing else.
+# - commits, which are the volume's own superblock with FUA and nothing else;
+# - and by itself the disk's own flush of 4 KiB that were just written.
 # Elapsed seconds, and processor seconds of client, nbdkit and recon together, each the least of RUNS runs (3) of each
 # side in turns; on a busy machine the second are the ones to compare. The volume is made of FOLDER (bench/volume.sh), by
 # default of docs/. A flush and a commit at the bridge cost a check of it. TMPDIR names the disk; in memory (/dev/shm) a
@@ -16,7 +17,7 @@ mib=${1:-1024}
 folder=$(mktemp -d)
 trap 'rm -rf "$folder"' EXIT
 [ -n "${RECON:-}" ] || (cd crates/recon && rt run -- check data/short.img < /dev/null > /dev/null 2>&1) || true
-bench/volume.sh "$folder/volume.img" "${2:-docs}"
+bench/volume.sh "$folder/volume.img" "${2:-docs}" > "$folder/notes" 2>&1
 for python in python3 /usr/bin/python3; do
   "$python" -c 'import nbd' 2> /dev/null && break
 done
@@ -87,16 +88,22 @@ def commits(server, count):
         server.pwrite(superblock, 65536, nbd.CMD_FLAG_FUA)
 
 
-def measured(server, count):
-    """Elapsed and processor seconds of each work, of an fsync and of a commit."""
+def measured(server, superblocks):
+    """Elapsed and processor seconds of each work; of an fsync and of a commit milliseconds."""
     taken = timed(writes, server) + timed(reads, server) + timed(small_reads, server)
     for k in range(256):
         server.pwrite(block, (8 << 30) + k * size)
     taken += timed(pending_reads, server)
     server.flush()
-    for work in fsyncs, commits:
+    for work, count in (fsyncs, 400), (commits, superblocks):
         taken += tuple(seconds * 1000 / count for seconds in timed(work, server, count))
     return taken
+
+
+def flushes(disk):
+    for k in range(400):
+        os.pwrite(disk, block[:4096], k << 12)
+        os.fdatasync(disk)
 
 
 least = {}
@@ -105,11 +112,13 @@ for run in range(runs):
         subprocess.run(['cp', '--sparse=always', f'{folder}/volume.img', f'{folder}/{side}.img'], check=True)
         serving = subprocess.Popen(['nbdkit', '-f', '-U', f'{folder}/socket', *words], stderr=subprocess.DEVNULL)
         while not os.path.exists(f'{folder}/socket'):
+            if serving.poll() is not None:
+                sys.exit(f'the server did not start: {serving.args}')
             time.sleep(0.01)
         server = nbd.NBD()
         server.connect_unix(f'{folder}/socket')
         server.pread(512, 0)
-        taken = measured(server, 400)
+        taken = measured(server, 400 if side == 'bridge' else 5000)
         server.shutdown()
         serving.send_signal(signal.SIGTERM)
         serving.wait()
@@ -118,6 +127,10 @@ for run in range(runs):
         least[side] = [min(pair) for pair in zip(least.get(side, taken), taken)]
     if subprocess.run(['cmp', f'{folder}/file.img', f'{folder}/bridge.img']).returncode:
         sys.exit('the two images differ')
+with open(f'{folder}/flushed', 'wb') as disk:
+    start = time.time()
+    flushes(disk.fileno())
+    print(f"the disk's own flush of 4 KiB: {(time.time() - start) * 1000 / 400:.2f} ms")
 names = [f'{what}, {kind}' for what in (f'{mib} MiB written, s', '2048 MiB read by 1 MiB, s', '64 MiB read by 4 KiB, s',
                                         '32 MiB read while pending, s', 'an fsync of a small file, ms', 'a commit, ms')
          for kind in ('elapsed', 'processor')]
