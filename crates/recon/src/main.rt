@@ -9,6 +9,7 @@ use recon_host::{FileDisk, HeldStreams, Sharing, StdSink, StdSource};
 use std::env;
 use std::io::{self, ErrorKind};
 use std::process::ExitCode;
+use std::random::RandomSource;
 use std::rt::Env;
 use why::{Opened, Why};
 
@@ -37,6 +38,15 @@ fn sharing(arguments: &[String]) -> Sharing {
     }
 }
 
+// What the hashes of an index begin with: 16 bytes that the system draws, or zeros where it gives none.
+fn seed(rt: &HostRuntime) -> [u8; 16] {
+    let mut seed = [0; 16];
+    match rt.fill_bytes(&mut seed) {
+        Ok(()) => seed,
+        Err(_) => [0; 16],
+    }
+}
+
 // Does what the command line asks for, over its last argument as IMAGE and the standard streams, and answers the
 // status.
 fn run(rt: &HostRuntime, arguments: &[String]) -> u8 {
@@ -53,7 +63,7 @@ fn run(rt: &HostRuntime, arguments: &[String]) -> u8 {
         &mut disk,
         &mut trace,
         &mut out,
-        &mut Steps::new(()),
+        &mut Steps::seeded((), seed(rt)),
     );
     let opened = if disk.is_open() {
         Opened::Yes

@@ -10,6 +10,7 @@ use std::marker::Model;
 #[derive(Drop)]
 pub struct Steps<L> {
     count: u64,
+    seed: [u8; 16],
     mark: L,
 }
 
@@ -22,11 +23,28 @@ impl<L> Model for Steps<L> {
 }
 
 impl<L> Steps<L> {
-    /// A counter with no look yet.
+    /// A counter with no look yet, and a fixed seed.
     pub fn new(mark: L) -> Steps<L>
         ensures { result ≡ 0 }
     {
-        Steps { count: 0, mark }
+        Steps::seeded(mark, [0; 16])
+    }
+
+    /// A counter with no look yet, and a seed for the hashes of the index. Who does not know the seed
+    /// picks no keys that collide.
+    pub fn seeded(mark: L, seed: [u8; 16]) -> Steps<L>
+        ensures { result ≡ 0 }
+    {
+        Steps {
+            count: 0,
+            seed,
+            mark,
+        }
+    }
+
+    /// The seed for the hashes of the index. Nothing that is answered rests on it.
+    pub fn seed(&self) -> [u8; 16] {
+        self.seed
     }
 
     /// Counts one look, or stays at the greatest value.

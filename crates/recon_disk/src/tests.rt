@@ -131,4 +131,13 @@ fn looks_are_counted(rt: HostRuntime) {
     steps.look();
     steps.look();
     assert_eq!(rt; steps.looks(), 2);
+    assert!(rt; steps.seed() == [0; 16]);
+}
+
+#[test]
+fn a_seed_stays(rt: HostRuntime) {
+    let mut steps = Steps::seeded((), [7; 16]);
+    steps.look();
+    assert!(rt; steps.seed() == [7; 16]);
+    assert_eq!(rt; steps.looks(), 1);
 }

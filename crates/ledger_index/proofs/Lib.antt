@@ -1,0 +1,4 @@
+pub mod KeptLaws
+pub mod EntryLaws
+pub mod PlaceLaws
+pub mod LedgerLaws

@@ -1,0 +1,46 @@
+use Rattle.std.proofs.Common.{refl, sym, ⊎_elim}
+use Rattle.ledger_index.specs.Sums.{raise}
+use Rattle.ledger_index.specs.Entries.{by_key}
+use Rattle.ledger_index.specs.LongPlace.{is_same_long}
+use Rattle.ledger_index.specs.Place.{is_same_place}
+use Rattle.ledger_index.proofs.EntryLaws.{changes_after, on_err, on_ok, raise_none, stays_after}
+use Rattle.ledger_index.proofs.LedgerLaws.{all_stay, changed_above, changed_nothing, long_changed, short_changed, whole_changed}
+use Rattle.ledger_index.proofs.ledger.LedgerIndex.add.Goals as goal
+
+pub returns-then-not-names_a_sum-clause-ok : goal.returns-then-not-names_a_sum-clause-ok
+returns-then-not-names_a_sum-clause-ok g c =
+    ⊎_elim (λ above. changed_above raise raise_none _ _ _ _ _ above c.names_a_sum.ensures) (λ small. changed_nothing raise raise_none _ _ _ _ small.1)
+    c.then-not-names_a_sum.either
+
+pub returns-in-Some-clause-ok : goal.returns-in-Some-clause-ok
+returns-in-Some-clause-ok g c =
+    on_ok c.add.result (λ is. short_changed raise raise_none _ _ _ _ _ _ (sym c.in-Some.ensures)
+    (changes_after is_same_place raise (by_key is_same_place c.args.self.now.short.entries) (by_key is_same_place c.seed-in-Some.new.self.entries)
+    (by_key is_same_place c.add.new.self.entries) _ _ _ c.seed-in-Some.ensures is) (λ l. refl) (λ q. refl)) c.add.ensures.ok
+
+pub returns-in-Some-clause-err : goal.returns-in-Some-clause-err
+returns-in-Some-clause-err g c =
+    on_err c.add.result (λ is. all_stay _ _
+    (stays_after (by_key is_same_place c.args.self.now.short.entries) (by_key is_same_place c.seed-in-Some.new.self.entries)
+    (by_key is_same_place c.add.new.self.entries) c.seed-in-Some.ensures is)
+    (λ l n. refl) (λ q n. refl)) c.add.ensures.err
+
+pub returns-in-Some-of-clause-ok : goal.returns-in-Some-of-clause-ok
+returns-in-Some-of-clause-ok g c =
+    on_ok c.add-in-Some-of.result (λ is. long_changed raise raise_none _ _ _ _ _ _ (sym c.in_default.ensures) (sym c.in-Some-of.ensures)
+    (changes_after is_same_long raise (by_key is_same_long c.args.self.now.long.entries) (by_key is_same_long c.seed-in-Some-of-2.new.self.entries)
+    (by_key is_same_long c.add-in-Some-of.new.self.entries) _ _ _ c.seed-in-Some-of-2.ensures is) (λ l. refl) (λ q. refl)) c.add-in-Some-of.ensures.ok
+
+pub returns-in-Some-of-clause-err : goal.returns-in-Some-of-clause-err
+returns-in-Some-of-clause-err g c =
+    on_err c.add-in-Some-of.result (λ is. all_stay _ _ (λ p n. refl)
+    (stays_after (by_key is_same_long c.args.self.now.long.entries) (by_key is_same_long c.seed-in-Some-of-2.new.self.entries)
+    (by_key is_same_long c.add-in-Some-of.new.self.entries) c.seed-in-Some-of-2.ensures is)
+    (λ q n. refl)) c.add-in-Some-of.ensures.err
+
+pub returns-in-None-clause-ok : goal.returns-in-None-clause-ok
+returns-in-None-clause-ok g c =
+    on_ok c.add-in-None.result (λ is. whole_changed raise raise_none _ _ _ _ _ (sym c.in_default.ensures) (sym c.in-None.ensures) is (λ l. refl) (λ p. refl)) c.add-in-None.ensures.ok
+
+pub returns-in-None-clause-err : goal.returns-in-None-clause-err
+returns-in-None-clause-err g c = on_err c.add-in-None.result (λ is. all_stay _ _ (λ p n. refl) (λ l n. refl) is) c.add-in-None.ensures.err

@@ -1,0 +1,36 @@
+-- What a ledger says: the sums of all accounts, and for which of them an entry stands.
+use Rattle.std.specs.Prelude.{◌≡◌, ◌↔◌, ℕ, Bool, false, Option, Some, None, is_some}
+use Rattle.accounts.specs.declared.account.Account.{Account}
+use Rattle.accounts.specs.Tally.{Sums}
+use Rattle.ledger_index.specs.declared.kept.Kept.{Kept}
+use Rattle.ledger_index.specs.declared.ledger.LedgerIndex.{LedgerIndex}
+use Rattle.ledger_index.specs.declared.place.Place.{Place}
+use Rattle.ledger_index.specs.declared.long_place.LongPlace.{LongPlace}
+use Rattle.ledger_index.specs.Entries.{Entries, by_account, by_key}
+use Rattle.ledger_index.specs.LongPlace.{is_same_long, long_of}
+use Rattle.ledger_index.specs.Place.{is_same_place, place_of}
+use Rattle.ledger_index.specs.Kept.{sums_at}
+
+-- what is kept of an account, if anything is: under its place, or where it has none under its long place, or else under
+-- the account itself
+abbrev pub entry_at : Option Place → Option LongPlace → Entries Place → Entries LongPlace → Option Kept → Option Kept
+entry_at (Some place) long short longer whole = short place
+entry_at None (Some place) short longer whole = longer place
+entry_at None None short longer whole = whole
+
+unfoldable pub entry_of : {L : Type 0} → LedgerIndex L → Account → Option Kept
+entry_of ledger account =
+    entry_at (place_of account) (long_of account) (by_key is_same_place ledger.short.entries) (by_key is_same_long ledger.long.entries)
+    (by_account ledger.whole.entries account)
+
+-- the sums of all accounts, by the number of the field
+unfoldable pub sums_of : {L : Type 0} → LedgerIndex L → Sums
+sums_of ledger account field = sums_at (entry_of ledger account) field
+
+-- whether an entry stands for an account
+unfoldable pub has_entry : {L : Type 0} → LedgerIndex L → Account → Bool
+has_entry ledger account = is_some (entry_of ledger account)
+
+-- An entry stands for exactly the accounts whose sums are not all zero.
+abbrev pub IsTidy : {L : Type 0} → LedgerIndex L → Type 0
+IsTidy ledger = (account : Account) → (has_entry ledger account ≡ false) ↔ ((field : ℕ) → sums_of ledger account field ≡ 0)

@@ -1,0 +1,14 @@
+//! The ledger of an accepted image: the totals of its accounts. Each look into it is counted.
+#![tactic(auto)]
+
+mod kept;
+mod ledger;
+mod long_place;
+mod place;
+mod seeded;
+mod table;
+#[cfg(test)]
+mod tests;
+mod whole;
+
+pub use ledger::LedgerIndex;

@@ -1,0 +1,112 @@
+//! Accounts in 56 bytes.
+
+ghost use Rattle.std.specs.Prelude.{◌≡◌, ◌≤◌, length};
+ghost use Rattle.ledger_index.specs.LongPlace as spec;
+ghost use Rattle.ledger_index.specs.LongPlaceLaws.{long_equiv, long_fed_alike, long_per, same_long};
+
+use crate::place::{head_of, two_of};
+use crate::table::Exact;
+use accounts::Account;
+use std::hash::{Hash, Hasher};
+
+/// An account of no block whose numbers are below 2^32, with the `length` bytes of its tail and zeros behind them. The
+/// kind of its key is its sort.
+#[derive(Clone, Copy, Debug)]
+pub(crate) struct LongPlace {
+    length: u8,
+    kind: u8,
+    sort: u8,
+    tree: u32,
+    objectid: u32,
+    offset: u32,
+    detail: u32,
+    tail: [u8; 36],
+}
+
+const _: () = prove!(size_of::<LongPlace>() == 56);
+
+impl PartialEq for LongPlace {
+    ghost eq = { spec.is_same_long };
+
+    ghost laws = { long_per };
+
+    #[tactic(auto, unfolding(crate::specs::LongPlace::is_same_long))]
+    fn eq(&self, other: &LongPlace) -> bool {
+        self.length == other.length
+            && self.kind == other.kind
+            && self.sort == other.sort
+            && self.tree == other.tree
+            && self.objectid == other.objectid
+            && self.offset == other.offset
+            && self.detail == other.detail
+            && self.tail == other.tail
+    }
+}
+
+impl Eq for LongPlace {
+    ghost laws = { long_equiv };
+}
+
+impl Exact for LongPlace {
+    ghost exact = { same_long };
+}
+
+impl Hash for LongPlace {
+    ghost hash_input = { spec.long_fed };
+
+    ghost respects_eq = { long_fed_alike };
+
+    fn hash<H: Hasher>(&self, state: &mut H) {
+        state.write_u64(head_of(self.kind, self.sort, self.tree));
+        state.write_u64(two_of(self.objectid, self.offset));
+        state.write_u64(two_of(self.detail, u32::from(self.length)));
+        state.write(&self.tail);
+    }
+}
+
+impl LongPlace {
+    /// The place of an account, or `None` where it takes more.
+    #[tactic(auto, unfolding(crate::specs::LongPlace::long_of))]
+    pub(crate) fn of(account: &Account) -> Option<LongPlace>
+        ensures { result ≡ spec.long_of account.now }
+    {
+        let tail = account.tail.as_slice();
+        if account.block != 0 || tail.len() > 36 {
+            return None;
+        }
+        let Ok(tree) = u32::try_from(account.tree) else {
+            return None;
+        };
+        let Ok(objectid) = u32::try_from(account.key.objectid) else {
+            return None;
+        };
+        let Ok(offset) = u32::try_from(account.key.offset) else {
+            return None;
+        };
+        let Ok(detail) = u32::try_from(account.detail) else {
+            return None;
+        };
+        Some(LongPlace {
+            length: tail.len() as u8,
+            kind: account.kind,
+            sort: account.key.kind,
+            tree,
+            objectid,
+            offset,
+            detail,
+            tail: padded(tail),
+        })
+    }
+}
+
+// Up to 36 bytes with zeros behind them.
+fn padded(tail: &[u8]) -> [u8; 36]
+    requires { length tail.now ≤ 36 }
+    ensures { result ≡ spec.padded tail.now }
+{
+    let mut bytes = [0; 36];
+    for i in 0..tail.len() {
+        bytes[i] = tail[i];
+    }
+    bytes
+}

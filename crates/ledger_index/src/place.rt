@@ -1,0 +1,237 @@
+//! Accounts in 32 bytes.
+
+ghost use Rattle.std.specs.Prelude.{◌≡◌, ◌≤◌, length};
+ghost use Rattle.ledger_index.specs.Place as spec;
+ghost use Rattle.ledger_index.specs.PlaceLaws.{fed_alike, place_equiv, place_per, same_place};
+
+use crate::table::Exact;
+use accounts::Account;
+use std::hash::{Hash, Hasher};
+
+/// An account in 32 bytes, as each is that the records of a usual image post to. The kind of its key is its sort.
+#[derive(Clone, Copy, Debug)]
+pub(crate) enum Place {
+    /// One without a tail, and with detail 0.
+    Plain {
+        kind: u8,
+        sort: u8,
+        tree: u32,
+        block: u64,
+        objectid: u64,
+        offset: u64,
+    },
+    /// One of no block whose numbers are below 2^32, with the `length` bytes of its tail and zeros behind them.
+    Named {
+        length: u8,
+        kind: u8,
+        sort: u8,
+        tree: u32,
+        objectid: u32,
+        offset: u32,
+        detail: u32,
+        tail: [u8; 12],
+    },
+}
+
+impl PartialEq for Place {
+    ghost eq = { spec.is_same_place };
+
+    ghost laws = { place_per };
+
+    #[tactic(auto, unfolding(crate::specs::Place::is_same_place))]
+    fn eq(&self, other: &Place) -> bool {
+        match (*self, *other) {
+            (
+                Place::Plain {
+                    kind,
+                    sort,
+                    tree,
+                    block,
+                    objectid,
+                    offset,
+                },
+                Place::Plain {
+                    kind: kind2,
+                    sort: sort2,
+                    tree: tree2,
+                    block: block2,
+                    objectid: objectid2,
+                    offset: offset2,
+                },
+            ) => kind == kind2
+                && sort == sort2
+                && tree == tree2
+                && block == block2
+                && objectid == objectid2
+                && offset == offset2,
+            (
+                Place::Named {
+                    length,
+                    kind,
+                    sort,
+                    tree,
+                    objectid,
+                    offset,
+                    detail,
+                    tail,
+                },
+                Place::Named {
+                    length: length2,
+                    kind: kind2,
+                    sort: sort2,
+                    tree: tree2,
+                    objectid: objectid2,
+                    offset: offset2,
+                    detail: detail2,
+                    tail: tail2,
+                },
+            ) => length == length2
+                && kind == kind2
+                && sort == sort2
+                && tree == tree2
+                && objectid == objectid2
+                && offset == offset2
+                && detail == detail2
+                && tail == tail2,
+            _ => false,
+        }
+    }
+}
+
+impl Eq for Place {
+    ghost laws = { place_equiv };
+}
+
+impl Exact for Place {
+    ghost exact = { same_place };
+}
+
+impl Hash for Place {
+    ghost hash_input = { spec.place_fed };
+
+    ghost respects_eq = { fed_alike };
+
+    fn hash<H: Hasher>(&self, state: &mut H) {
+        match self {
+            Place::Plain {
+                kind,
+                sort,
+                tree,
+                block,
+                objectid,
+                offset,
+            } => {
+                state.write_u64(head_of(*kind, *sort, *tree));
+                state.write_u64(*block);
+                state.write_u64(*objectid);
+                state.write_u64(*offset);
+            }
+            Place::Named {
+                length,
+                kind,
+                sort,
+                tree,
+                objectid,
+                offset,
+                detail,
+                tail,
+            } => {
+                state.write_u64(head_of(*kind, *sort, *tree));
+                state.write_u64(two_of(*objectid, *offset));
+                state.write_u64(two_of(*detail, u32::from(*length)));
+                state.write(tail);
+            }
+        }
+    }
+}
+
+// A kind, a sort and a tree in one number.
+pub(crate) fn head_of(kind: u8, sort: u8, tree: u32) -> u64
+    ensures { result ≡ spec.head_of kind sort tree }
+{
+    u64::from(kind) + 256 * u64::from(sort) + 65536 * u64::from(tree)
+}
+
+// Two numbers in one.
+pub(crate) fn two_of(low: u32, high: u32) -> u64
+    ensures { result ≡ spec.two_of low high }
+{
+    u64::from(low) + 4294967296 * u64::from(high)
+}
+
+const _: () = prove!(size_of::<Place>() == 32);
+
+impl Place {
+    /// The place of an account, or `None` where it takes more.
+    #[tactic(auto, unfolding(crate::specs::Place::place_of))]
+    pub(crate) fn of(account: &Account) -> Option<Place>
+        ensures { result ≡ spec.place_of account.now }
+    {
+        match Place::plain(account) {
+            Some(place) => Some(place),
+            None => Place::named(account),
+        }
+    }
+
+    fn plain(account: &Account) -> Option<Place>
+        ensures { result ≡ spec.plain_of account.now }
+    {
+        if account.detail != 0 || !account.tail.as_slice().is_empty() {
+            return None;
+        }
+        let Ok(tree) = u32::try_from(account.tree) else {
+            return None;
+        };
+        Some(Place::Plain {
+            kind: account.kind,
+            sort: account.key.kind,
+            tree,
+            block: account.block,
+            objectid: account.key.objectid,
+            offset: account.key.offset,
+        })
+    }
+
+    fn named(account: &Account) -> Option<Place>
+        ensures { result ≡ spec.named_of account.now }
+    {
+        let tail = account.tail.as_slice();
+        if account.block != 0 || tail.len() > 12 {
+            return None;
+        }
+        let Ok(tree) = u32::try_from(account.tree) else {
+            return None;
+        };
+        let Ok(objectid) = u32::try_from(account.key.objectid) else {
+            return None;
+        };
+        let Ok(offset) = u32::try_from(account.key.offset) else {
+            return None;
+        };
+        let Ok(detail) = u32::try_from(account.detail) else {
+            return None;
+        };
+        Some(Place::Named {
+            length: tail.len() as u8,
+            kind: account.kind,
+            sort: account.key.kind,
+            tree,
+            objectid,
+            offset,
+            detail,
+            tail: padded(tail),
+        })
+    }
+}
+
+// Up to twelve bytes with zeros behind them.
+fn padded(tail: &[u8]) -> [u8; 12]
+    requires { length tail.now ≤ 12 }
+    ensures { result ≡ spec.padded tail.now }
+{
+    let mut bytes = [0; 12];
+    for i in 0..tail.len() {
+        bytes[i] = tail[i];
+    }
+    bytes
+}

@@ -1,0 +1,102 @@
+//! Sums by accounts in a few bytes.
+
+ghost use Rattle.std.specs.Prelude.{◌≡◌, ◌<◌, ℕ, IsTrue, None, OnOk, OnErr};
+ghost use Rattle.accounts.specs.Sums.{sum_in};
+ghost use Rattle.ledger_index.specs.Sums.{lower, raise};
+ghost use Rattle.ledger_index.specs.Kept.{sums_at};
+ghost use Rattle.ledger_index.specs.Entries.{AreTidy, Changes, Stays, by_key};
+
+use crate::kept::Kept;
+use crate::seeded::Seeded;
+use accounts::Totals;
+use indexmap::IndexMap;
+use std::alloc::Global;
+use std::hash::Hash;
+use verdict::NoMemory;
+
+/// Keys of which equal ones are one and the same.
+pub(crate) trait Exact: Eq + Hash + Copy {
+    ghost exact: { (x y : Self) → IsTrue (Self.eq x y) → x ≡ y };
+}
+
+/// The sums of accounts that have keys of this type. An entry stands for exactly those whose sums are not all zero.
+#[derive(Drop)]
+pub(crate) struct Table<K: Exact> {
+    entries: IndexMap<K, Kept, Seeded>,
+    is_seeded: bool,
+    ghost tidy: { AreTidy (by_key K.eq entries) },
+}
+
+impl<K: Exact> Table<K> {
+    /// No sums. They take their memory from this allocator.
+    pub(crate) fn new(alloc: Global) -> Table<K>
+        ensures { (key : K) → by_key K.eq result.entries key ≡ None }
+    {
+        Table {
+            entries: IndexMap::with_hasher(alloc, Seeded::of(&[0; 16])),
+            is_seeded: false,
+        }
+    }
+
+    /// Finds accounts by a hash with this seed from now on, if there was none before and no entry stands.
+    pub(crate) fn seed(&mut self, alloc: Global, seed: &[u8; 16])
+        ensures { (key : K) →
+            by_key K.eq self.new.entries key ≡ by_key K.eq self.old.entries key }
+    {
+        if !self.is_seeded && self.entries.is_empty() {
+            self.entries = IndexMap::with_hasher(alloc, Seeded::of(seed));
+            self.is_seeded = true;
+        }
+    }
+
+    /// The sums of an account.
+    pub(crate) fn get(&self, key: &K) -> Totals
+        ensures { (n : ℕ) → sum_in result n ≡ sums_at (by_key K.eq self.now.entries key.now) n }
+    {
+        match self.entries.get(key) {
+            Some(kept) => kept.totals(),
+            None => Totals::zero(),
+        }
+    }
+
+    /// Adds an amount to a sum of an account, or as much of it as there is room for in 128 bits. Out of memory, all
+    /// sums stay.
+    pub(crate) fn add(
+        &mut self,
+        alloc: Global,
+        key: &K,
+        field: u8,
+        amount: u64,
+    ) -> Result<(), NoMemory>
+        requires named { field < 9 }
+        requires more { 0 < amount }
+        ensures ok { OnOk result (Changes K.eq raise (by_key K.eq self.old.entries)
+            (by_key K.eq self.new.entries) key.now field amount) }
+        ensures err { OnErr result
+            (Stays (by_key K.eq self.old.entries) (by_key K.eq self.new.entries)) }
+    {
+        if let Some(kept) = self.entries.get_mut(key) {
+            return kept.raise(alloc, field, amount);
+        }
+        let kept = Kept::one(alloc, field, amount)?;
+        match self.entries.insert(*key, kept) {
+            Ok(_) => Ok(()),
+            Err(_) => Err(NoMemory),
+        }
+    }
+
+    /// Takes an amount from a sum of an account, or all of it where it is less.
+    pub(crate) fn take(&mut self, key: &K, field: u8, amount: u64)
+        requires { field < 9 }
+        ensures { Changes K.eq lower (by_key K.eq self.old.entries)
+            (by_key K.eq self.new.entries) key.now field amount }
+    {
+        let Some(kept) = self.entries.get_mut(key) else {
+            return;
+        };
+        kept.lower(field, amount);
+        if kept.is_zero() {
+            self.entries.swap_remove(key);
+        }
+    }
+}

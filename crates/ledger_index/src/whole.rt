@@ -1,0 +1,99 @@
+//! Sums by whole accounts.
+
+ghost use Rattle.std.specs.Prelude.{◌≡◌, ◌<◌, ℕ, None, IfOk, OnOk, OnErr};
+ghost use Rattle.accounts.specs.declared.account.Account.{Account as AnAccount};
+ghost use Rattle.accounts.specs.Sums.{is_same, sum_in};
+ghost use Rattle.ledger_index.specs.Sums.{lower, raise};
+ghost use Rattle.ledger_index.specs.Kept.{sums_at};
+ghost use Rattle.ledger_index.specs.Entries.{AreTidy, Changes, Stays, by_account};
+
+use crate::kept::Kept;
+use accounts::{Account, Totals};
+use std::alloc::Global;
+use std::collections::BTreeMap;
+use verdict::{Bytes, NoMemory};
+
+/// The sums of accounts by the accounts themselves. An entry stands for exactly those whose sums are not all zero.
+#[derive(Drop)]
+pub(crate) struct Whole {
+    entries: BTreeMap<Account, Kept>,
+    ghost tidy: { AreTidy (by_account entries) },
+}
+
+impl Whole {
+    /// No sums. They take their memory from this allocator.
+    pub(crate) fn new(alloc: Global) -> Whole
+        ensures { (account : AnAccount) → by_account result.entries account ≡ None }
+    {
+        Whole {
+            entries: BTreeMap::new(alloc),
+        }
+    }
+
+    /// The sums of an account.
+    pub(crate) fn get(&self, account: &Account) -> Totals
+        ensures { (n : ℕ) →
+            sum_in result n ≡ sums_at (by_account self.now.entries account.now) n }
+    {
+        match self.entries.get(account) {
+            Some(kept) => kept.totals(),
+            None => Totals::zero(),
+        }
+    }
+
+    /// Adds an amount to a sum of an account, or as much of it as there is room for in 128 bits. Out of memory, all
+    /// sums stay.
+    pub(crate) fn add(
+        &mut self,
+        alloc: Global,
+        account: &Account,
+        field: u8,
+        amount: u64,
+    ) -> Result<(), NoMemory>
+        requires named { field < 9 }
+        requires more { 0 < amount }
+        ensures ok { OnOk result (Changes is_same raise (by_account self.old.entries)
+            (by_account self.new.entries) account.now field amount) }
+        ensures err { OnErr result
+            (Stays (by_account self.old.entries) (by_account self.new.entries)) }
+    {
+        if let Some(kept) = self.entries.get_mut(account) {
+            return kept.raise(alloc, field, amount);
+        }
+        let kept = Kept::one(alloc, field, amount)?;
+        let account = copy_of(alloc, account)?;
+        match self.entries.insert(account, kept) {
+            Ok(_) => Ok(()),
+            Err(_) => Err(NoMemory),
+        }
+    }
+
+    /// Takes an amount from a sum of an account, or all of it where it is less.
+    pub(crate) fn take(&mut self, account: &Account, field: u8, amount: u64)
+        requires { field < 9 }
+        ensures { Changes is_same lower (by_account self.old.entries)
+            (by_account self.new.entries) account.now field amount }
+    {
+        let Some(kept) = self.entries.get_mut(account) else {
+            return;
+        };
+        kept.lower(field, amount);
+        if kept.is_zero() {
+            self.entries.remove(account);
+        }
+    }
+}
+
+// A copy of an account.
+fn copy_of(alloc: Global, account: &Account) -> Result<Account, NoMemory>
+    ensures { IfOk result (λ copy. copy ≡ account.now) }
+{
+    Ok(Account {
+        kind: account.kind,
+        tree: account.tree,
+        block: account.block,
+        key: account.key,
+        detail: account.detail,
+        tail: Bytes::of(alloc, account.tail.as_slice())?,
+    })
+}
