@@ -60,7 +60,7 @@ entry_reads source reads sup e bytes =
     [ true ↦ leaf_reads source reads (item_place sup e.tree e.address e.generation) (items_of bytes) | false ↦ ap Ok (pointer_reads source reads e (pointers_of bytes)) ]
 
 -- a block is
-own_reads : (source : BlockSource) (reads : ℕ) (sup : Super) (e : Expect) (bytes : List ℕ)
+pub own_reads : (source : BlockSource) (reads : ℕ) (sup : Super) (e : Expect) (bytes : List ℕ)
     → held_after (with_read source) reads (own_records sup e bytes) ≡ counts (own_records sup e bytes) (after_copies (copies_of source e.address) reads)
 unfolding own_records
 own_reads source reads sup e bytes =
@@ -69,7 +69,7 @@ own_reads source reads sup e bytes =
     ∙ sym (behind_counts (BlockSeen (block_at e bytes) ∷ []) (entry_records sup e bytes) (after_copies (copies_of source e.address) reads))
 
 -- records that were taken have no finding
-taken_counts : {H : Type 0} (with : H → Seen → H) (before after : H) (records : Records) (reads : ℕ) → held_after with before records ≡ Ok after → counts records reads ≡ Ok reads
+pub taken_counts : {H : Type 0} (with : H → Seen → H) (before after : H) (records : Records) (reads : ℕ) → held_after with before records ≡ Ok after → counts records reads ≡ Ok reads
 taken_counts with before after (Err finding) reads is = absurd (cc)
 taken_counts with before after (Ok records) reads is = refl
 

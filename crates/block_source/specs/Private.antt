@@ -1,4 +1,4 @@
--- Words of the crate's own functions, on which no public clause rests.
+-- Words of the functions that read blocks and go through what they have; of the public ones, `child_at` rests on `pointers_from`.
 use Rattle.std.specs.Prelude.{ℕ, ◌+◌, ◌-◌, ◌≤◌, List}
 use Rattle.verdict.specs.declared.place.Place.{Place}
 use Rattle.verdict.specs.declared.place.Place.TheVariants.{Nowhere, One, Two}

@@ -9,4 +9,5 @@ mod walk;
 
 pub use halt::{Fault, Halt, told};
 pub use read::{BlockSource, read_block, read_under};
-pub use walk::{walk_into, walk_tree};
+pub use own::take_own;
+pub use walk::{child_at, walk_into, walk_tree};

@@ -12,7 +12,7 @@ use records::{BlockAt, PointerAt, RecAt, Record, Taker, read_item};
 use super_reader::Super;
 use verdict::{At, NoMemory};
 
-// Gives a block's own records to a taker: itself, then its pointers or items in their order.
+/// Gives a block's own records to a taker: itself, then its pointers or items in their order. It stops at the first finding of an item.
 #[tactic(auto, using(crate::proofs::Walking::steps), unfolding(records::specs::Walk::own_records))]
 pub fn take_own<T: Taker>(
     sup: &Super,

@@ -101,9 +101,9 @@ fn walk<D: Disk, T: Taker>(
     Ok(())
 }
 
-// What is expected of the block of a node's pointer at a place.
+/// What is expected of the block of a node's pointer at a place, below the node of which this was expected.
 #[tactic(auto, using(crate::proofs::Walking::children_left))]
-fn child_at(block: &Block<'_>, e: &Expect, i: u32) -> Expect
+pub fn child_at(block: &Block<'_>, e: &Expect, i: u32) -> Expect
     requires node { 0 < level_of block.now }
     requires same { level_of block.now ≡ e.now.level }
     requires below { i < count_of block.now }

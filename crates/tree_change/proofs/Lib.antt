@@ -1,1 +1,15 @@
+pub mod Accepted
+pub mod Bounds
+pub mod Climbing
+pub mod Images
+pub mod Lasting
 pub mod LivePairsExample
+pub mod Sharing
+pub mod Sifting
+pub mod Skipping
+pub mod Trails
+pub mod Visiting
+pub mod Within
+pub mod Keepings
+pub mod KeepCounting
+pub mod Knowing

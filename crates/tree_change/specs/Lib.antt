@@ -1,1 +1,11 @@
 pub mod LivePairs
+pub mod Shared
+pub mod Change
+pub mod Skips
+pub mod SkipLaw
+pub mod Keeping
+pub mod Marking
+pub mod KeepingWalk
+pub mod Under
+pub mod Known
+pub mod ImageLaw

@@ -7,12 +7,13 @@ use Rattle.verdict.specs.declared.finding.Finding.{Finding}
 use Rattle.verdict.specs.declared.key.Key.{Key}
 use Rattle.live_index.specs.Pairs.{Pairs, no_pairs, with_pair}
 use Rattle.live_index.specs.declared.live.Live.{Live}
+use Rattle.verdict.specs.declared.place.Chunk.{Chunk}
+use Rattle.super_reader.specs.declared.Super.{Super}
 use Rattle.super_reader.specs.Superblock.{array_place}
 use Rattle.volume_items.specs.SystemArray.{array_chunks}
 use Rattle.records.specs.Contents.{superblock_in, chunk_map_in, root_items_in, all_records}
 use Rattle.records.specs.Seen.{Seen}
 use Rattle.records.specs.Seen.Seen.{BlockSeen, ItemSeen}
-use Rattle.records.specs.Walk.{Records}
 use Rattle.records.specs.declared.rec.BlockAt.{BlockAt}
 
 -- the greatest key, which an empty leaf has as its first
@@ -64,21 +65,28 @@ live_in [] = []
 live_in (BlockSeen block ∷ more) = live_of block more ∷ live_in more
 live_in (other ∷ more) = live_in more
 
--- the live pairs of walks, or their finding
-abbrev pub live_list : Records → Result (List Live) Finding
-live_list records = and_then records (λ seen. Ok (live_in seen))
-
 -- the table of these pairs; no accepted image has two of one tree and address
 abbrev pub table_of : List Live → Pairs
 table_of [] = no_pairs
 table_of (live ∷ lives) = with_pair (table_of lives) live
 
--- The live pairs of an image, of the chunk tree's walk, the root tree's and those of the trees that root items name; or the first
--- finding of what the image holds. The steps are those of its contents, and no account decides.
-unfoldable pub live_pairs : List ℕ → Result (List Live) Finding
-live_pairs image =
+-- what the walks of an image come to: its superblock, its chunks, and the records of the chunk tree's walk, the root tree's and those of
+-- the trees that root items name, in this order
+pub record Walked : Type 0 where
+  pub sup : Super
+  pub chunks : List Chunk
+  pub seen : List Seen
+
+-- the same, or the first finding of what the image holds: the steps are those of its contents, and no account decides
+unfoldable pub walked : List ℕ → Result Walked Finding
+walked image =
     and_then (superblock_in image) (λ sup.
     and_then (array_chunks (array_place sup) sup.array sup.array_size) (λ array.
     and_then (chunk_map_in sup array image) (λ chunks.
     and_then (root_items_in sup chunks image) (λ roots.
-    live_list (all_records sup array chunks roots image)))))
+    and_then (all_records sup array chunks roots image) (λ seen.
+    Ok (record { sup = sup; chunks = chunks; seen = seen }))))))
+
+-- the live pairs of an image, or that finding
+abbrev pub live_pairs : List ℕ → Result (List Live) Finding
+live_pairs image = and_then (walked image) (λ w. Ok (live_in w.seen))

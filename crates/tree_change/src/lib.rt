@@ -1,8 +1,22 @@
 //! What changes between the trees of two images.
 #![tactic(auto)]
 
+mod change;
+mod changed;
+mod keeps;
+mod known;
+mod laws;
 mod path;
+mod starts;
 #[cfg(test)]
 mod tests;
 
+pub use change::{Change, Diff};
+pub use changed::walk_changed;
+pub use keeps::Keeps;
+pub use known::KnownTree;
+pub use laws::{
+    keeping_law, marking_law, read_alike_law, skipping_law, stored_alike_law, walk_is_own,
+};
 pub use path::{Path, PathStep};
+pub use starts::{Start, Starts};

@@ -27,4 +27,6 @@ mod trace;
 #[cfg(test)]
 mod tree;
 #[cfg(test)]
+mod tree_tests;
+#[cfg(test)]
 mod word_tests;

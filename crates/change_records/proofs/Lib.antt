@@ -1,0 +1,9 @@
+pub mod Order
+pub mod Merge
+pub mod MadeLaws
+pub mod HomeLaws
+pub mod PostingLaws
+pub mod SearchLaws
+pub mod ItemLaws
+pub mod FoundLaws
+pub mod AffectedLaws

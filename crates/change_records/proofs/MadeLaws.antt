@@ -1,0 +1,168 @@
+-- What is kept of changes, after one more.
+use Rattle.std.proofs.Common.{◌≡◌, ℕ, Bool, true, false, cond, ◌&&◌, ◌||◌, List, [], ◌∷◌, ◌++◌, refl, sym, ap, ◌∙◌}
+use Rattle.std.specs.Prelude.{◌==◌, Option, Some, slice_get, Result, Ok, Err, OnOk, OnErr}
+use Rattle.std.specs.Option.{unwrap_or}
+use Rattle.std.specs.Ordering.{nat_cmp, ordering_then, is_eq}
+use Rattle.std.specs.Cmp.{unsigned_tied}
+use Rattle.std.specs.declared.cmp.Ordering.{Ordering}
+use Rattle.std.specs.declared.cmp.Ordering.TheVariants.{Less, Equal, Greater}
+use Rattle.std.specs.BTreeMap as map
+use Rattle.std.specs.BTreeMap.{is_at}
+use Rattle.std.specs.BTreeSet as set
+use Rattle.std.specs.Map.{lookup}
+use Rattle.std.specs.Option.{is_some}
+use Rattle.verdict.specs.OnDisk.{key_same}
+use Rattle.change_records.specs.declared.item_ref.ItemRef.{ItemRef}
+use Rattle.change_records.specs.declared.kept.Inode.{Inode}
+use Rattle.change_records.specs.Refs.{ref_cmp}
+use Rattle.std.proofs.Common.{◌+◌, ◌<◌, suc, arith, length, get_or, drop, drop-cons, subst}
+use Rattle.std.specs.Prelude.{IsSome}
+use Rattle.std.specs.List.{Contains}
+use Rattle.std.proofs.lemmas.Bool.{and_parts, eqb-true}
+use Rattle.std.proofs.lemmas.List.Elements.{Contains-append_left}
+use Rattle.records.specs.declared.owned.ItemAt.{ItemAt}
+use Rattle.change_records.specs.declared.changes.ItemChange.{ItemChange}
+use Rattle.change_records.specs.declared.changes.ItemChange.TheVariants.{Altered}
+use Rattle.change_records.specs.declared.kept.Made.{Made}
+use Rattle.change_records.specs.Refs.{is_named, names, stands_at}
+use Rattle.change_records.specs.SumFree.{flag_at, sum_free_after, without_flag}
+use Rattle.change_records.specs.Made.{IsApplied, IsMade, IsPut, IsTaken, flag_by, has_name}
+use Rattle.change_records.specs.Listed.{AreListed, inode_cmp}
+
+then_tied : (o p : Ordering) → is_eq (ordering_then o p) ≡ (is_eq o && is_eq p)
+then_tied = elim [ Less ↦ λ p. refl | Equal ↦ λ p. refl | Greater ↦ λ p. refl ]
+
+both : (a b c d : Bool) → a ≡ b → c ≡ d → (a && c) ≡ (b && d)
+both a b c d e f = ap (λ x. x && c) e ∙ ap (λ x. b && x) f
+
+pub tied_ref : (k q : ItemRef) → is_at (ref_cmp k) q ≡ (k.tree == q.tree && key_same k.key q.key)
+tied_ref k q =
+    then_tied (nat_cmp k.tree q.tree) (ordering_then (nat_cmp k.key.objectid q.key.objectid) (ordering_then (nat_cmp k.key.kind q.key.kind) (nat_cmp k.key.offset q.key.offset)))
+    ∙ both _ _ _ _ (unsigned_tied k.tree q.tree)
+    (then_tied (nat_cmp k.key.objectid q.key.objectid) (ordering_then (nat_cmp k.key.kind q.key.kind) (nat_cmp k.key.offset q.key.offset))
+    ∙ both _ _ _ _ (unsigned_tied k.key.objectid q.key.objectid)
+    (then_tied (nat_cmp k.key.kind q.key.kind) (nat_cmp k.key.offset q.key.offset)
+    ∙ both _ _ _ _ (unsigned_tied k.key.kind q.key.kind) (unsigned_tied k.key.offset q.key.offset)))
+
+tied_inode : (k q : Inode) → is_at (inode_cmp k) q ≡ (k.tree == q.tree && k.ino == q.ino)
+tied_inode k q = then_tied (nat_cmp k.tree q.tree) (nat_cmp k.ino q.ino) ∙ both _ _ _ _ (unsigned_tied k.tree q.tree) (unsigned_tied k.ino q.ino)
+
+either : (a b : Bool) → cond a true b ≡ (a || b)
+either true b = refl
+either false b = refl
+
+pub name_put : (m n : set.BTreeSet ItemRef) (k at : ItemRef) → set.Updates ref_cmp m n k true
+    → set.contains ref_cmp n at ≡ ((k.tree == at.tree && key_same k.key at.key) || set.contains ref_cmp m at)
+name_put m n k at updates = updates.0 at ∙ ap (λ b. cond b true (set.contains ref_cmp m at)) (tied_ref k at) ∙ either (k.tree == at.tree && key_same k.key at.key) (set.contains ref_cmp m at)
+
+unwrap_cond : (b free other : Bool) (o : Option Bool) → unwrap_or (cond b (Some free) o) other ≡ cond b free (unwrap_or o other)
+unwrap_cond true free other o = refl
+unwrap_cond false free other o = refl
+
+pub flag_put : (m n : map.BTreeMap Inode Bool) (k : Inode) (free : Bool) (t i : ℕ) (other : Bool) → map.Updates inode_cmp m n k (Some free)
+    → unwrap_or (map.get inode_cmp n (record { tree = t; ino = i })) other
+    ≡ cond (k.tree == t && k.ino == i) free (unwrap_or (map.get inode_cmp m (record { tree = t; ino = i })) other)
+flag_put m n k free t i other updates =
+    ap (λ o. unwrap_or o other) (updates.0 (record { tree = t; ino = i }) ∙ ap (λ b. cond b (Some free) (map.get inode_cmp m (record { tree = t; ino = i }))) (tied_inode k (record { tree = t; ino = i })))
+    ∙ unwrap_cond (k.tree == t && k.ino == i) free other (map.get inode_cmp m (record { tree = t; ino = i }))
+
+-- ---- the changes, one after the other
+
+-- what is kept of the first changes, and the changes left, are all
+pub record IsHalf (olds news : List ItemAt) (all left : List ItemChange) (made : Made) : Type 0 where
+  pub named : (at : ItemRef) → (is_named olds news left at || has_name made at) ≡ is_named olds news all at
+  pub flags : (tree ino : ℕ) (free : Bool) → sum_free_after olds news tree ino left (flag_by made tree ino free) ≡ sum_free_after olds news tree ino all free
+
+swap_or : (a b c : Bool) → (a || (b || c)) ≡ ((b || a) || c)
+swap_or true true c = refl
+swap_or true false c = refl
+swap_or false true c = refl
+swap_or false false c = refl
+
+or_false : (a : Bool) → (a || false) ≡ a
+or_false true = refl
+or_false false = refl
+
+pub half_none : (olds news : List ItemAt) (all : List ItemChange) (made : Made) → ((at : ItemRef) → has_name made at ≡ false)
+    → ((tree ino : ℕ) (free : Bool) → flag_by made tree ino free ≡ free) → IsHalf olds news all all made
+half_none olds news all made named flags = record {
+  named = λ at. ap (λ b. is_named olds news all at || b) (named at) ∙ or_false (is_named olds news all at);
+  flags = λ tree ino free. ap (sum_free_after olds news tree ino all) (flags tree ino free);
+}
+
+half_cons : (olds news : List ItemAt) (all left : List ItemChange) (change : ItemChange) (made more : Made) → IsApplied olds news change made more
+    → IsHalf olds news all (change ∷ left) made → IsHalf olds news all left more
+unfolding is_named sum_free_after
+half_cons olds news all left change made more applied half = record {
+  named = λ at. ap (λ b. is_named olds news left at || b) (applied.named at) ∙ swap_or (is_named olds news left at) (names olds news at change) (has_name made at) ∙ half.named at;
+  flags = λ tree ino free. ap (sum_free_after olds news tree ino left) (applied.flags tree ino free) ∙ half.flags tree ino free;
+}
+
+next_place : (i : ℕ) → suc i ≡ i + 1
+next_place i = omega arith
+
+pub half_more : (olds news : List ItemAt) (all : List ItemChange) (i : ℕ) (d : ItemChange) (made more : Made) → i < length all
+    → IsApplied olds news (get_or all i d) made more → IsHalf olds news all (drop i all) made → IsHalf olds news all (drop (i + 1) all) more
+half_more olds news all i d made more small applied half =
+    half_cons olds news all (drop (i + 1) all) (get_or all i d) made more applied (subst (λ l. IsHalf olds news all l made) (drop-cons all i d small ∙ ap (λ n. get_or all i d ∷ drop n all) (next_place i)) half)
+
+pub half_all : (olds news : List ItemAt) (all : List ItemChange) (made : Made) → IsHalf olds news all [] made → IsMade olds news all made
+unfolding is_named sum_free_after
+half_all olds news all made half = record { named = half.named; flags = half.flags }
+
+or_front : (a b c : Bool) → (a || (b || c)) ≡ ((b || a) || c)
+or_front true true c = refl
+or_front true false c = refl
+or_front false true c = refl
+or_front false false c = refl
+
+-- an altered item is taken and put
+pub altered : (olds news : List ItemAt) (change : ItemChange) (was is : ℕ) (o n : Option ItemAt) (made taken more : Made) → change ≡ Altered was is → o ≡ slice_get olds was
+    → n ≡ slice_get news is → IsTaken made taken o → IsPut taken more n → IsApplied olds news change made more
+altered olds news change was is o n made taken more it at_o at_n take put =
+    subst (λ c. IsApplied olds news c made more) (sym it) (record {
+      named = λ at.
+          put.named at ∙ ap (λ b. stands_at at n || b) (take.named at) ∙ or_front (stands_at at n) (stands_at at o) (has_name made at)
+          ∙ ap (λ x. (stands_at at x || stands_at at n) || has_name made at) at_o ∙ ap (λ x. (stands_at at (slice_get olds was) || stands_at at x) || has_name made at) at_n;
+      flags = λ tree ino free.
+          put.flags tree ino free ∙ ap (unwrap_or (flag_at tree ino n)) (take.flags tree ino free)
+          ∙ ap (λ x. unwrap_or (flag_at tree ino n) (without_flag (flag_at tree ino x) (flag_by made tree ino free))) at_o
+          ∙ ap (λ x. unwrap_or (flag_at tree ino x) (without_flag (flag_at tree ino (slice_get olds was)) (flag_by made tree ino free))) at_n;
+    })
+
+pub on_ok : {T E P Q : Type 0} (r : Result T E) → (P → Q) → OnOk r P → OnOk r Q
+on_ok (Ok x) f h = f h
+on_ok (Err e) f h = h
+
+-- ---- the inodes on the list
+
+pub listed_none : (m : map.BTreeMap Inode Bool) (inodes : List Inode) → m.entries ≡ [] → AreListed m inodes
+listed_none m inodes none inode is missing =
+    absurd (let gone : true ≡ false = sym is ∙ ap (λ es. is_some (lookup (is_at (inode_cmp inode)) es)) none in cc)
+
+pub listed_more : (m : map.BTreeMap Inode Bool) (inodes : List Inode) (inode : Inode) → AreListed m inodes → AreListed m (inodes ++ inode ∷ [])
+listed_more m inodes inode listed k is missing = listed k is (λ there. missing (Contains-append_left inodes (inode ∷ []) k there))
+
+same_inode : (k q : Inode) → is_at (inode_cmp k) q ≡ true → k ≡ q
+same_inode k q is =
+    let both = and_parts (k.tree == q.tree) (k.ino == q.ino) (sym (tied_inode k q) ∙ is) in
+    let e1 : k.tree ≡ q.tree = eqb-true _ _ both.0 in
+    let e2 : k.ino ≡ q.ino = eqb-true _ _ both.1 in
+    λ i. record { tree = e1 i; ino = e2 i }
+
+pub listed_put : (m n : map.BTreeMap Inode Bool) (inodes : List Inode) (k : Inode) (free : Bool) → map.Updates inode_cmp m n k (Some free)
+    → ((Contains inodes k → ⊥) → ⊥) → AreListed m inodes → AreListed n inodes
+listed_put m n inodes k free updates there listed q is missing = by (is_at (inode_cmp k) q) refl
+  where
+    by : (b : Bool) → is_at (inode_cmp k) q ≡ b → ⊥
+    by true e = there (subst (λ x. Contains inodes x → ⊥) (sym (same_inode k q e)) missing)
+    by false e = listed q (subst IsSome (updates.0 q ∙ ap (λ b. cond b (Some free) (map.get inode_cmp m q)) e) is) missing
+
+listed_same : (m n : map.BTreeMap Inode Bool) (inodes : List Inode) → n.entries ≡ m.entries → AreListed m inodes → AreListed n inodes
+listed_same m n inodes same listed inode is missing =
+    listed inode (sym (ap (λ es. is_some (lookup (is_at (inode_cmp inode)) es)) same) ∙ is) missing
+
+pub listed_insert : {T E : Type 0} (m n : map.BTreeMap Inode Bool) (inodes : List Inode) (k : Inode) (free : Bool) (r : Result T E) → ((Contains inodes k → ⊥) → ⊥)
+    → OnOk r (map.Updates inode_cmp m n k (Some free)) → OnErr r (n.entries ≡ m.entries) → AreListed m inodes → AreListed n inodes
+listed_insert m n inodes k free (Ok x) there updates same listed = listed_put m n inodes k free updates there listed
+listed_insert m n inodes k free (Err e) there updates same listed = listed_same m n inodes same listed

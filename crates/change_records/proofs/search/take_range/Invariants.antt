@@ -1,0 +1,12 @@
+use Rattle.live_index.specs.Table.{pairs_of}
+use Rattle.span_index.specs.Table.{times_of}
+use Rattle.change_records.specs.Search.{AreLawful, Searched, known}
+use Rattle.change_records.proofs.SearchLaws.{IsWalked}
+use Rattle.change_records.proofs.search.take_range.Given as goal
+
+abbrev pub invariant-spans : goal.invariant-spans
+invariant-spans g l =
+    AreLawful (g.B.Bases.superblock l.sides.bases.now).nodesize (times_of l.spans)
+    → Searched (known (g.B.Bases.chunks l.sides.bases.now) (g.B.Bases.superblock l.sides.bases.now).nodesize (g.B.Bases.is_sum_free l.sides.bases.now)
+    (pairs_of (g.B.Bases.table l.sides.bases.now)) l.sides.fresh.now l.sides.made.now)
+    (times_of l.spans) (IsWalked l.range.sort l.range.from l.range.until l.after) l.initial.refs l.refs

@@ -1,0 +1,10 @@
+pub mod Changes
+pub mod Next
+pub mod Refs
+pub mod SumFree
+pub mod Listed
+pub mod Made
+pub mod Homes
+pub mod Spans
+pub mod Affected
+pub mod Search

@@ -1,0 +1,165 @@
+//! What changes name, and what they make of the flags of inodes.
+
+ghost use Rattle.std.specs.Prelude.{◌≡◌, ℕ, Bool, false, ◌&&◌, ◌||◌, ◌==◌, IfOk, OnOk, Some, option_map, slice_get, if◌then◌else◌};
+ghost use Rattle.std.specs.List.{Contains};
+ghost use Rattle.change_records.specs.Made.{IsApplied, IsMade, IsPut, IsTaken, flag_by, has_name};
+ghost use Rattle.change_records.specs.Refs.{stands_at};
+ghost use Rattle.change_records.specs.declared.item_ref.ItemRef.{ItemRef as ARef};
+
+use crate::kept::{Inode, Made};
+use crate::{ItemChange, ItemRef};
+use records::{ItemAt, OwnedRec};
+use std::alloc::Global;
+use std::collections::{BTreeMap, BTreeSet};
+use verdict::NoMemory;
+
+/// The bit of an inode's flags that says that its data has no checksums.
+const NODATASUM: u64 = 1;
+
+impl Made {
+    /// What changes from one list of items to another name and make of flags.
+    pub(crate) fn of(
+        alloc: Global,
+        changes: &[ItemChange],
+        old: &[ItemAt],
+        new: &[ItemAt],
+    ) -> Result<Made, NoMemory>
+        ensures { IfOk result (λ made. IsMade old.now new.now changes.now made) }
+    {
+        let mut made = Made::new(alloc);
+        for change in changes {
+            made.apply(change, old, new)?;
+        }
+        Ok(made)
+    }
+
+    // A change more. A place that lies outside its list names nothing.
+    fn apply(&mut self, change: &ItemChange, old: &[ItemAt], new: &[ItemAt]) -> Result<(), NoMemory>
+        ensures { OnOk result (IsApplied old.now new.now change.now self.old self.new) }
+    {
+        match *change {
+            ItemChange::Added { new: is } => self.put(item_at(new, is)),
+            ItemChange::Removed { old: was } => self.take(item_at(old, was)),
+            ItemChange::Altered { old: was, new: is } => {
+                self.take(item_at(old, was))?;
+                self.put(item_at(new, is))
+            }
+        }
+    }
+
+    // Nothing.
+    #[tactic(auto, unfolding(crate::specs::Made::has_name, crate::specs::Made::flag_by))]
+    fn new(alloc: Global) -> Made
+        ensures names { (at : ARef) → has_name result at ≡ false }
+        ensures flags { (tree ino : ℕ) (free : Bool) → flag_by result tree ino free ≡ free }
+    {
+        Made {
+            named: BTreeSet::new(alloc),
+            flags: BTreeMap::new(alloc),
+            inodes: Vec::new(alloc),
+        }
+    }
+
+    // An item of the new list.
+    fn put(&mut self, item: Option<&ItemAt>) -> Result<(), NoMemory>
+        ensures { OnOk result (IsPut self.old self.new (option_map (λ a. a.now) item.entry)) }
+    {
+        let Some(item) = item else {
+            return Ok(());
+        };
+        self.name(item)?;
+        match &item.part {
+            OwnedRec::InodeItem(inode) => {
+                self.set(
+                    item.tree,
+                    inode.key.objectid,
+                    inode.flags & NODATASUM == NODATASUM,
+                )
+            }
+            _ => Ok(()),
+        }
+    }
+
+    // An item of the old list.
+    fn take(&mut self, item: Option<&ItemAt>) -> Result<(), NoMemory>
+        ensures { OnOk result (IsTaken self.old self.new (option_map (λ a. a.now) item.entry)) }
+    {
+        let Some(item) = item else {
+            return Ok(());
+        };
+        self.name(item)?;
+        match &item.part {
+            OwnedRec::InodeItem(inode) => self.set(item.tree, inode.key.objectid, false),
+            _ => Ok(()),
+        }
+    }
+
+    // Puts the item among those that are named.
+    fn name(&mut self, item: &ItemAt) -> Result<(), NoMemory>
+        ensures names { OnOk result ((at : ARef)
+            → has_name self.new at ≡ (stands_at at (Some item.now) || has_name self.old at)) }
+        ensures flags { OnOk result ((tree ino : ℕ) (free : Bool)
+            → flag_by self.new tree ino free ≡ flag_by self.old tree ino free) }
+    {
+        let (tree, key) = (item.tree, item.key);
+        match self.named.insert(ItemRef { tree, key }) {
+            Ok(_) => Ok(()),
+            Err(_) => Err(NoMemory),
+        }
+    }
+
+    // Sets the flag of an inode.
+    fn set(&mut self, tree: u64, ino: u64, free: bool) -> Result<(), NoMemory>
+        ensures names { OnOk result ((at : ARef) → has_name self.new at ≡ has_name self.old at) }
+        ensures flags { OnOk result ((t i : ℕ) (f : Bool) → flag_by self.new t i f
+            ≡ (if tree == t && ino == i then free else flag_by self.old t i f)) }
+    {
+        let inode = Inode { tree, ino };
+        self.list(inode)?;
+        match self.flags.insert(inode, free) {
+            Ok(_) => Ok(()),
+            Err(_) => Err(NoMemory),
+        }
+    }
+
+    // Puts an inode on the list, where it has no flag yet.
+    fn list(&mut self, inode: Inode) -> Result<(), NoMemory>
+        ensures there { OnOk result ((Contains self.new.inodes.items inode → ⊥) → ⊥) }
+        ensures named { self.new.named ≡ self.old.named }
+        ensures flags { self.new.flags ≡ self.old.flags }
+    {
+        if self.flags.contains_key(&inode) {
+            return Ok(());
+        }
+        match self.inodes.push(inode) {
+            Ok(()) => Ok(()),
+            Err(_) => Err(NoMemory),
+        }
+    }
+
+    /// Whether the changes name an item.
+    #[tactic(auto, unfolding(crate::specs::Made::has_name))]
+    pub(crate) fn names(&self, at: &ItemRef) -> bool
+        ensures { result ≡ has_name self.now at.now }
+    {
+        self.named.contains(at)
+    }
+
+    /// The flag of an inode by the changes, or `free`, which it had, where none is of it.
+    #[tactic(auto, unfolding(crate::specs::Made::flag_by))]
+    pub(crate) fn flag(&self, tree: u64, ino: u64, free: bool) -> bool
+        ensures { result ≡ flag_by self.now tree ino free }
+    {
+        self.flags
+            .get(&Inode { tree, ino })
+            .copied()
+            .unwrap_or(free)
+    }
+}
+
+// The item at a place of a list, where there is one.
+fn item_at(items: &[ItemAt], place: u64) -> Option<&ItemAt>
+    ensures { option_map (λ a. a.now) result ≡ slice_get items.now place }
+{
+    items.get(place as usize)
+}

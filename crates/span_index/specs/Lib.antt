@@ -1,0 +1,6 @@
+pub mod Order
+pub mod OrderLaws
+pub mod Spans
+pub mod Sectors
+pub mod Places
+pub mod Table

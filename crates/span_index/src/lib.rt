@@ -1,0 +1,15 @@
+//! The table of spans: the sectors of the accepted image that extents own, that checksums cover and that files
+//! show. Each look into it is counted.
+#![tactic(auto)]
+
+mod files;
+mod index;
+mod kept;
+mod meeting;
+mod places;
+mod span;
+#[cfg(test)]
+mod tests;
+
+pub use kept::SpanIndex;
+pub use span::{Run, SortName, Span, SpanSort};

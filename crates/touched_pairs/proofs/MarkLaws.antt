@@ -1,0 +1,28 @@
+-- Sets of marks: which places are alike, and what a set has after one more.
+use Rattle.std.proofs.Common.{◌≡◌, ℕ, Bool, true, cond, ◌&&◌, ◌==◌, refl, ap, ◌∙◌}
+use Rattle.std.specs.Ordering.{nat_cmp, ordering_then, is_eq}
+use Rattle.std.specs.Cmp.{unsigned_tied}
+use Rattle.std.specs.declared.cmp.Ordering.{Ordering}
+use Rattle.std.specs.declared.cmp.Ordering.TheVariants.{Less, Equal, Greater}
+use Rattle.std.specs.BTreeMap.{is_at}
+use Rattle.std.specs.BTreeSet as set
+use Rattle.touched_pairs.specs.declared.marks.Marks.{Marks}
+use Rattle.touched_pairs.specs.declared.marks.PairPlace.{PairPlace}
+use Rattle.touched_pairs.specs.Marks.{by_pair, marked_by, pair_place, with_mark}
+
+then_tied : (o p : Ordering) → is_eq (ordering_then o p) ≡ (is_eq o && is_eq p)
+then_tied = elim [ Less ↦ λ p. refl | Equal ↦ λ p. refl | Greater ↦ λ p. refl ]
+
+both : (a b c d : Bool) → a ≡ b → c ≡ d → (a && c) ≡ (b && d)
+both a b c d e f = ap (λ x. x && c) e ∙ ap (λ x. b && x) f
+
+tied : (k q : PairPlace) → is_at (by_pair k) q ≡ (k.tree == q.tree && k.address == q.address)
+tied k q = then_tied (nat_cmp k.tree q.tree) (nat_cmp k.address q.address) ∙ both _ _ _ _ (unsigned_tied k.tree q.tree) (unsigned_tied k.address q.address)
+
+pub put_mark : (old new : Marks) (tree address : ℕ) (k : PairPlace) → k ≡ pair_place tree address → set.UpdatesBy by_pair (by_pair k) old.places new.places true
+    → (t a : ℕ) → marked_by new t a ≡ with_mark (marked_by old) tree address t a
+unfolding marked_by
+put_mark old new tree address k is updates t a =
+    updates.0 (pair_place t a)
+    ∙ ap (λ b. cond b true (set.contains by_pair old.places (pair_place t a)))
+    (tied k (pair_place t a) ∙ ap (λ x. x.tree == t && x.address == a) is)

@@ -1,0 +1,6 @@
+pub mod Touched
+pub mod Marks
+pub mod Marking
+pub mod Spots
+pub mod Going
+pub mod Moves

@@ -1,0 +1,35 @@
+-- Marks on pairs of a tree and a block.
+use Rattle.std.specs.Prelude.{ℕ, Bool, true, false, ◌&&◌, ◌==◌, if◌then◌else◌}
+use Rattle.std.specs.Ordering.{nat_cmp, ordering_then}
+use Rattle.std.specs.declared.cmp.Ordering.{Ordering}
+use Rattle.std.specs.BTreeSet as set
+use Rattle.touched_pairs.specs.declared.marks.Marks.{Marks}
+use Rattle.touched_pairs.specs.declared.marks.PairPlace.{PairPlace}
+
+-- which pairs have a mark, by tree and address
+abbrev pub Marked : Type 0
+Marked = ℕ → ℕ → Bool
+
+-- the order in which marks are kept
+abbrev pub by_pair : PairPlace → PairPlace → Ordering
+by_pair x y = ordering_then (nat_cmp x.tree y.tree) (nat_cmp x.address y.address)
+
+-- where the mark of a pair stands
+abbrev pub pair_place : ℕ → ℕ → PairPlace
+pair_place tree address = record { tree = tree; address = address }
+
+-- the pairs that have one of these marks
+unfoldable pub marked_by : Marks → Marked
+marked_by marks tree address = set.contains by_pair marks.places (pair_place tree address)
+
+-- no mark
+abbrev pub no_mark : Marked
+no_mark tree address = false
+
+-- whether a pair is that of a tree at an address
+abbrev pub is_pair : ℕ → ℕ → Marked
+is_pair t a tree address = t == tree && a == address
+
+-- these marks and that of one pair more
+abbrev pub with_mark : Marked → ℕ → ℕ → Marked
+with_mark marked t a tree address = if is_pair t a tree address then true else marked tree address

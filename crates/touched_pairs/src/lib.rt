@@ -1,0 +1,16 @@
+//! The live pairs of an accepted image that pending writes touch, with all that stand above them in their trees.
+#![tactic(auto)]
+
+mod mark;
+mod marks;
+mod moved;
+mod spot;
+mod test;
+#[cfg(test)]
+mod tests;
+mod written;
+
+pub use marks::{Marks, PairPlace};
+pub use moved::{Move, moved_pairs};
+pub use test::AddressTest;
+pub use written::touched_pairs;

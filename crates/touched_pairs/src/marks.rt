@@ -1,0 +1,63 @@
+//! Marks on pairs of a tree and a block.
+
+ghost use Rattle.std.specs.Prelude.{◌≡◌, ℕ, ◌<◌, ◌^◌, false, OnOk, OnErr};
+ghost use Rattle.touched_pairs.specs.Marks.{marked_by, pair_place, with_mark};
+
+use std::alloc::Global;
+use std::collections::BTreeSet;
+use verdict::NoMemory;
+
+/// Where the mark of a pair stands: by tree, then by address.
+#[derive(Clone, Copy, PartialEq, Eq, PartialOrd, Ord)]
+pub struct PairPlace {
+    /// The id of the tree.
+    pub tree: u64,
+    /// The logical address of the block in bytes.
+    pub address: u64,
+}
+
+/// Marks on pairs of a tree and the logical address of a block.
+#[derive(Drop)]
+pub struct Marks {
+    places: BTreeSet<PairPlace>,
+}
+
+impl Marks {
+    /// No mark. The marks take their memory from this allocator.
+    #[tactic(auto, unfolding(crate::specs::Marks::marked_by))]
+    pub fn new(alloc: Global) -> Marks
+        ensures { (tree address : ℕ) → marked_by result tree address ≡ false }
+    {
+        Marks {
+            places: BTreeSet::new(alloc),
+        }
+    }
+
+    /// Whether the pair of a tree at an address is marked.
+    #[tactic(auto, unfolding(crate::specs::Marks::marked_by))]
+    pub fn has(&self, tree: u64, address: u64) -> bool
+        ensures { result ≡ marked_by self.now tree address }
+    {
+        self.places.contains(&place_of(tree, address))
+    }
+
+    /// Marks the pair of a tree at an address. Out of memory, nothing changes.
+    #[tactic(auto, unfolding(crate::specs::Marks::marked_by))]
+    pub fn put(&mut self, tree: u64, address: u64) -> Result<(), NoMemory>
+        ensures ok { OnOk result ((t a : ℕ) →
+            marked_by self.new t a ≡ with_mark (marked_by self.old) tree address t a) }
+        ensures err { OnErr result ((t a : ℕ) → marked_by self.new t a ≡ marked_by self.old t a) }
+    {
+        match self.places.insert(place_of(tree, address)) {
+            Ok(_) => Ok(()),
+            Err(_) => Err(NoMemory),
+        }
+    }
+}
+
+// Where the mark of the pair of a tree at an address stands.
+fn place_of(tree: u64, address: u64) -> PairPlace
+    ensures { result ≡ pair_place tree address }
+{
+    PairPlace { tree, address }
+}

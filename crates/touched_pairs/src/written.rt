@@ -1,0 +1,47 @@
+//! The pairs of a table that pending writes touch.
+
+ghost use Rattle.std.specs.Prelude.{◌≡◌, IfOk};
+ghost use Rattle.live_index.specs.Table.{pairs_of};
+ghost use Rattle.touched_pairs.specs.Marking.{AreMarked};
+ghost use Rattle.touched_pairs.specs.Marks.{marked_by, no_mark};
+ghost use Rattle.touched_pairs.specs.Spots.{at_address};
+ghost use Rattle.touched_pairs.specs.Touched.{touches_block, written_in};
+
+use crate::mark::mark_spot;
+use crate::marks::Marks;
+use crate::spot::Spot;
+use chunk_map::ChunkMap;
+use live_index::LiveIndex;
+use recon_disk::Steps;
+use std::alloc::Global;
+use verdict::NoMemory;
+use write_cache::WriteCache;
+
+/// Marks on the pairs of a table of whose blocks a pending write touches a byte of a copy, and on all pairs that stand above them in
+/// their trees. A block has `nodesize` bytes, and its copies stand by the chunks of `map` on a device of `end` bytes.
+pub fn touched_pairs<L>(
+    alloc: Global,
+    table: &LiveIndex<L>,
+    cache: &WriteCache,
+    map: &ChunkMap,
+    nodesize: u32,
+    end: u64,
+    steps: &mut Steps<L>,
+) -> Result<Marks, NoMemory>
+    ensures ok { IfOk result (λ marks. AreMarked (pairs_of table.now)
+        (at_address (touches_block (written_in cache.now) map.now nodesize end))
+        no_mark (marked_by marks)) }
+{
+    let mut marks = Marks::new(alloc);
+    for (at, bytes) in cache.pieces() {
+        let spot = Spot {
+            at,
+            len: bytes.len() as u64,
+            nodesize,
+            end,
+            map,
+        };
+        mark_spot(table, &spot, &mut marks, steps)?;
+    }
+    Ok(marks)
+}

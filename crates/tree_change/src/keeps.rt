@@ -1,0 +1,33 @@
+//! What says which blocks a walk keeps.
+
+ghost use Rattle.std.specs.Prelude.{◌≡◌, ◌+◌, ◌-◌, ◌<◌, ◌∷◌, length, drop};
+ghost use Rattle.tree_change.specs.Skips.{Anew, Kept};
+
+use node_reader::Expect;
+use verdict::Key;
+
+/// What says which blocks a walk keeps without reading them, and to which blocks it goes on below each of them.
+pub trait Keeps {
+    /// The greatest key that is sure to stand in each block that is kept, or below it.
+    ghost keeps: { Self → Kept };
+    /// The blocks that are walked below each kept block.
+    ghost anew: { Self → Anew };
+
+    /// The greatest key that is sure to stand in the block that is expected, or below it, `None` where it is not kept.
+    fn kept(&mut self, e: &Expect) -> Option<Key>
+        ensures value { result ≡ keeps self.old e.now }
+        ensures same { keeps self.new ≡ keeps self.old }
+        ensures same_anew { anew self.new ≡ anew self.old };
+
+    /// How many blocks are walked below a kept one.
+    fn count(&self, e: &Expect) -> usize
+        ensures { result ≡ length (anew self.now e.now) };
+
+    /// What is expected of one of these, by its number in their order. It is on the next level.
+    fn next(&mut self, e: &Expect, i: usize) -> Expect
+        requires inside { i < length (anew self.old e.now) }
+        ensures next { drop i (anew self.old e.now) ≡ result ∷ drop (i + 1) (anew self.old e.now) }
+        ensures level { result.level ≡ e.now.level - 1 }
+        ensures same { keeps self.new ≡ keeps self.old }
+        ensures same_anew { anew self.new ≡ anew self.old };
+}

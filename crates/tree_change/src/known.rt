@@ -1,0 +1,110 @@
+//! What is known of a tree as it was, and which of its blocks are kept by it.
+
+ghost use Rattle.std.specs.Prelude.{◌≡◌, ◌+◌, ◌-◌, ◌∷◌, ◌<◌, length, drop};
+ghost use Rattle.live_index.specs.Table.{pairs_of};
+ghost use Rattle.touched_pairs.specs.Marks.{marked_by};
+ghost use Rattle.touched_pairs.specs.Moves.{move_passes};
+ghost use Rattle.tree_change.specs.Keeping.{anew_of, bound_of, is_first, is_same, or_high, start_of, starts_of};
+ghost use Rattle.tree_change.specs.Known.{kept_by, listed_by};
+ghost use Rattle.tree_change.specs.Under.{under_of};
+
+use crate::keeps::Keeps;
+use crate::starts::{Start, Starts};
+use live_index::{Live, LiveIndex};
+use node_reader::Expect;
+use recon_disk::Steps;
+use touched_pairs::{AddressTest, Marks, Move};
+use verdict::Key;
+
+/// What is known of a tree as it was: its live pairs, the marks of those that writes touch and of all above them, which blocks stand at
+/// another place now, and the children that moved or are above one that did. Each block that is asked for looks once into the table.
+#[derive(Drop)]
+pub struct KnownTree<'a, 's, L> {
+    /// The live pairs.
+    pub table: &'a LiveIndex<L>,
+    /// The pairs that a write touches, and all above them.
+    pub marks: &'a Marks,
+    /// Which blocks stand at another place.
+    pub moves: &'a Move<'a>,
+    /// The children that are walked below kept blocks.
+    pub starts: &'a Starts,
+    /// The counter of looks into the table.
+    pub steps: &'s mut Steps<L>,
+}
+
+impl<'a, 's, L> Keeps for KnownTree<'a, 's, L> {
+    ghost keeps = { kept_by };
+
+    ghost anew = { listed_by };
+
+    #[tactic(auto, unfolding(crate::specs::Keeping::kept_of))]
+    fn kept(&mut self, e: &Expect) -> Option<Key> {
+        if self.marks.has(e.tree, e.address) || self.moves.passes(e.address) {
+            return None;
+        }
+        let live = self.table.get(e.tree, e.address, self.steps)?;
+        if is_same(e, &live) {
+            Some(bound(self.starts.of(e.tree, e.address), live.last))
+        } else {
+            None
+        }
+    }
+
+    #[tactic(auto, using(crate::proofs::Knowing::starts_length))]
+    fn count(&self, e: &Expect) -> usize {
+        self.starts.of(e.tree, e.address).len()
+    }
+
+    #[tactic(auto, using(crate::proofs::Knowing::starts_length, crate::proofs::Knowing::starts_more))]
+    fn next(&mut self, e: &Expect, i: usize) -> Expect {
+        let start = self.starts.of(e.tree, e.address)[i];
+        expected(e, &start)
+    }
+}
+
+// What is expected of a child that is walked below a block.
+fn expected(e: &Expect, start: &Start) -> Expect
+    ensures { result ≡ start_of (e.now.level - 1) e.now start.now }
+{
+    Expect {
+        tree: e.tree,
+        address: start.pointer.address,
+        generation: start.pointer.generation,
+        level: e.level.saturating_sub(1),
+        low: Some(start.pointer.key),
+        high: start.next.or(e.high),
+        parent: e.address,
+    }
+}
+
+// The greatest key that is sure to stand in a block or below it, of which this was the greatest.
+#[tactic(auto, using(crate::proofs::Knowing::bound_here, crate::proofs::Knowing::bound_later))]
+fn bound(starts: &[Start], last: Key) -> Key
+    ensures { result ≡ bound_of starts.now last }
+{
+    for start in starts {
+        match start.next {
+            None => return start.pointer.key,
+            Some(_) => {}
+        }
+    }
+    last
+}
+
+// Whether the block that is expected is the one that is known.
+fn is_same(e: &Expect, live: &Live) -> bool
+    ensures { result ≡ is_same e.now live.now }
+{
+    e.level == live.level && e.generation == live.generation && is_first(e, live)
+}
+
+// Whether the first key of a block is the one that is expected. A root expects none, and has no high key. An empty leaf, whose first key
+// is above its greatest one, is a root alone.
+fn is_first(e: &Expect, live: &Live) -> bool
+    ensures { result ≡ is_first live.now e.now.low e.now.high }
+{
+    match e.low {
+        None => e.high.is_none(),
+        Some(low) => live.first == low && live.last >= live.first,
+    }
+}

@@ -1,0 +1,42 @@
+//! Laws of the walk of a tree that keeps blocks. Each stands on a function that does nothing.
+
+ghost use Rattle.tree_change.specs.ImageLaw.{ReadAlikeLaw, StoredAlikeLaw};
+ghost use Rattle.tree_change.specs.Keeping.{KeepingLaw};
+ghost use Rattle.tree_change.specs.Marking.{MarkingLaw};
+ghost use Rattle.tree_change.specs.SkipLaw.{SkippingLaw, WalkIsOwn};
+
+/// A walk is the own records of the blocks that it comes to, one after the other, or their first finding.
+pub fn walk_is_own()
+    ensures { WalkIsOwn }
+{}
+
+/// A walk that keeps blocks reads none of them, takes none of their own records, and goes on to those that are listed
+/// below them. Wherever the keeping is sound, it gives the whole walk's first finding, or its records without those of
+/// kept blocks.
+pub fn skipping_law()
+    ensures { SkippingLaw }
+{}
+
+/// What is known of a tree as it was keeps blocks of the tree as it is soundly: a table of its live pairs, marks of
+/// those that writes touch and of all above them, and the children that moved or are above a block that moved.
+pub fn keeping_law()
+    ensures { KeepingLaw }
+{}
+
+/// Blocks that are marked from some on up, by the nodes above that a table of live pairs names, are just those that are
+/// above one of these, or are one.
+pub fn marking_law()
+    ensures { MarkingLaw }
+{}
+
+/// Superblocks that agree in the id of the file system, the size of a tree block, the two words of features and the id
+/// of the device give the same walks of what is stored.
+pub fn read_alike_law()
+    ensures { ReadAlikeLaw }
+{}
+
+/// What is stored at an address is the same in an image and in the image that pending writes make of it, where no write
+/// touches a byte of a copy and the two lists of chunks give the same place.
+pub fn stored_alike_law()
+    ensures { StoredAlikeLaw }
+{}
