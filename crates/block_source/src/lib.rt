@@ -8,6 +8,6 @@ mod read;
 mod walk;
 
 pub use halt::{Fault, Halt, told};
-pub use read::{BlockSource, read_block, read_under};
 pub use own::take_own;
+pub use read::{BlockSource, read_block, read_under};
 pub use walk::{child_at, walk_into, walk_tree};

@@ -35,7 +35,8 @@ impl Files {
     pub(crate) fn add(&mut self, span: &Span) -> Result<(), NoMemory>
         ensures ok { OnOk result ((place : InFile) →
             has_file self.new place ≡ (if is_file_of span.now place then true else has_file self.old place)) }
-        ensures err { OnErr result ((place : InFile) → has_file self.new place ≡ has_file self.old place) }
+        ensures err { OnErr result
+            ((place : InFile) → has_file self.new place ≡ has_file self.old place) }
     {
         match file_of(span) {
             Some(place) => match self.places.insert(place) {

@@ -90,7 +90,8 @@ impl<L> SpanIndex<L> {
         after: Option<&Span>,
         steps: &mut Steps<L>,
     ) -> Option<Span>
-        ensures value { IsMeeting (times_of self.now) sort address (option_map (λ a. a.now) after.entry) result }
+        ensures value { IsMeeting (times_of self.now) sort address
+            (option_map (λ a. a.now) after.entry) result }
         ensures looks { steps.new ≡ counted steps.old }
     {
         steps.look();

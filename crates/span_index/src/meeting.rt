@@ -23,7 +23,8 @@ impl<L> SpanIndex<L> {
         address: u64,
         after: Option<Span>,
     ) -> Option<(Span, u64)>
-        ensures value { IsMeeting (times_of self.now) sort address after (option_map (λ p. p.0) result) }
+        ensures value { IsMeeting (times_of self.now) sort address after
+            (option_map (λ p. p.0) result) }
         ensures times { IfSome result (λ p. p.1 ≡ times_of self.now p.0) }
     {
         let mut least = None;
@@ -61,7 +62,8 @@ impl<L> SpanIndex<L> {
         after: Option<Span>,
     ) -> Option<(Span, u64)>
         requires { class < 64 }
-        ensures value { IsMetWhere (λ c. c == class) (times_of self.now) sort address after (option_map (λ p. p.0) result) }
+        ensures value { IsMetWhere (λ c. c == class) (times_of self.now) sort address after
+            (option_map (λ p. p.0) result) }
         ensures times { IfSome result (λ p. p.1 ≡ times_of self.now p.0) }
     {
         let start = start_in(sort, class, address, after);

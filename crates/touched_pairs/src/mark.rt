@@ -43,7 +43,8 @@ pub fn mark_above<L>(
 fn parent_of<L>(table: &LiveIndex<L>, live: &Live, steps: &mut Steps<L>) -> Option<Live>
     ensures value { result ≡ parent_of (pairs_of table.now) (live.now).tree live.now }
     ensures higher { IfSome result (λ up. (live.now).level < up.level) }
-    ensures own { IfSome result (λ up. (up.tree ≡ (live.now).tree) × (up.address ≡ (live.now).parent)
+    ensures own { IfSome result (λ up.
+        (up.tree ≡ (live.now).tree) × (up.address ≡ (live.now).parent)
         × (pairs_of table.now (live.now).tree (live.now).parent ≡ Some up)) }
 {
     let up = table.get(live.tree, live.parent, steps)?;

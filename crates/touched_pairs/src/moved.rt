@@ -68,7 +68,8 @@ pub fn moved_pairs<L>(
     end: u64,
     steps: &mut Steps<L>,
 ) -> Result<Marks, NoMemory>
-    ensures ok { AreApart new.now → 0 < nodesize → IfOk result (λ marks. AreMarkedFrom (pairs_of table.now)
+    ensures ok { AreApart new.now → 0 < nodesize → IfOk result (λ marks. AreMarkedFrom
+        (pairs_of table.now)
         (at_address (held_and_moved old.now new.now nodesize end))
         (at_address (is_moved old.now new.now nodesize end)) no_mark (marked_by marks)) }
 {

@@ -42,7 +42,8 @@ impl<'a> Spot<'a> {
     /// The least and the greatest address that a block of a chunk may have that the range meets in the chunk's copy that begins at an
     /// offset of the device, `None` where it meets nothing of that copy.
     pub(crate) fn blocks_in(&self, chunk: &Chunk, copy: u64) -> Option<(u64, u64)>
-        ensures { (a : ℕ) → a < 2 ^ 64 → meets_in_copy self.now chunk.now copy a ≡ true → LiesIn result a }
+        ensures { (a : ℕ) → a < 2 ^ 64 →
+            meets_in_copy self.now chunk.now copy a ≡ true → LiesIn result a }
     {
         let more = self.len.checked_sub(1)?;
         let reach = if self.at < copy {

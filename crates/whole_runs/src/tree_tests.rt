@@ -19,6 +19,7 @@ use write_cache::WriteCache;
 
 // The address of the root of the file tree, which is a leaf, and where its two copies stand.
 const ROOT: u64 = 5_292_032;
+
 const SECOND: u64 = 13_680_640;
 
 // The chunks of the base image that hold tree blocks.
