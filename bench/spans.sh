@@ -1,8 +1,9 @@
 #!/usr/bin/env bash
-# Times the table of spans beside one of std's ordered maps in plain Rust, from sort, class and span to how often the span
-# stands: COUNT inserts of spans of 1 to 61 sectors at scattered places, these and ROUNDS questions for the span that
-# meets each place, asked of each class that has spans, and these and the removal of each span. Prints the user seconds of each, the least of five runs, the ratios, and the bytes of memory that an
-# entry takes. COUNT is at most 1048576.
+# Times the table of spans beside one of std's ordered maps in plain Rust, from sort, class and span to how often the
+# span stands. COUNT inserts of spans of 1 to 61 sectors at scattered places are timed, then these and ROUNDS questions
+# for the span that meets each place, asked of each class that has spans, then these and the removal of each span.
+# Prints the user seconds of each, the least of five runs, the ratios, and the bytes of memory that an entry takes.
+# COUNT is at most 1048576.
 # Usage: bench/spans.sh [COUNT] [ROUNDS]
 set -euo pipefail
 top=$(cd "$(dirname "$0")/.." && pwd)
