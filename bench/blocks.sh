@@ -3,13 +3,13 @@
 # nodes of 400 pointers in turn, ROUNDS times. Prints the seconds of each, without those for making the blocks, and
 # the ratio. Usage: bench/blocks.sh [COUNT] [ROUNDS]
 set -eu
-cd "$(dirname "$0")/../crates/block_bench"
+cd "$(dirname "$0")/../crates/benches"
 count=${1:-16384}
 rounds=${2:-20}
 rt run > /dev/null 2>&1 || true
 
 seconds() { # WORDS..: the user time of the program
-  python3 - out/block_bench "$@" <<'PYTHON'
+  python3 - out/benches blocks "$@" <<'PYTHON'
 import resource, subprocess, sys
 subprocess.run(sys.argv[1:], check=True, stdout=subprocess.DEVNULL)
 print(resource.getrusage(resource.RUSAGE_CHILDREN).ru_utime)

@@ -102,8 +102,12 @@ fn main() {
 RUST
 
 rustc -O -o "$work/plain" "$work/plain.rs"
-(cd "$top/crates/cache_bench" && rt run -- scattered 1000 100 >"$work/build.log" 2>&1) || { tail -20 "$work/build.log"; exit 1; }
-proved=$top/crates/cache_bench/out/cache_bench
+(cd "$top/crates/benches" && rt run >"$work/build.log" 2>&1) || { tail -20 "$work/build.log"; exit 1; }
+proved=$work/proved
+printf '#!/bin/sh
+exec "%s" pending "$@"
+' "$top/crates/benches/out/benches" >"$proved"
+chmod +x "$proved"
 
 least() { # PROGRAM WORDS..: the least user time of five runs, in seconds
     python3 - "$@" <<'PYTHON'

@@ -93,8 +93,12 @@ fn main() {
 RUST
 
 rustc -O -o "$work/plain" "$work/plain.rs"
-(cd "$top/crates/change_bench" && rt run -- 1000 2 >"$work/build.log" 2>&1) || { tail -20 "$work/build.log"; exit 1; }
-proved=$top/crates/change_bench/out/change_bench
+(cd "$top/crates/benches" && rt run >"$work/build.log" 2>&1) || { tail -20 "$work/build.log"; exit 1; }
+proved=$work/proved
+printf '#!/bin/sh
+exec "%s" changes "$@"
+' "$top/crates/benches/out/benches" >"$proved"
+chmod +x "$proved"
 
 seconds() { # WORDS..: the least user time of five runs
     python3 - "$@" <<'PYTHON'

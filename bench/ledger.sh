@@ -155,8 +155,12 @@ fn main() {
 RUST
 
 rustc -O -o "$work/plain" "$work/plain.rs"
-(cd "$top/crates/ledger_bench" && rt run -- turn 1000 2 >"$work/build.log" 2>&1) || { tail -20 "$work/build.log"; exit 1; }
-proved=$top/crates/ledger_bench/out/ledger_bench
+(cd "$top/crates/benches" && rt run >"$work/build.log" 2>&1) || { tail -20 "$work/build.log"; exit 1; }
+proved=$work/proved
+printf '#!/bin/sh
+exec "%s" ledger "$@"
+' "$top/crates/benches/out/benches" >"$proved"
+chmod +x "$proved"
 
 measure() { # WHAT INPUT PROGRAM WORDS..: the least user time of five runs in seconds, or the most memory of one in bytes
     python3 - "$@" <<'PYTHON'

@@ -112,8 +112,12 @@ fn main() {
 RUST
 
 rustc -O -o "$work/plain" "$work/plain.rs"
-(cd "$top/crates/span_bench" && rt run -- remove 1000 2 >"$work/build.log" 2>&1) || { tail -20 "$work/build.log"; exit 1; }
-proved=$top/crates/span_bench/out/span_bench
+(cd "$top/crates/benches" && rt run >"$work/build.log" 2>&1) || { tail -20 "$work/build.log"; exit 1; }
+proved=$work/proved
+printf '#!/bin/sh
+exec "%s" spans "$@"
+' "$top/crates/benches/out/benches" >"$proved"
+chmod +x "$proved"
 
 measure() { # WHAT PROGRAM WORDS..: the least user time of five runs in seconds, or the most memory of one in bytes
     python3 - "$@" <<'PYTHON'

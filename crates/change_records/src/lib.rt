@@ -11,8 +11,6 @@ mod made;
 mod reached;
 mod same;
 mod search;
-#[cfg(test)]
-mod tests;
 
 pub use changes::{ItemChange, pair};
 pub use item_ref::ItemRef;

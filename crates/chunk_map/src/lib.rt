@@ -10,8 +10,6 @@ mod laws;
 mod map;
 mod order;
 mod rules;
-#[cfg(test)]
-mod tests;
 mod turned;
 
 pub use bases::Bases;

@@ -4,7 +4,5 @@
 mod entries;
 mod subvolumes;
 mod table;
-#[cfg(test)]
-mod tests;
 
 pub use table::post;

@@ -6,8 +6,6 @@ mod extent;
 mod group;
 mod keyed;
 mod reference;
-#[cfg(test)]
-mod tests;
 
 pub use extent::{ExtentItem, read_extent};
 pub use group::{GroupItem, read_group};

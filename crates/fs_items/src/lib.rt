@@ -7,8 +7,6 @@ mod inode;
 mod inode_ref;
 mod orphan;
 mod sums;
-#[cfg(test)]
-mod tests;
 mod xattr;
 
 pub use dir::{DirEntries, DirEntry, DirItem, read_dir};

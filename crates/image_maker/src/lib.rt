@@ -28,6 +28,3 @@ pub use node::{ChildPointer, node_block};
 pub use superblock::{base_superblock, superblock_of};
 pub use trees::{NODESIZE, TreeBlock};
 pub use wider::wider_image;
-
-#[cfg(test)]
-mod tests;

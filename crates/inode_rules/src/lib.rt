@@ -3,8 +3,6 @@
 
 mod rows;
 mod table;
-#[cfg(test)]
-mod tests;
 
 pub use rows::type_of_mode;
 pub use table::post;

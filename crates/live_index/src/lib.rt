@@ -7,8 +7,6 @@ mod kept;
 mod live;
 mod orders;
 mod places;
-#[cfg(test)]
-mod tests;
 
 pub use kept::LiveIndex;
 pub use live::Live;

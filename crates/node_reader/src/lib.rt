@@ -11,6 +11,3 @@ mod rules;
 pub use block::{Block, read_block};
 pub use expect::{Expect, Pointer};
 pub use law::high_decides;
-
-#[cfg(test)]
-mod tests;

@@ -15,6 +15,3 @@ pub use sink::{MemSink, Sink};
 pub use source::{MemSource, Source};
 pub use steps::Steps;
 pub use writing::{WRITE_MAX, write_all_at};
-
-#[cfg(test)]
-mod tests;

@@ -3,8 +3,6 @@
 
 mod json_text;
 mod line;
-#[cfg(test)]
-mod tests;
 mod text;
 
 pub use json_text::json_of;

@@ -5,8 +5,6 @@ mod edge;
 mod kept;
 mod run;
 mod sectors;
-#[cfg(test)]
-mod tests;
 
 pub use kept::Sectors;
 pub use run::{SECTOR, SectorRun, SectorUse};

@@ -4,7 +4,5 @@
 mod place;
 mod rows;
 mod sectors;
-#[cfg(test)]
-mod tests;
 
 pub use rows::{post, post_rest, run_of};

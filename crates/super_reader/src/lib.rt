@@ -235,6 +235,3 @@ fn sum_of(bytes: &[u8; 4096]) -> u32
 {
     crc32c(&bytes[0x20..])
 }
-
-#[cfg(test)]
-mod tests;

@@ -6,8 +6,6 @@ mod marks;
 mod moved;
 mod spot;
 mod test;
-#[cfg(test)]
-mod tests;
 mod written;
 
 pub use marks::{Marks, PairPlace};

@@ -6,8 +6,6 @@ mod fault;
 mod law;
 mod pieces;
 mod reader;
-#[cfg(test)]
-mod tests;
 
 pub use fault::TraceFault;
 pub use law::one_trace;

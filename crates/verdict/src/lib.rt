@@ -7,8 +7,6 @@ mod key;
 pub mod kinds;
 mod machine;
 mod place;
-#[cfg(test)]
-mod tests;
 
 pub use bytes::{Bytes, NoMemory};
 pub use finding::{Family, Finding, Rule, Verdict};

@@ -8,8 +8,6 @@ mod device;
 mod root;
 mod root_at;
 mod root_link;
-#[cfg(test)]
-mod tests;
 
 pub use chunk::{ChunkItem, Stripe, Stripes, read_chunk};
 pub use dev_extent::{DevExtent, read_dev_extent};

@@ -1,0 +1,188 @@
+use std::alloc::Global;
+use std::process::Abort;
+use verdict::{Bytes, HeldWrite, NoMemory};
+use write_cache::*;
+
+// Where bytes begin, and the bytes.
+type Part = (u64, &'static [u8]);
+
+// Writes in their order, and the pieces that they make.
+const PUTS: [(&[Part], &[Part]); 19] = [
+    (&[], &[]),
+    (&[(10, &[])], &[]),
+    (&[(10, &[1, 2]), (11, &[])], &[(10, &[1, 2])]),
+    // Apart, and touching from behind and from before.
+    (&[(10, &[1]), (12, &[2])], &[(10, &[1]), (12, &[2])]),
+    (&[(12, &[2]), (10, &[1])], &[(10, &[1]), (12, &[2])]),
+    (&[(10, &[1, 2]), (12, &[3])], &[(10, &[1, 2, 3])]),
+    (&[(12, &[3]), (10, &[1, 2])], &[(10, &[1, 2, 3])]),
+    // A bridge between two pieces.
+    (&[(10, &[1]), (12, &[2]), (11, &[9])], &[(10, &[1, 9, 2])]),
+    // Inside a piece, at its start and at its end.
+    (
+        &[(10, &[1, 2, 3, 4, 5]), (12, &[9])],
+        &[(10, &[1, 2, 9, 4, 5])],
+    ),
+    (&[(10, &[1, 2, 3]), (10, &[9])], &[(10, &[9, 2, 3])]),
+    (&[(10, &[1, 2, 3]), (12, &[9])], &[(10, &[1, 2, 9])]),
+    // Over the end of a piece, over its start, and over the whole.
+    (&[(10, &[1, 2, 3]), (12, &[8, 9])], &[(10, &[1, 2, 8, 9])]),
+    (
+        &[(12, &[1, 2, 3]), (10, &[7, 8, 9])],
+        &[(10, &[7, 8, 9, 2, 3])],
+    ),
+    (&[(10, &[1, 2]), (10, &[3, 4])], &[(10, &[3, 4])]),
+    (&[(11, &[1]), (10, &[7, 8, 9])], &[(10, &[7, 8, 9])]),
+    (&[(10, &[1]), (10, &[2, 3])], &[(10, &[2, 3])]),
+    // Over several pieces, the last of which goes on behind it.
+    (
+        &[(10, &[1]), (12, &[2]), (14, &[3, 4, 5]), (9, &[6; 6])],
+        &[(9, &[6, 6, 6, 6, 6, 6, 4, 5])],
+    ),
+    (
+        &[(10, &[1, 2, 3]), (15, &[5, 6, 7]), (11, &[8; 5])],
+        &[(10, &[1, 8, 8, 8, 8, 8, 6, 7])],
+    ),
+    // Pieces away from a write stay.
+    (
+        &[(5, &[1]), (20, &[2]), (10, &[3, 4]), (11, &[5, 6])],
+        &[(5, &[1]), (10, &[3, 5, 6]), (20, &[2])],
+    ),
+];
+
+// Puts a write, by a copy of its bytes or by bytes of its own.
+fn put(
+    rt: &impl Abort,
+    alloc: Global,
+    cache: &mut WriteCache,
+    part: Part,
+    own: bool,
+) -> Result<(), NoMemory> {
+    let (at, bytes) = part;
+    assert!(rt; at < 1000 && bytes.len() < 1000);
+    if own {
+        let bytes = Bytes::of(alloc, bytes)?;
+        cache.hold(HeldWrite { at, bytes })
+    } else {
+        cache.put(at, bytes)
+    }
+}
+
+fn put_all(
+    rt: &impl Abort,
+    alloc: Global,
+    puts: &[Part],
+    own: bool,
+) -> Result<WriteCache, NoMemory> {
+    let mut cache = WriteCache::new(alloc);
+    for part in puts {
+        put(rt, alloc, &mut cache, *part, own)?;
+    }
+    Ok(cache)
+}
+
+// Whether the cache has exactly these pieces.
+fn has_pieces(cache: &WriteCache, wanted: &[Part]) -> bool {
+    let mut left = cache.pieces();
+    for (at, bytes) in wanted {
+        match left.next() {
+            Some((begin, held)) if begin == *at && held == *bytes => {}
+            _ => return false,
+        }
+    }
+    left.next().is_none()
+}
+
+#[test]
+fn the_pieces_are_the_maximal_runs(rt: HostRuntime) -> Result<(), NoMemory> {
+    for (row, (puts, wanted)) in PUTS.iter().enumerate() {
+        for own in [false, true] {
+            let cache = put_all(&rt, rt.alloc(), puts, own)?;
+            assert!(rt; has_pieces(&cache, wanted), "row {row}, own bytes: {own}");
+        }
+    }
+    Ok(())
+}
+
+// Whether a write that is taken makes the pieces `after`, and one that is refused leaves those before.
+fn takes_or_leaves(
+    rt: &impl Abort,
+    alloc: Global,
+    before: &[Part],
+    write: Part,
+    after: &[Part],
+    own: bool,
+) -> Result<bool, NoMemory> {
+    let mut cache = put_all(rt, alloc, before, own)?;
+    let taken = put(rt, alloc, &mut cache, write, own).is_ok();
+    Ok(has_pieces(&cache, if taken { after } else { before }))
+}
+
+#[test]
+fn a_refused_write_leaves_what_waits(rt: HostRuntime) -> Result<(), NoMemory> {
+    let before: &[Part] = &[(10, &[1, 2, 3]), (20, &[4, 5, 6])];
+    let rows: [(Part, &[Part]); 5] = [
+        (
+            (30, &[7]),
+            &[(10, &[1, 2, 3]), (20, &[4, 5, 6]), (30, &[7])],
+        ),
+        ((18, &[7; 3]), &[(10, &[1, 2, 3]), (18, &[7, 7, 7, 5, 6])]),
+        ((12, &[7; 3]), &[(10, &[1, 2, 7, 7, 7]), (20, &[4, 5, 6])]),
+        (
+            (12, &[7; 9]),
+            &[(10, &[1, 2, 7, 7, 7, 7, 7, 7, 7, 7, 7, 5, 6])],
+        ),
+        ((11, &[7]), &[(10, &[1, 7, 3]), (20, &[4, 5, 6])]),
+    ];
+    for (write, after) in rows {
+        for own in [false, true] {
+            // The allocation that fails may be one of the test's own.
+            if let Ok(good) = takes_or_leaves(&rt, rt.alloc(), before, write, after, own) {
+                assert!(rt; good, "at {}, own bytes: {own}", write.0);
+            }
+        }
+    }
+    Ok(())
+}
+
+#[test]
+fn what_waits_is_read_by_ranges(rt: HostRuntime) -> Result<(), NoMemory> {
+    let puts: &[Part] = &[(10, &[1, 2, 3, 4]), (12, &[8, 9, 9, 9]), (20, &[7])];
+    let mut cache = put_all(&rt, rt.alloc(), puts, true)?;
+    // Whether one byte of the range waits, and whether each does.
+    for (at, len, touched, covered) in [
+        (0, 10, false, false),
+        (0, 11, true, false),
+        (10, 6, true, true),
+        (10, 7, true, false),
+        (9, 2, true, false),
+        (15, 1, true, true),
+        (16, 4, false, false),
+        (16, 5, true, false),
+        (20, 1, true, true),
+        (12, 0, false, true),
+        (50, 0, false, true),
+        (21, 1, false, false),
+        (u64::MAX, u64::MAX, false, false),
+        (5, u64::MAX, true, false),
+    ] {
+        assert_eq!(rt; cache.touches(at, len), touched, "{len} bytes at {at}");
+        assert_eq!(rt; cache.covers(at, len), covered, "{len} bytes at {at}");
+    }
+    let mut short = [0; 3];
+    cache.overlay(11, &mut short);
+    assert_eq!(rt; short, [2, 8, 9]);
+    let mut wide = [0; 14];
+    cache.overlay(8, &mut wide);
+    assert_eq!(rt; wide, [0, 0, 1, 2, 8, 9, 9, 9, 0, 0, 0, 0, 7, 0]);
+    cache.put(u64::MAX - 2, &[5, 6])?;
+    let mut last = [0; 4];
+    cache.overlay(u64::MAX - 3, &mut last);
+    assert_eq!(rt; last, [0, 5, 6, 0]);
+    cache.clear();
+    assert!(rt; !cache.touches(0, u64::MAX));
+    assert!(rt; has_pieces(&cache, &[]));
+    cache.overlay(11, &mut short);
+    assert_eq!(rt; short, [2, 8, 9]);
+    Ok(())
+}
