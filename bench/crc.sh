@@ -66,9 +66,7 @@ compiler=${CC:-cc}
 "$compiler" -O2 -o "$work/crc" "$work/crc.c"
 (cd "$top/crates/benches" && rt run >"$work/build.log" 2>&1) || { tail -20 "$work/build.log"; exit 1; }
 proved=$work/proved
-printf '#!/bin/sh
-exec "%s" sums "$@"
-' "$top/crates/benches/out/benches" >"$proved"
+printf '#!/bin/sh\nexec "%s" sums "$@"\n' "$top/crates/benches/out/benches" >"$proved"
 chmod +x "$proved"
 
 # user milliseconds of a program, the least of five runs

@@ -157,9 +157,7 @@ RUST
 rustc -O -o "$work/plain" "$work/plain.rs"
 (cd "$top/crates/benches" && rt run >"$work/build.log" 2>&1) || { tail -20 "$work/build.log"; exit 1; }
 proved=$work/proved
-printf '#!/bin/sh
-exec "%s" ledger "$@"
-' "$top/crates/benches/out/benches" >"$proved"
+printf '#!/bin/sh\nexec "%s" ledger "$@"\n' "$top/crates/benches/out/benches" >"$proved"
 chmod +x "$proved"
 
 measure() { # WHAT INPUT PROGRAM WORDS..: the least user time of five runs in seconds, or the most memory of one in bytes

@@ -103,9 +103,7 @@ RUST
 rustc -O -o "$work/plain" "$work/plain.rs"
 (cd "$top/crates/benches" && rt run >"$work/build.log" 2>&1) || { tail -20 "$work/build.log"; exit 1; }
 proved=$work/proved
-printf '#!/bin/sh
-exec "%s" pairs "$@"
-' "$top/crates/benches/out/benches" >"$proved"
+printf '#!/bin/sh\nexec "%s" pairs "$@"\n' "$top/crates/benches/out/benches" >"$proved"
 chmod +x "$proved"
 
 measure() { # WHAT PROGRAM WORDS..: the least user time of five runs in seconds, or the most memory of one in bytes
