@@ -2,10 +2,10 @@
 
 ghost use Rattle.std.specs.Prelude.{◌≡◌, ◌≤◌, length, IsNone};
 ghost use Rattle.verdict.specs.Rules.{first_failing};
-ghost use Rattle.extent_items.specs.GroupRow.{group_row, group_rows};
+ghost use Rattle.extent_items.specs.GroupRow.{group_row, group_rows, lists_group};
 
 use recon_bytes::get_u64;
-use verdict::{At, Family, Finding, Key};
+use verdict::{At, Family, Finding, Key, TreeSort, has_group_tree};
 
 /// A block group item (`BLOCK_GROUP_ITEM`) that keeps its rules: how much of a chunk is in use.
 #[derive(Clone, Copy, Debug, PartialEq, Eq)]
@@ -34,13 +34,24 @@ pub fn read_group(at: &At, key: Key, bytes: &[u8]) -> Result<GroupItem, Finding>
     })
 }
 
+// Whether a tree lists the block group with this key: that of the extents, unless block groups have one of their own.
+fn lists(at: &At, key: Key) -> bool
+    ensures { result ≡ lists_group at.now key }
+{
+    let is_elsewhere = match at.sort {
+        TreeSort::Extent => has_group_tree(at.compat_ro),
+        _ => false,
+    };
+    at.sort.lists(key) && !is_elsewhere
+}
+
 // The first finding on a block group item.
 #[tactic(auto, unfolding(crate::specs::GroupRow::group_rows))]
 fn group_fault(at: &At, key: Key, bytes: &[u8]) -> Option<Finding>
     ensures found { result ≡ first_failing (group_rows at.now key bytes.now) }
     ensures sized { IsNone result → 24 ≤ length bytes.now }
 {
-    if !at.sort.lists(key) {
+    if !lists(at, key) {
         return Some(at.finding(key, Family::U, 9, u64::from(key.kind)));
     }
     if key.offset == 0 {

@@ -114,7 +114,7 @@ fn root_items<D: Disk>(
 {
     let mut roots = Roots::new(alloc);
     walk_into(alloc, disk, volume, &top_root(volume.sup), &mut roots)?;
-    check_roots(alloc, &roots.items)?;
+    check_roots(alloc, volume.sup.compat_ro, &roots.items)?;
     Ok(roots.items)
 }
 

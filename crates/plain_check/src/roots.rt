@@ -5,6 +5,7 @@ ghost use Rattle.std.specs.List.{list_any};
 ghost use Rattle.verdict.specs.Rules.{finding_or, first_failing};
 ghost use Rattle.records.specs.Contents.{
   chunk_tree_root,
+  missing_finding,
   missing_rows,
   named_root,
   names,
@@ -21,7 +22,7 @@ use std::alloc::Global;
 use std::collections::BTreeSet;
 use super_reader::Super;
 use verdict::kinds::ROOT_ITEM;
-use verdict::{Family, Finding, Key, Rule};
+use verdict::{Family, Finding, Key, Rule, has_group_tree};
 use volume_items::RootItem;
 
 // What is expected of the root of the chunk tree.
@@ -70,15 +71,15 @@ pub fn named(root: &RootItem) -> Expect
 }
 
 // Passes where no rule on the list of root items fails: no two of one id (X1), and one for each of the ids 2, 4, 5
-// and 7 (X2).
+// and 7, and for 11 where the block groups have a tree of their own (X2).
 #[tactic(auto, unfolding(records::specs::Contents::roots_fault))]
-pub fn check_roots(alloc: Global, roots: &[RootItem]) -> Result<(), Halt>
-    ensures { IsOutcome result (finding_or (roots_fault roots.now) (tt {0})) }
+pub fn check_roots(alloc: Global, compat_ro: u64, roots: &[RootItem]) -> Result<(), Halt>
+    ensures { IsOutcome result (finding_or (roots_fault compat_ro roots.now) (tt {0})) }
 {
     if let Some(found) = repeated(alloc, roots)? {
         return Err(Halt::Found(found));
     }
-    match missing(roots) {
+    match missing(compat_ro, roots) {
         Some(found) => Err(Halt::Found(found)),
         None => Ok(()),
     }
@@ -99,9 +100,9 @@ fn repeated(alloc: Global, roots: &[RootItem]) -> Result<Option<Finding>, Halt>
     Ok(None)
 }
 
-// The finding on the least of the ids 2, 4, 5 and 7 that no root item has.
-fn missing(roots: &[RootItem]) -> Option<Finding>
-    ensures { result ≡ first_failing (missing_rows roots.now) }
+// The finding on the least of the ids 2, 4, 5 and 7 that no root item has, then on 11 where there is to be one.
+fn missing(compat_ro: u64, roots: &[RootItem]) -> Option<Finding>
+    ensures { result ≡ first_failing (missing_rows compat_ro roots.now) }
 {
     if !is_named(roots, 2) {
         return Some(missing_tree(2));
@@ -114,6 +115,9 @@ fn missing(roots: &[RootItem]) -> Option<Finding>
     }
     if !is_named(roots, 7) {
         return Some(missing_tree(7));
+    }
+    if has_group_tree(compat_ro) && !is_named(roots, 11) {
+        return Some(missing_tree(11));
     }
     None
 }
@@ -134,7 +138,7 @@ fn has_id(root: &RootItem, id: u64) -> bool
 
 // The finding of a tree without a root item.
 fn missing_tree(id: u64) -> Finding
-    ensures { result ≡ roots_finding 2 (record { objectid = id; kind = ROOT_ITEM; offset = 0 }) }
+    ensures { result ≡ missing_finding id }
 {
     finding(
         2,

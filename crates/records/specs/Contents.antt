@@ -1,9 +1,10 @@
 -- What an image holds: the records of its superblock, and of all blocks and items of its trees; or the first finding. The steps come
 -- in the order of the check.
-use Rattle.std.specs.Prelude.{ℕ, Bool, not, ◌==◌, nat_lt, List, [], ◌∷◌, ◌++◌, length, Option, Some, None, Result, Ok, Err, if◌then◌else◌}
+use Rattle.std.specs.Prelude.{ℕ, Bool, not, ◌&&◌, ◌==◌, nat_lt, List, [], ◌∷◌, ◌++◌, length, Option, Some, None, Result, Ok, Err, if◌then◌else◌}
 use Rattle.std.specs.List.{list_any, filter_map}
 use Rattle.verdict.specs.Image.{range}
 use Rattle.verdict.specs.Rules.{TableRow, first_failing, or_found, finding_or, and_then, image_finding, no_key}
+use Rattle.verdict.specs.Trees.{has_group_tree}
 use Rattle.verdict.specs.declared.finding.Finding.{Finding}
 use Rattle.verdict.specs.declared.finding.Family.TheVariants.{S, X}
 use Rattle.verdict.specs.declared.key.Key.{Key}
@@ -66,17 +67,23 @@ repeated_after before [] = None
 repeated_after before (root ∷ roots) =
     if list_any (names root.key.objectid) before then Some (roots_finding 1 root.key) else repeated_after (before ++ root ∷ []) roots
 
+abbrev pub missing_finding : ℕ → Finding
+missing_finding id = roots_finding 2 (record { objectid = id; kind = ROOT_ITEM; offset = 0 })
+
 -- X2: no root item names a tree that each image has
 abbrev pub missing_row : List RootItem → ℕ → TableRow
-missing_row roots id = record { fails = not (list_any (names id) roots); finding = roots_finding 2 (record { objectid = id; kind = ROOT_ITEM; offset = 0 }) }
+missing_row roots id = record { fails = not (list_any (names id) roots); finding = missing_finding id }
 
--- X2 of the extent tree, the device tree, the first file tree and the tree of checksums
-abbrev pub missing_rows : List RootItem → List TableRow
-missing_rows roots = missing_row roots 2 ∷ missing_row roots 4 ∷ missing_row roots 5 ∷ missing_row roots 7 ∷ []
+-- X2 of the extent tree, the device tree, the first file tree and the tree of checksums, and of the tree of block groups where these
+-- have one of their own
+abbrev pub missing_rows : ℕ → List RootItem → List TableRow
+missing_rows compat_ro roots =
+    missing_row roots 2 ∷ missing_row roots 4 ∷ missing_row roots 5 ∷ missing_row roots 7
+    ∷ record { fails = has_group_tree compat_ro && not (list_any (names 11) roots); finding = missing_finding 11 } ∷ []
 
 -- the first finding on the list of root items
-unfoldable pub roots_fault : List RootItem → Option Finding
-roots_fault roots = or_found (repeated_after [] roots) (first_failing (missing_rows roots))
+unfoldable pub roots_fault : ℕ → List RootItem → Option Finding
+roots_fault compat_ro roots = or_found (repeated_after [] roots) (first_failing (missing_rows compat_ro roots))
 
 -- the chunk tree's records, read through the chunks of the system array
 abbrev pub chunk_records : Super → List Chunk → List ℕ → Records
@@ -97,7 +104,7 @@ root_records sup chunks image = walk_in sup chunks (root_tree_root sup) image
 unfoldable pub root_items_in : Super → List Chunk → List ℕ → Result (List RootItem) Finding
 root_items_in sup chunks image =
     and_then (held_after with_root [] (root_records sup chunks image)) (λ roots.
-    and_then (finding_or (roots_fault roots) (tt {0})) (λ _.
+    and_then (finding_or (roots_fault sup.compat_ro roots) (tt {0})) (λ _.
     Ok roots))
 
 -- the records of the trees that root items name, in the order of the items, which is that of the ids as unsigned numbers

@@ -24,9 +24,9 @@ needed_incompat = 2 ^ 0 + 2 ^ 8
 abbrev pub allowed_incompat : ℕ
 allowed_incompat = 2 ^ 0 + 2 ^ 1 + 2 ^ 2 + 2 ^ 5 + 2 ^ 6 + 2 ^ 8 + 2 ^ 9
 
--- the compat_ro bits that may be set: 0 free space tree and 1 free space tree valid
+-- the compat_ro bits that may be set: 0 free space tree, 1 free space tree valid and 3 block group tree
 abbrev pub allowed_compat_ro : ℕ
-allowed_compat_ro = 2 ^ 0 + 2 ^ 1
+allowed_compat_ro = 2 ^ 0 + 2 ^ 1 + 2 ^ 3
 
 -- whether a word has every bit of a set
 abbrev pub has_all : ℕ → ℕ → Bool

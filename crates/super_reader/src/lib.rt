@@ -30,8 +30,8 @@ const NEEDED_INCOMPAT: u64 = 1 << 0 | 1 << 8;
 /// 6 extended iref and 9 no holes.
 const ALLOWED_INCOMPAT: u64 = NEEDED_INCOMPAT | 1 << 1 | 1 << 2 | 1 << 5 | 1 << 6 | 1 << 9;
 
-/// The compat_ro bits that may be set: 0 free space tree and 1 free space tree valid.
-const ALLOWED_COMPAT_RO: u64 = 1 << 0 | 1 << 1;
+/// The compat_ro bits that may be set: 0 free space tree, 1 free space tree valid and 3 block group tree.
+const ALLOWED_COMPAT_RO: u64 = 1 << 0 | 1 << 1 | 1 << 3;
 
 /// The fields of a superblock that the check reads. Each comment ends with the field's offset in
 /// bytes in the superblock, which lies at byte 65,536 of the device.

@@ -1,7 +1,7 @@
 -- The trees of a file system: their sorts by their ids, the sizes of their blocks.
-use Rattle.std.specs.Prelude.{ℕ, Bool, ◌||◌, ◌==◌, if◌then◌else◌}
+use Rattle.std.specs.Prelude.{ℕ, Bool, ◌||◌, ◌==◌, bit_and, if◌then◌else◌}
 use Rattle.verdict.specs.declared.place.TreeSort.{TreeSort}
-use Rattle.verdict.specs.declared.place.TreeSort.TheVariants.{Root, Extent, Chunk, Device, File, Sums, Unread}
+use Rattle.verdict.specs.declared.place.TreeSort.TheVariants.{Root, Extent, Chunk, Device, File, Sums, Groups, Unread}
 
 -- the sort of a tree by its id; the trees 5 and -9 and the subvolumes hold files
 abbrev pub sort_of : ℕ → TreeSort
@@ -13,7 +13,12 @@ sort_of tree =
     (if tree == 7 then Sums else
     (if tree == 8 then Unread else
     (if tree == 9 then Unread else
-    (if tree == 10 then Unread else File)))))))
+    (if tree == 10 then Unread else
+    (if tree == 11 then Groups else File))))))))
+
+-- whether the block groups have a tree of their own, 11, and do not stand in that of the extents: compat_ro bit 3
+abbrev pub has_group_tree : ℕ → Bool
+has_group_tree compat_ro = bit_and compat_ro 8 == 8
 
 -- the sizes in bytes that a tree block may have
 abbrev pub is_node_size : ℕ → Bool

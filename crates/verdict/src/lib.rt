@@ -15,5 +15,6 @@ pub use machine::{
     Answer, Event, HeldWrite, SUPERBLOCK_AT, SUPERBLOCK_SIZE, Stop, meets_superblock,
 };
 pub use place::{
-    At, Chunk, ORPHAN_OBJECTID, Place, TreeSort, is_free_id, is_multiple, is_node_size,
+    At, Chunk, ORPHAN_OBJECTID, Place, TreeSort, has_group_tree, is_free_id, is_multiple,
+    is_node_size,
 };

@@ -3,7 +3,7 @@
 
 ghost use Rattle.std.specs.Prelude.{◌≡◌};
 ghost use Rattle.verdict.specs.Items.{item_finding, is_file_objectid, is_free_id, is_kind_of, is_listed, is_multiple};
-ghost use Rattle.verdict.specs.Trees.{is_node_size, sort_of};
+ghost use Rattle.verdict.specs.Trees.{has_group_tree, is_node_size, sort_of};
 
 use crate::kinds::{
     BLOCK_GROUP_ITEM, CHUNK_ITEM, DEV_EXTENT, DEV_ITEM, DIR_INDEX, DIR_ITEM, EXTENT_CSUM,
@@ -28,7 +28,7 @@ pub enum TreeSort {
     File,
     /// The tree of the checksums of file data, 7.
     Sums,
-    /// The tree of the block groups, 11.
+    /// The tree of the block groups, 11, where they have one of their own.
     Groups,
     /// A tree whose items stay unread: 8, 9 or 10.
     Unread,
@@ -46,6 +46,7 @@ impl TreeSort {
             4 => TreeSort::Device,
             7 => TreeSort::Sums,
             8..=10 => TreeSort::Unread,
+            11 => TreeSort::Groups,
             _ => TreeSort::File,
         }
     }
@@ -126,6 +127,17 @@ pub fn is_node_size(size: u32) -> bool
     ensures { result ≡ is_node_size size }
 {
     matches!(size, 4096 | 8192 | 16384 | 32768 | 65536)
+}
+
+// The compat_ro bit of block groups in a tree of their own.
+const GROUP_TREE: u64 = 1 << 3;
+
+/// Whether the block groups have a tree of their own, 11, and do not stand in that of the extents: bit 3 of the
+/// superblock's compat_ro word.
+pub fn has_group_tree(compat_ro: u64) -> bool
+    ensures { result ≡ has_group_tree compat_ro }
+{
+    compat_ro & GROUP_TREE == GROUP_TREE
 }
 
 /// The place of an item, and what the superblock says that its readers ask for.

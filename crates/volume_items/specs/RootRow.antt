@@ -1,10 +1,11 @@
 -- The ROOT_ITEM (id, 132, any): its fields, and the rules that it is judged by, in their order.
 -- Offsets are in bytes from the item's first byte.
-use Rattle.std.specs.Prelude.{ℕ, Bool, not, ◌||◌, ◌==◌, nat_lt, List, [], ◌∷◌, length, slice_index, bytes_eq, replicate, Result}
+use Rattle.std.specs.Prelude.{ℕ, Bool, not, ◌&&◌, ◌||◌, ◌==◌, nat_lt, List, [], ◌∷◌, length, slice_index, bytes_eq, replicate, Result}
 use Rattle.recon_bytes.specs.Field.{field}
 use Rattle.verdict.specs.Image.{range}
 use Rattle.verdict.specs.Rules.{TableRow, first_failing, finding_or}
 use Rattle.verdict.specs.Items.{is_free_id, item_rule, listed_rule}
+use Rattle.verdict.specs.Trees.{has_group_tree}
 use Rattle.verdict.specs.declared.key.Key.{Key}
 use Rattle.verdict.specs.declared.finding.Finding.{Finding}
 use Rattle.verdict.specs.declared.finding.Family.TheVariants.{U, I}
@@ -12,18 +13,18 @@ use Rattle.verdict.specs.declared.place.At.{At}
 use Rattle.volume_items.specs.declared.root.RootItem.{RootItem}
 
 -- the ids of trees that a root item may have: 2 extents, 4 device, 5 and the subvolumes files, 7 checksums,
--- 8, 9 and 10, whose items stay unread, and -9, files too
-abbrev pub is_root_id : ℕ → Bool
-is_root_id id =
+-- 8, 9 and 10, whose items stay unread, and -9, files too; and 11 block groups, where they have a tree of their own
+abbrev pub is_root_id : ℕ → ℕ → Bool
+is_root_id compat_ro id =
     id == 2 || id == 4 || id == 5 || id == 7 || id == 8 || id == 9 || id == 10
-    || id == 18446744073709551607 || is_free_id id
+    || id == 18446744073709551607 || is_free_id id || (id == 11 && has_group_tree compat_ro)
 
 -- the rules in their order: the tree lists the item, the id, the size, the generation, which is at most the leaf's,
 -- drop_progress, which is zero, and the level
 unfoldable pub root_rows : At → Key → List ℕ → List TableRow
 root_rows at key bytes =
     listed_rule at key
-    ∷ item_rule at key (not (is_root_id key.objectid)) U 7 key.objectid
+    ∷ item_rule at key (not (is_root_id at.compat_ro key.objectid)) U 7 key.objectid
     ∷ item_rule at key (not (length bytes == 439 || length bytes == 239)) I 1 (length bytes)
     ∷ item_rule at key (nat_lt at.generation (field 8 bytes 160)) I 3 160
     ∷ item_rule at key (not (bytes_eq (range 220 17 bytes) (replicate 17 0))) U 8 0

@@ -7,7 +7,7 @@ ghost use Rattle.verdict.specs.Rules.{first_failing};
 ghost use Rattle.volume_items.specs.RootRow.{is_root_id, root_row, root_rows};
 
 use recon_bytes::{get_u32, get_u64};
-use verdict::{At, Family, Finding, Key, is_free_id};
+use verdict::{At, Family, Finding, Key, has_group_tree, is_free_id};
 
 /// A root item that keeps its rules: where a tree begins.
 #[derive(Clone, Copy, Debug, PartialEq, Eq)]
@@ -54,7 +54,7 @@ fn root_fault(at: &At, key: Key, bytes: &[u8]) -> Option<Finding>
     if !at.sort.lists(key) {
         return Some(at.finding(key, Family::U, 9, u64::from(key.kind)));
     }
-    if !may_be_root(key.objectid) {
+    if !may_be_root(at.compat_ro, key.objectid) {
         return Some(at.finding(key, Family::U, 7, key.objectid));
     }
     let size = bytes.len() as u64;
@@ -74,8 +74,8 @@ fn root_fault(at: &At, key: Key, bytes: &[u8]) -> Option<Finding>
 }
 
 // Whether a root item may have this id.
-fn may_be_root(id: u64) -> bool
-    ensures { result ≡ is_root_id id }
+fn may_be_root(compat_ro: u64, id: u64) -> bool
+    ensures { result ≡ is_root_id compat_ro id }
 {
     id == 2
         || id == 4
@@ -86,6 +86,7 @@ fn may_be_root(id: u64) -> bool
         || id == 10
         || id == 18_446_744_073_709_551_607
         || is_free_id(id)
+        || id == 11 && has_group_tree(compat_ro)
 }
 
 // Whether no deletion of the tree is in progress.
