@@ -170,7 +170,7 @@ fn tells_a_wrong_checksum(rt: HostRuntime) {
 fn accepts_what_is_allowed(rt: HostRuntime) {
     for (at, byte) in [
         (0xbc, 0x67),
-        (0xb4, 3),
+        (0xb4, 11),
         (0xc6, 7),
         (0xc7, 7),
         (0x95, 0x10),
