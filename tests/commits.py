@@ -5,7 +5,9 @@ that differs. A row: what it is, the changes that the commit makes, and how the 
 has the generation 2 and copies on write the file tree, the extent tree and the root tree. What passes then stands on
 the device; what is rejected leaves it as it was.
 """
-from rows import BASE, DATA_AT, Device, ENTRY, changed, data_group, fail, made, metadata_group, put, used
+from rows import (
+    BASE, DATA_AT, Device, ENTRY, EXTENTS, GROUPS, GROUP_TREE, LEFT, NO_GROUP_TREE, OWN_GROUPS, RIGHT, ROOTS, changed, data_group, fail,
+    leaf, made, metadata_group, put, used)
 
 PASSES = 'passed generation 2 '
 BELOW = 5373952
@@ -98,18 +100,53 @@ SUBVOLUMES = [
 
 device = Device()
 NEXT = changed(BASE, [made.Image.copy_on_write])
-tables = [NAMES, BYTES, SUBVOLUMES]
-for table in tables:
-    for row, changes, line in table:
-        device.fill(BASE)
-        image = changed(NEXT, changes)
-        status, lines = device.run('replay', trace=made.HEADER + b''.join(made.writes(image, BASE)) + made.END)
-        passes = line == PASSES
-        wanted = ['image accepted generation 1', f'commit 1 {line}', 'end passed 1 rejected 0' if passes else 'end passed 0 rejected 1', '']
-        got = lines.split('\n')
-        if len(got) == 4 and passes:
-            got[1] = got[1][:len(wanted[1])]
-        if (status, got) != (0 if passes else 1, wanted):
-            fail(row, f'status {status}, and {got}, not {wanted}')
-        device.must_hold(row, (image if passes else BASE).bytes())
-print(f'commits: {sum(map(len, tables))} commits pass or are rejected as they are to be')
+
+
+def groups_apart(image):
+    """A commit of generation 2 that moves the block groups to a tree of their own: its leaf, the extent tree's and the root
+    tree's are new blocks."""
+    extents = {key: item for key, item in image.items(EXTENTS).items() if key[1] != made.BLOCK_GROUP_ITEM}
+    roots = image.items(ROOTS)
+    for tree, old, at in (2, EXTENTS, LEFT), (11, None, RIGHT), (1, ROOTS, made.NEXT_BLOCKS[1]):
+        extents.pop((old, made.METADATA_ITEM, 0), None)
+        extents.update([made.block(at, tree, generation=2)])
+    roots.update([made.root(2, LEFT, 2), made.root(11, RIGHT, 2)])
+    image.put_leaf(LEFT, 2, extents, 2)
+    image.put_leaf(RIGHT, 11, dict(GROUPS), 2)
+    image.put_leaf(made.NEXT_BLOCKS[1], 1, roots, 2)
+    image.superblock = made.superblock(2, made.NEXT_BLOCKS[1])
+    GROUP_TREE(image)
+    used(114688)(image)
+
+
+# Commits over another image than the base image: the image before, and the one that the commit makes.
+APART = changed(BASE, OWN_GROUPS)
+MOVES = [
+    ('block groups to a tree of their own', BASE, changed(BASE, [groups_apart]), PASSES),
+    ('without the feature', BASE, changed(BASE, [groups_apart, NO_GROUP_TREE]), 'rejected U7 tree 1 block 5357568 key 11 132 0 detail 11'),
+    ('back, with the feature and without their tree',
+     APART, changed(BASE, [GROUP_TREE]), 'rejected X2 tree 1 block 0 key 11 132 0 detail 0'),
+    ('back, with the feature and with their tree', APART, changed(APART, [leaf(LEFT, 11), *(put(2, item) for item in GROUPS)]),
+     'rejected U9 tree 2 block 5259264 key 1048576 192 4194304 detail 192'),
+    ('back, without both', APART, BASE, 'passed generation 1 '),
+]
+
+
+def commit(row, before, image, line):
+    """A commit that makes an image of another is answered so, and the device holds what it is to hold."""
+    device.fill(before)
+    status, lines = device.run('replay', trace=made.HEADER + b''.join(made.writes(image, before)) + made.END)
+    passes = line.startswith('passed')
+    wanted = ['image accepted generation 1', f'commit 1 {line}', 'end passed 1 rejected 0' if passes else 'end passed 0 rejected 1', '']
+    got = lines.split('\n')
+    if len(got) == 4 and passes:
+        got[1] = got[1][:len(wanted[1])]
+    if (status, got) != (0 if passes else 1, wanted):
+        fail(row, f'status {status}, and {got}, not {wanted}')
+    device.must_hold(row, (image if passes else before).bytes())
+
+
+rows = [(row, BASE, changed(NEXT, changes), line) for table in (NAMES, BYTES, SUBVOLUMES) for row, changes, line in table] + MOVES
+for row in rows:
+    commit(*row)
+print(f'commits: {len(rows)} commits pass or are rejected as they are to be')

@@ -4,8 +4,8 @@ Usage: tests/images.py [PROGRAM], by default crates/recon/out/recon. Prints one 
 that differs. A row: what it is, the changes of the base image, and the finding, or none where the image is accepted.
 """
 from rows import (
-    BASE, CHUNKS, CHUNKS_END, DATA_AT, DEVICES, Device, EXTENTS, FILES, HELLO, LEFT, RIGHT, ROOTS, SUMS, SUPERBLOCK,
-    SYSTEM_AT, changed, data_group, drop, leaf, made, metadata_group, node, put, used, write)
+    BASE, CHUNKS, CHUNKS_END, DATA_AT, DEVICES, Device, EXTENTS, FILES, GROUPS, GROUP_TREE, HELLO, LEFT, NO_GROUP_TREE, OWN_GROUPS,
+    RIGHT, ROOTS, SUMS, SUPERBLOCK, SYSTEM_AT, changed, data_group, drop, leaf, made, metadata_group, node, put, used, write)
 
 MOVED = 2 ** 64 - 9
 LATE = write(RIGHT + 0x50, made.number(2))
@@ -132,7 +132,7 @@ DEVICE_EXTENTS = [
     ('with them those of the superblock', [put(3, made.device(29360127)), used(94208)], 'A16 tree 0 block 0 key 0 0 0 detail 0'),
 ]
 
-GROUPS = [
+GROUP_ITEMS = [
     ('a chunk without its group', [drop(2, DATA_AT, made.BLOCK_GROUP_ITEM, 8388608)], 'A6 tree 0 block 0 key 13631488 192 8388608 detail 1'),
     ('a group without its chunk', [put(2, made.group(CHUNKS_END, 4096, 1, 0))], 'A6 tree 0 block 0 key 22020096 192 4096 detail 1'),
     ('a group of another length', [drop(2, DATA_AT, made.BLOCK_GROUP_ITEM, 8388608), put(2, made.group(DATA_AT, 4096, 1, 0))],
@@ -143,6 +143,20 @@ GROUPS = [
      [metadata_group(77824), used(94208)], 'A6 tree 0 block 0 key 5242880 192 8388608 detail 36'),
     ('the used bytes of the superblock', [used(94208)], 'A16 tree 0 block 0 key 0 0 0 detail 0'),
 ]
+
+# Block groups in a tree of their own.
+GROUPS_APART = [(what, OWN_GROUPS + changes, finding) for what, changes, finding in [
+    ('block groups in a tree of their own', [], None),
+    ('one of them in the extent tree too', [put(2, GROUPS[0])], 'U9 tree 2 block 5259264 key 1048576 192 4194304 detail 192'),
+    ('no root item of their tree', [drop(1, 11, made.ROOT_ITEM, 0)], 'X2 tree 1 block 0 key 11 132 0 detail 0'),
+    ('their tree without the feature', [NO_GROUP_TREE], 'U7 tree 1 block 5242880 key 11 132 0 detail 11'),
+    ('a group that is missing', [leaf(LEFT, 11, *GROUPS[:2])], 'A6 tree 0 block 0 key 13631488 192 8388608 detail 1'),
+    ('a second group at the system chunk\'s beginning',
+     [leaf(LEFT, 11, *GROUPS, made.group(SYSTEM_AT, 4096, 2, 0))], 'A6 tree 0 block 0 key 1048576 192 4096 detail 2'),
+    ('a kind that their tree does not list', [put(11, ATTRIBUTE)], 'U9 tree 11 block 5324800 key 1 24 0 detail 24'),
+    ('an extent among them', [put(11, made.extent(DATA_AT, 4096))], 'U9 tree 11 block 5324800 key 13631488 168 4096 detail 168'),
+    ('a group of length 0', [put(11, made.group(DATA_AT, 0, 1, 0))], 'I2 tree 11 block 5324800 key 13631488 192 0 detail 0'),
+]] + [('the feature alone', [GROUP_TREE], 'X2 tree 1 block 0 key 11 132 0 detail 0')]
 
 # A range that is reserved, in place of the file's one sector.
 RESERVED = put(5, made.file_range(0, DATA_AT, 4096, sort=2))
@@ -213,7 +227,7 @@ def judge(row, finding):
     device.must_say(row, 1 if finding else 3, line + more, 'replay')
 
 
-tables = [SUPERBLOCK_AND_CHUNKS, ROOT_TREE, ITEMS, WALKS, REFERENCES, DEVICE_EXTENTS, GROUPS, SECTORS, HOMES]
+tables = [SUPERBLOCK_AND_CHUNKS, ROOT_TREE, ITEMS, WALKS, REFERENCES, DEVICE_EXTENTS, GROUP_ITEMS, GROUPS_APART, SECTORS, HOMES]
 for table in tables:
     for row, changes, finding in table:
         device.fill(changed(BASE, changes))

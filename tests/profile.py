@@ -92,7 +92,6 @@ CASES = {
     'Simple quotas': [with_bit(16)],
     'Metadata uuid': [with_bit(10)],
     'Verity': [(of_image('U3', 4), sup(0xB4, u64(4)))],
-    'Block group tree': [(of_image('U3', 11), sup(0xB4, u64(11)))],
     'Tree block extents that are not skinny': [
         (of_image('U2', INCOMPAT - 256), sup(0xBC, u64(INCOMPAT - 256))),
         with_item('U10', 2, (EXTENTS, 168, 16384), struct.pack('<QQQQBQBQ', 1, 1, 2, 0, 0, 0, 176, 2), 2)],
