@@ -2,7 +2,7 @@
 
 Usage: tests/hostile.py [PROGRAM [CASES [SEED [FIRST [IMAGE TRACE]..]]]], by default crates/recon/out/recon, 2,000 cases of
 the seed 0 from the case 0 on. Each IMAGE, a sound volume, and TRACE over it are mutated too; neither is written to. 100,000
-cases take about half an hour. Prints one line, and ends with 1 at the first case that fails, whose image and trace it keeps.
+cases take about twenty minutes. Prints one line, and ends with 1 at the first case that fails, whose image and trace it keeps.
 
 What must hold of each run:
 - it ends by itself with 0 or 1, of a replay also 3, with nothing on standard error and only lines of the known forms;
@@ -25,7 +25,7 @@ import subprocess
 import sys
 import tempfile
 
-from mutants import PAGE, SUPERBLOCK, ZEROS, Image, Mutant, Volume, mutant_trace, pages_of, records
+from mutants import PAGE, SUPERBLOCK, Mutant, Volume, mutant_trace, pages_of, records
 from rows import SCRIPT, made, program
 
 CASES, SEED, FIRST = (int(word) for word in (sys.argv[2:5] + ['2000', '0', '0'][len(sys.argv[2:5]):]))
@@ -39,6 +39,7 @@ N = '(0|[1-9][0-9]*)'
 FINDING = f'[A-Z]{N} tree {N} block {N} key {N} {N} {N} detail {N}'
 IMAGE_LINE = re.compile(f'image (?:accepted generation {N}|refused ({FINDING}))')
 JUDGED = f'passed generation {N} blocks {N} hot {N}'
+PASSED = '{event} {number} passed generation {generation} blocks {blocks} hot {hot}'
 
 
 class Wrong(Exception):
@@ -51,7 +52,7 @@ def must(holds, why):
 
 
 class Timed(Exception):
-    pass
+    """The time of a run is over."""
 
 
 def on_alarm(number, frame):
@@ -75,10 +76,12 @@ class Base:
         self.image, self.touched = self.volume.copy(), set()
         self.most = {'check': None, 'replay': None}
         for command in 'check', 'replay':
-            sound = [self.run(command, self.trace) for _ in range(3)]
-            must(sound[0].status == 0, f'{command} of a sound volume ended with {sound[0].status}: {sound[0].out[-200:]}')
+            sound = []
+            for _ in range(3):
+                sound.append(self.run(command, self.trace))
+                must(sound[-1].status == 0, f'{command} of a sound volume says {sound[-1].out[-200:]!r}')
+                self.restore(anew=True)
             self.most[command] = min(run.seconds for run in sound), max(run.memory for run in sound)
-            self.restore(anew=True)
 
     def write(self, at, data):
         """Puts bytes on the device and on what it is to hold."""
@@ -86,6 +89,7 @@ class Base:
         self.touched.update(self.image.write(at, data))
 
     def cut(self, length):
+        """Makes the device so long."""
         os.ftruncate(self.file, length)
         self.image.cut(length)
         self.touched = None
@@ -103,6 +107,7 @@ class Base:
         self.image, self.touched = self.volume.copy(), set()
 
     def must_hold(self, why):
+        """The device holds what it is to hold."""
         must(dict(pages_of(self.file, self.image.length)) == self.image.pages, why)
         must(os.fstat(self.file).st_size == self.image.length, 'the image has another length')
 
@@ -126,7 +131,7 @@ class Base:
             signal.alarm(0)
         must(os.WIFEXITED(status), f'{command} was ended by a signal: {status}')
         with open(self.out, 'rb') as out, open(self.errors, 'rb') as errors:
-            run = Run(os.WEXITSTATUS(status), out.read().decode('ascii'), used.ru_utime + used.ru_stime, used.ru_maxrss << 10)
+            run = Run(os.WEXITSTATUS(status), out.read().decode('ascii', 'backslashreplace'), used.ru_utime + used.ru_stime, used.ru_maxrss << 10)
             said = errors.read()
         must(run.status in ((0, 1) if command == 'check' else (0, 1, 3)), f'{command} ended with {run.status}: {said!r}')
         must(not said, f'{command} says {said!r} on standard error')
@@ -208,7 +213,7 @@ class Base:
             else:
                 must_say(f'trace {event}')
         must(len(lines) == at, f'replay says {lines[at:at + 1]} behind the end')
-        must(status == (3 if event not in ('end',) else min(number - passed, 1)), f'replay ended with {status} and {lines[-1]!r}')
+        must(status == (min(number - passed, 1) if event == 'end' else 3), f'replay ended with {status} and {lines[-1]!r}')
         return last
 
 
@@ -269,7 +274,7 @@ def text_of(line):
         'end': 'end passed {passed} rejected {rejected}',
         'trace fault': 'trace fault {number} {fault} record {record}',
         'past end': 'trace past end record {record} at {at} len {len} end {end}',
-    }.get(event, '{event} {number} ' + ('rejected {finding}' if 'finding' in said else 'passed generation {generation} blocks {blocks} hot {hot}'))
+    }.get(event, '{event} {number} rejected {finding}' if 'finding' in said else PASSED)
     return form.format(**said) + '\n'
 
 
@@ -362,12 +367,16 @@ def main(folder):
         base, is_sample = draw.choice(bases), case % SAMPLE == 0
         try:
             (try_image if draw.random() < 0.65 else try_trace)(base, draw, said, is_sample)
-        except Wrong as why:
-            sys.exit(f'{SCRIPT}: seed {SEED}, case {case}: {why}\n  changed: {"; ".join(said)}\n  kept in {keep(base)}')
+        except Exception as why:
+            sys.exit(f'{SCRIPT}: seed {SEED}, case {case}: {why!r}\n  changed: {"; ".join(said)}\n  kept in {keep(base)}')
+        # A place that was written once is data of the file from then on, also where it is zero again.
         base.restore(anew=case % 400 == 0)
     ended = ', '.join(f'{command} {status}: {count}' for (command, status), count in sorted(counts.items()))
     print(f'hostile: {CASES} cases, by status {ended}; at most {worst["seconds"]:.2f} s, {worst["memory"] / MIB:.0f} MiB')
 
 
 with tempfile.TemporaryDirectory(dir='/dev/shm' if os.access('/dev/shm', os.W_OK) else None) as folder:
-    main(folder)
+    try:
+        main(folder)
+    except Wrong as why:
+        sys.exit(f'{SCRIPT}: {why}')
