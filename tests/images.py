@@ -21,10 +21,16 @@ SUPERBLOCK_AND_CHUNKS = [
      [write(SUPERBLOCK + 0x33c, made.number(4190208))], 'S10 tree 3 block 0 key 256 228 1048576 detail 0'),
     ('the kind of its key', [write(SUPERBLOCK + 0x333, b'\xe3')], 'S9 tree 0 block 0 key 0 0 0 detail 0'),
     ('an array without a pair', [write(SUPERBLOCK + 0xa0, bytes(4))], 'N1 tree 3 block 1048576 key 0 0 0 detail 0'),
+    ('an array that is longer than its room', [write(SUPERBLOCK + 0xa0, made.number(2049, 4))], 'S8 tree 0 block 0 key 0 0 0 detail 2049'),
+    ('one that ends in its only pair', [write(SUPERBLOCK + 0xa0, made.number(96, 4))], 'S9 tree 0 block 0 key 0 0 0 detail 0'),
+    ('one that ends in a second pair', [write(SUPERBLOCK + 0xa0, made.number(98, 4))], 'S9 tree 0 block 0 key 0 0 0 detail 97'),
+    ('a chunk of the array that ends at 2^64',
+     [write(SUPERBLOCK + 0x33c, made.number(2 ** 64 - 1048576))], 'I3 tree 3 block 0 key 256 228 1048576 detail 0'),
     ('the stripe of the data chunk begins a sector before the end of the device',
      [put(3, made.chunk(DATA_AT, 8388608, 1, [33550336]))], 'M3 tree 3 block 0 key 256 228 13631488 detail 33550336'),
     ('the generation of the superblock', [write(SUPERBLOCK + 0x48, bytes(8))], 'N7 tree 1 block 5242880 key 0 0 0 detail 1'),
     ('its level of the root tree', [write(SUPERBLOCK + 0xc6, b'\1')], 'N8 tree 1 block 5242880 key 0 0 0 detail 0'),
+    ('a level of the root tree that no tree has', [write(SUPERBLOCK + 0xc6, b'\x08')], 'S6 tree 0 block 0 key 0 0 0 detail 8'),
 ]
 
 ROOT_TREE = [
@@ -138,6 +144,8 @@ GROUP_ITEMS = [
     ('a group of another length', [drop(2, DATA_AT, made.BLOCK_GROUP_ITEM, 8388608), put(2, made.group(DATA_AT, 4096, 1, 0))],
      'A6 tree 0 block 0 key 13631488 192 4096 detail 1'),
     ('a group of another type', [data_group(0, kind=4)], 'A6 tree 0 block 0 key 13631488 192 8388608 detail 1'),
+    ('the greatest number as the used bytes of the system group',
+     [put(2, made.group(SYSTEM_AT, 4194304, 2, 2 ** 64 - 1))], 'A6 tree 0 block 0 key 1048576 192 4194304 detail 2'),
     ('the used bytes of the metadata group', [metadata_group(77824)], 'A6 tree 0 block 0 key 5242880 192 8388608 detail 36'),
     ('which agree with the superblock, and not with what is used',
      [metadata_group(77824), used(94208)], 'A6 tree 0 block 0 key 5242880 192 8388608 detail 36'),

@@ -39,6 +39,7 @@ BROKEN = [
     ('with the tag 0', [b'\0', END], 3, ['trace fault 2 BadTag record 1'], None, []),
     ('a write that is longer than 1 MiB', [write(0, bytes(1048576), 1048577), END], 3, ['trace fault 3 BadLength record 1'], None, []),
     ('an empty write', [write(0, b''), END], 3, ['trace fault 3 BadLength record 1'], None, []),
+    ('a fetch that is longer than 64 KiB', [fetch(0, 65537), END], 3, ['trace fault 3 BadLength record 1'], None, []),
     ('a write that is cut off', [write(0, b'123456789', 10)], 3, ['trace fault 4 Truncated record 1'], None, []),
     ('a bad tag behind a settle', [SETTLE, b'\x09', END], 3,
      ['settle 1 passed generation 1 blocks 0 hot 0', 'trace fault 2 BadTag record 2'],
