@@ -10,6 +10,7 @@ mod test;
 mod tests;
 mod written;
 
+pub use mark::parent_of;
 pub use marks::{Marks, PairPlace};
 pub use moved::{Move, moved_pairs};
 pub use test::AddressTest;
