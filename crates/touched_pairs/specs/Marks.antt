@@ -1,5 +1,6 @@
 -- Marks on pairs of a tree and a block.
-use Rattle.std.specs.Prelude.{ℕ, Bool, true, false, ◌&&◌, ◌==◌, if◌then◌else◌}
+use Rattle.std.specs.Prelude.{ℕ, Bool, true, false, ◌&&◌, ◌==◌, List, if◌then◌else◌}
+use Rattle.std.specs.List.{list_any}
 use Rattle.std.specs.Ordering.{nat_cmp, ordering_then}
 use Rattle.std.specs.declared.cmp.Ordering.{Ordering}
 use Rattle.std.specs.BTreeSet as set
@@ -21,6 +22,14 @@ pair_place tree address = record { tree = tree; address = address }
 -- the pairs that have one of these marks
 unfoldable pub marked_by : Marks → Marked
 marked_by marks tree address = set.contains by_pair marks.places (pair_place tree address)
+
+-- how many pairs have one
+unfoldable pub count_of : Marks → ℕ
+count_of marks = set.btree_set_len marks.places
+
+-- the pairs that a list of places has
+abbrev pub marked_in : List PairPlace → Marked
+marked_in places tree address = list_any (λ place. place.tree == tree && place.address == address) places
 
 -- no mark
 abbrev pub no_mark : Marked

@@ -8,6 +8,7 @@ mod spot;
 mod test;
 mod written;
 
+pub use mark::parent_of;
 pub use marks::{Marks, PairPlace};
 pub use moved::{Move, moved_pairs};
 pub use test::AddressTest;

@@ -1,6 +1,7 @@
 //! The pairs of a table that are touched, with all that stand above them.
 
 ghost use Rattle.std.specs.Prelude.{◌≡◌, ◌<◌, ◌&&◌, Some, IfSome, OnOk};
+ghost use Rattle.recon_disk.specs.Outside.{counted};
 ghost use Rattle.live_index.specs.Pairs.{Stands};
 ghost use Rattle.live_index.specs.Table.{pairs_of};
 ghost use Rattle.touched_pairs.specs.Going.{IsNext, met};
@@ -39,13 +40,14 @@ pub fn mark_above<L>(
     }
 }
 
-// The pair of the node above a pair.
-fn parent_of<L>(table: &LiveIndex<L>, live: &Live, steps: &mut Steps<L>) -> Option<Live>
+/// The pair of the node above a pair. `None` exactly where there is none, as of a root. It looks once into the table.
+pub fn parent_of<L>(table: &LiveIndex<L>, live: &Live, steps: &mut Steps<L>) -> Option<Live>
     ensures value { result ≡ parent_of (pairs_of table.now) (live.now).tree live.now }
     ensures higher { IfSome result (λ up. (live.now).level < up.level) }
     ensures own { IfSome result (λ up.
         (up.tree ≡ (live.now).tree) × (up.address ≡ (live.now).parent)
         × (pairs_of table.now (live.now).tree (live.now).parent ≡ Some up)) }
+    ensures looks { steps.new ≡ counted steps.old }
 {
     let up = table.get(live.tree, live.parent, steps)?;
     if up.level > live.level {

@@ -1,7 +1,8 @@
 //! Marks on pairs of a tree and a block.
 
-ghost use Rattle.std.specs.Prelude.{◌≡◌, ℕ, ◌<◌, ◌^◌, false, OnOk, OnErr};
-ghost use Rattle.touched_pairs.specs.Marks.{marked_by, pair_place, with_mark};
+ghost use Rattle.std.specs.Prelude.{◌≡◌, ℕ, ◌<◌, ◌^◌, false, vec_len, IfOk, OnOk, OnErr};
+ghost use Rattle.std.specs.List.Sorted.{IsStrictlySortedBy};
+ghost use Rattle.touched_pairs.specs.Marks.{by_pair, count_of, marked_by, marked_in, pair_place, with_mark};
 
 use std::alloc::Global;
 use std::collections::BTreeSet;
@@ -50,6 +51,20 @@ impl Marks {
     {
         match self.places.insert(place_of(tree, address)) {
             Ok(_) => Ok(()),
+            Err(_) => Err(NoMemory),
+        }
+    }
+
+    /// The places of all marks, each once, by tree and then by address. The list takes its memory from this allocator.
+    #[tactic(auto, using(crate::proofs::MarkLaws::listed_marks), unfolding(crate::specs::Marks::count_of, crate::specs::Marks::marked_by))]
+    pub fn places(&self, alloc: Global) -> Result<Vec<PairPlace>, NoMemory>
+        ensures ok { IfOk result (λ places. (tree address : ℕ) →
+            marked_by self.now tree address ≡ marked_in places.items tree address) }
+        ensures count { IfOk result (λ places. vec_len places ≡ count_of self.now) }
+        ensures order { IfOk result (λ places. IsStrictlySortedBy by_pair places.items) }
+    {
+        match self.places.iter().copied().collect(alloc) {
+            Ok(places) => Ok(places),
             Err(_) => Err(NoMemory),
         }
     }

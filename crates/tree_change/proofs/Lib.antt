@@ -13,3 +13,8 @@ pub mod Within
 pub mod Keepings
 pub mod KeepCounting
 pub mod Knowing
+pub mod Ordering
+pub mod Listed
+pub mod Separating
+pub mod Nexting
+pub mod Listing

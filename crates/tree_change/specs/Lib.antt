@@ -9,3 +9,5 @@ pub mod KeepingWalk
 pub mod Under
 pub mod Known
 pub mod ImageLaw
+pub mod Listed
+pub mod Listing

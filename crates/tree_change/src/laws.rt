@@ -2,6 +2,7 @@
 
 ghost use Rattle.tree_change.specs.ImageLaw.{ReadAlikeLaw, StoredAlikeLaw};
 ghost use Rattle.tree_change.specs.Keeping.{KeepingLaw};
+ghost use Rattle.tree_change.specs.Listed.{ListingLaw};
 ghost use Rattle.tree_change.specs.Marking.{MarkingLaw};
 ghost use Rattle.tree_change.specs.SkipLaw.{SkippingLaw, WalkIsOwn};
 
@@ -39,4 +40,10 @@ pub fn read_alike_law()
 /// touches a byte of a copy and the two lists of chunks give the same place.
 pub fn stored_alike_law()
     ensures { StoredAlikeLaw }
+{}
+
+/// The children that a table lists of the marked pairs, each below the node above it, are the marked children of the blocks
+/// of the tree that the table stands for, each with the key of the next pointer.
+pub fn listing_law()
+    ensures { ListingLaw }
 {}

@@ -1,4 +1,10 @@
-use crate::{Path, PathStep};
+use crate::{Path, PathStep, Start, Starts};
+use live_index::{Live, LiveIndex};
+use node_reader::Pointer;
+use recon_disk::Steps;
+use std::alloc::Global;
+use touched_pairs::Marks;
+use verdict::{Key, NoMemory};
 
 // The step at a block of this level, from which the way goes on at this child.
 fn step(level: u8, next: u32) -> PathStep {
@@ -30,4 +36,88 @@ fn a_path_goes_down_eight_levels_and_back(rt: HostRuntime) {
     assert_eq!(rt; path.steps(), steps.as_slice());
     assert_eq!(rt; path.pop(), Some(step(0, 0)));
     assert_eq!(rt; path.steps(), &steps[..7]);
+}
+
+fn inode(number: u64) -> Key {
+    Key {
+        objectid: number,
+        kind: 1,
+        offset: 0,
+    }
+}
+
+// A pair with its tree, address and level, the inodes of its first and its last key, and the address of the node above.
+fn pair(tree: u64, address: u64, level: u8, first: u64, last: u64, parent: u64) -> Live {
+    Live {
+        tree,
+        address,
+        level,
+        generation: 7,
+        first: inode(first),
+        last: inode(last),
+        parent,
+        owner: tree,
+    }
+}
+
+// Tree 5 has two nodes below its root, the one with three leaves, whose addresses fall as their keys ascend. Tree 7 has its
+// root at address 0, with two leaves.
+fn table(alloc: Global, steps: &mut Steps<()>) -> Result<LiveIndex<()>, NoMemory> {
+    let mut table = LiveIndex::new(alloc);
+    for live in [
+        pair(5, 0x10_0000, 2, 256, 300, 0),
+        pair(5, 0x20_0000, 1, 256, 259, 0x10_0000),
+        pair(5, 0x30_0000, 1, 300, 300, 0x10_0000),
+        pair(5, 0x3_c000, 0, 256, 256, 0x20_0000),
+        pair(5, 0x3_8000, 0, 257, 257, 0x20_0000),
+        pair(5, 0x3_4000, 0, 258, 259, 0x20_0000),
+        pair(5, 0x30_4000, 0, 300, 300, 0x30_0000),
+        pair(7, 0, 1, 256, 280, 0),
+        pair(7, 0x4000, 0, 256, 256, 0),
+        pair(7, 0x8000, 0, 270, 280, 0),
+    ] {
+        table.insert(live, steps)?;
+    }
+    Ok(table)
+}
+
+fn start(address: u64, first: u64, next: Option<u64>) -> Start {
+    Start {
+        pointer: Pointer {
+            key: inode(first),
+            address,
+            generation: 7,
+        },
+        next: next.map(inode),
+    }
+}
+
+#[test]
+fn marked_children_stand_below_their_nodes(rt: HostRuntime) -> Result<(), NoMemory> {
+    let mut steps = Steps::new(());
+    let table = table(rt.alloc(), &mut steps)?;
+    let mut marks = Marks::new(rt.alloc());
+    for (tree, address) in [
+        (5, 0x3_4000),
+        (5, 0x3_c000),
+        (5, 0x20_0000),
+        (5, 0x10_0000),
+        (7, 0),
+        (7, 0x4000),
+        (7, 0x8000),
+        (7, 0x3_8000),
+    ] {
+        marks.put(tree, address)?;
+    }
+    let starts = Starts::listed(rt.alloc(), &table, &marks, &mut steps)?;
+    let leaves = [start(0x3_c000, 256, Some(257)), start(0x3_4000, 258, None)];
+    assert_eq!(rt; starts.of(5, 0x20_0000), leaves.as_slice());
+    let nodes = [start(0x20_0000, 256, Some(300))];
+    assert_eq!(rt; starts.of(5, 0x10_0000), nodes.as_slice());
+    let at_zero = [start(0x4000, 256, Some(270)), start(0x8000, 270, None)];
+    assert_eq!(rt; starts.of(7, 0), at_zero.as_slice());
+    for (tree, address) in [(5, 0), (5, 0x30_0000), (7, 0x10_0000), (7, 0x20_0000)] {
+        assert!(rt; starts.of(tree, address).is_empty());
+    }
+    Ok(())
 }
