@@ -132,7 +132,7 @@ outcome_outside w s k t e events ending h =
     (outcome_from w (machine_step s e).after (k + 1) (counts_after t (machine_step s e).answer) events ending))) h
 
 -- what is told where the bytes are known
-told_at : (rs new : ReaderState) (left after : Option (List ℕ)) (rest : List ℕ) (r : Result Item TraceFault) → left ≡ Some rest
+pub told_at : (rs new : ReaderState) (left after : Option (List ℕ)) (rest : List ℕ) (r : Result Item TraceFault) → left ≡ Some rest
     → IfSome left (λ b. Tells rs b r new after) → Tells rs rest r new after
 told_at rs new left after rest r is told = subst (λ o. IfSome o (λ b. Tells rs b r new after)) is told
 
@@ -224,7 +224,7 @@ fault_here rs rest f k fresh few (inl h) = header_here rs.at_header rs.limit rs.
 fault_here rs rest f k fresh few (inr h) =
     in_front rs rest h.0 [] (Fault f k) fresh h.1 (records_end rs.limit rs.whole h.0 (Fault f k) h.2 few)
 
-meets : (rs new : ReaderState) (rest : List ℕ) (f : TraceFault) (after : Option (List ℕ)) → IsOfBytes f → Tells rs rest (Err f) new after → MeetsEnding rs rest (Fault f new.number)
+pub meets : (rs new : ReaderState) (rest : List ℕ) (f : TraceFault) (after : Option (List ℕ)) → IsOfBytes f → Tells rs rest (Err f) new after → MeetsEnding rs rest (Fault f new.number)
 meets rs new rest BadHeader after h told = told
 meets rs new rest BadTag after h told = told
 meets rs new rest BadLength after h told = told

@@ -4,4 +4,6 @@ pub mod Going
 pub mod Handing
 pub mod Made
 mod OneForm
+pub mod Reaching
 pub mod Start
+pub mod Stopping

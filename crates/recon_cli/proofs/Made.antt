@@ -1,13 +1,10 @@
 -- How a make goes: calls that are sent one after the other, and what a fault leaves of the device.
-use Rattle.std.proofs.Common.{◌≡◌, ℕ, ◌+◌, ◌-◌, ◌≤◌, inl, inr, List, [], ◌++◌, length, take, drop, Option, Some, None, IfSome, option_map, Err, refl, sym, ap, ◌∙◌, arith, subst, append_assoc, append-nil, zero-add}
+use Rattle.std.proofs.Common.{◌≡◌, ℕ, ◌+◌, ◌-◌, ◌≤◌, inl, inr, List, length, drop, Option, Some, None, IfSome, option_map, Err, refl, sym, ap, ◌∙◌, arith, subst}
 use Rattle.std.specs.Option.{IsSomeAnd}
 use Rattle.std.proofs.lemmas.List.{ext_get_or, length-drop, get_or-drop}
 use Rattle.verdict.specs.Image.{written}
 use Rattle.verdict.proofs.Images.{length-written, get-written_behind}
-use Rattle.recon_disk.specs.Calls.{Sent, and_sent}
-use Rattle.recon_disk.specs.Outside.{MayBeWritten}
 use Rattle.recon_disk.specs.Sending.{StaysOutside}
-use Rattle.recon_disk.proofs.Sending.{told_more, run_fails}
 use Rattle.recon_cli.specs.declared.run_fault.RunFault.{RunFault}
 use Rattle.recon_cli.specs.declared.run_fault.RunFault.TheVariants.{Device, Trace, Lines, Memory}
 use Rattle.recon_cli.specs.Making.{StaysPastBase}

@@ -1,16 +1,9 @@
 -- How a replay begins, and what it comes to as a whole.
-use Rattle.std.proofs.Common.{◌≡◌, ℕ, List, ◌++◌, Option, Some, IfSome, option_map, Result, Ok, Err, sym, ap, ◌∙◌, subst, append_assoc}
-use Rattle.std.specs.Ordering.{nat_cmp}
-use Rattle.std.specs.FinMap.{FinMap, empty}
+use Rattle.std.proofs.Common.{◌≡◌, ℕ, List, ◌++◌, Option, Some, option_map, sym, ap, ◌∙◌, subst, append_assoc}
 use Rattle.verdict.specs.declared.finding.Finding.{Finding}
-use Rattle.super_reader.specs.declared.Super.{Super}
-use Rattle.write_cache.specs.Cache.{overlaid}
-use Rattle.write_cache.proofs.CacheLaws.{overlaid-empty}
 use Rattle.records.specs.FullCheck.{full_check}
-use Rattle.records.specs.Contents.{superblock_in}
 use Rattle.verdict.specs.declared.finding.Verdict.TheVariants.{Accept, Found}
-use Rattle.records.proofs.Accepted.{accepted_superblock}
-use Rattle.recon_core.specs.Standing.{IsAccepted, first_state}
+use Rattle.recon_core.specs.Standing.{first_state}
 use Rattle.trace_reader.specs.Trace.{IsBytes}
 use Rattle.trace_reader.proofs.Records.{one}
 use Rattle.report.specs.declared.line.Line.TheVariants.{Image, Refused}

@@ -1,5 +1,7 @@
 pub mod Words
 pub mod Outcome
 pub mod Run
+pub mod Stopped
+pub mod Stopping
 pub mod Making
 pub mod Status

@@ -1,9 +1,10 @@
 //! How a line is printed.
 
-ghost use Rattle.std.specs.Prelude.{◌≡◌, ◌++◌, IfOk, OnOk, option_map};
+ghost use Rattle.std.specs.Prelude.{◌≡◌, ◌++◌, IfOk, IfErr, OnOk, option_map};
 ghost use Rattle.report.specs.Lines.{IsPrintable};
 ghost use Rattle.recon_cli.specs.Outcome.{line_in};
 ghost use Rattle.recon_cli.specs.Run.{HasPrintCause, TookLines};
+ghost use Rattle.recon_cli.specs.Stopping.{IsCutPrint};
 
 use crate::run_fault::RunFault;
 use recon_disk::Sink;
@@ -36,6 +37,8 @@ pub fn print<K: Sink>(alloc: Global, style: Style, out: &mut K, line: &Line) -> 
     requires { IsPrintable line.now }
     ensures printed { OnOk result (K.kept out.new ≡
         option_map (λ kept. kept ++ line_in style line.now) (K.kept out.old)) }
+    ensures stopped { IfErr result (λ fault.
+        IsCutPrint (K.kept out.old) (line_in style line.now) fault (K.kept out.new)) }
     ensures lines { TookLines K.Sink style out.old out.new }
     ensures cause { HasPrintCause (K.faults out.old) (K.faults out.new) result }
 {
@@ -58,6 +61,8 @@ pub fn refuse<K: Sink>(
     ensures status { IfOk result (λ status. status ≡ 1) }
     ensures printed { OnOk result (K.kept out.new ≡
         option_map (λ kept. kept ++ line_in style (Line.Refused finding)) (K.kept out.old)) }
+    ensures stopped { IfErr result (λ fault.
+        IsCutPrint (K.kept out.old) (line_in style (Line.Refused finding)) fault (K.kept out.new)) }
     ensures lines { TookLines K.Sink style out.old out.new }
     ensures cause { HasPrintCause (K.faults out.old) (K.faults out.new) result }
 {

@@ -1,6 +1,6 @@
 //! The replay of a trace.
 
-ghost use Rattle.std.specs.Prelude.{ℕ, ◌≡◌, ◌==◌, if◌then◌else◌, ◌+◌, ◌<◌, ◌≤◌, ◌++◌, false, List, Some, Ok, IfOk, OnOk, IfSome, option_map};
+ghost use Rattle.std.specs.Prelude.{ℕ, ◌≡◌, ◌==◌, if◌then◌else◌, ◌+◌, ◌<◌, ◌≤◌, ◌++◌, false, List, Some, Ok, IfOk, IfErr, OnOk, IfSome, option_map};
 ghost use Rattle.std.specs.FinMap as map;
 ghost use Rattle.recon_core.specs.Machine.{MachineState};
 ghost use Rattle.recon_core.specs.Standing.{IsBelow, StandsFor, first_state};
@@ -9,6 +9,8 @@ ghost use Rattle.trace_reader.specs.Fault.{fault_number};
 ghost use Rattle.verdict.specs.declared.finding.Verdict.TheVariants.{Accept};
 ghost use Rattle.records.specs.FullCheck.{full_check};
 ghost use Rattle.recon_cli.specs.Outcome.{line_in, no_counts};
+ghost use Rattle.recon_cli.specs.Stopped.{StopsAs, StopsFrom};
+ghost use Rattle.recon_cli.specs.Stopping.{FaultStops, IsCutPrint};
 ghost use Rattle.recon_cli.specs.Run.{HasFaultPrintCause, HasFaultCause, HasPrintCause, IsOfBytes, IsOutcomeStatus, IsSameOutside, Replays, ReplaysAs, TookLines, faults_lent};
 
 use crate::counts::Counts;
@@ -37,6 +39,8 @@ fn print_summary<K: Sink>(
     ensures printed { let line = Line.End counts.now.passed counts.now.rejected in
         OnOk result (K.kept out.new ≡
         option_map (λ kept. kept ++ line_in style line) (K.kept out.old)) }
+    ensures stopped { let line = Line.End counts.now.passed counts.now.rejected in
+        IfErr result (λ cause. IsCutPrint (K.kept out.old) (line_in style line) cause (K.kept out.new)) }
     ensures lines { TookLines K.Sink style out.old out.new }
     ensures cause { HasPrintCause (K.faults out.old) (K.faults out.new) result }
 {
@@ -64,6 +68,8 @@ fn print_fault<K: Sink>(
     ensures printed { let line = Line.BadTrace (fault_number fault) place in
         IfOk result (λ status. (status ≡ 3) × IsOfBytes fault × (K.kept out.new ≡
         option_map (λ kept. kept ++ line_in style line) (K.kept out.old))) }
+    ensures stopped { let line = Line.BadTrace (fault_number fault) place in IfErr result
+        (λ cause. FaultStops fault (K.kept out.old) (line_in style line) cause (K.kept out.new)) }
     ensures lines { TookLines K.Sink style out.old out.new }
     ensures cause { HasFaultPrintCause fault (K.faults out.old) (K.faults out.new) result }
 {
@@ -100,6 +106,11 @@ fn take_records<D: Disk, S: Source, K: Sink, L>(
         IsBytes bytes → S.left lent.old.trace.now ≡ Some bytes →
         K.kept lent.old.out.now ≡ Some kept →
         IfOk result (λ status. Replays replay.old.style first bytes kept status
+        (D.bytes lent.new.disk.now) (S.left lent.new.trace.now) (K.kept lent.new.out.now)) }
+    ensures stopped { (first : MachineState) (bytes kept : List ℕ) →
+        StandsFor replay.old.checker first → D.bytes lent.old.disk.now ≡ Some first.image →
+        S.left lent.old.trace.now ≡ Some bytes → K.kept lent.old.out.now ≡ Some kept →
+        IfErr result (λ cause. StopsFrom replay.old.style first bytes kept cause
         (D.bytes lent.new.disk.now) (S.left lent.new.trace.now) (K.kept lent.new.out.now)) }
     ensures status { IfOk result IsOutcomeStatus }
     ensures same { IsSameOutside lent.old lent.new }
@@ -145,6 +156,12 @@ fn replay_over<D: Disk, S: Source, K: Sink, L>(
         K.kept lent.old.out.now ≡ Some kept →
         IfOk result (λ status. ReplaysAs style image bytes kept status
         (D.bytes lent.new.disk.now) (S.left lent.new.trace.now) (K.kept lent.new.out.now)) }
+    ensures stopped { (image bytes kept : List ℕ) →
+        full_check image ≡ Accept generation →
+        StandsFor checker (first_state image) → D.bytes lent.old.disk.now ≡ Some image →
+        S.left lent.old.trace.now ≡ Some bytes → K.kept lent.old.out.now ≡ Some kept →
+        IfErr result (λ cause. StopsAs style image bytes kept cause
+        (D.bytes lent.new.disk.now) (S.left lent.new.trace.now) (K.kept lent.new.out.now)) }
     ensures status { IfOk result IsOutcomeStatus }
     ensures same { IsSameOutside lent.old lent.new }
     ensures lines { TookLines K.Sink style lent.old.out.now lent.new.out.now }
@@ -174,6 +191,10 @@ pub fn replay<D: Disk, S: Source, K: Sink, L>(
         IsBytes bytes → S.left lent.old.trace.now ≡ Some bytes →
         K.kept lent.old.out.now ≡ Some kept →
         IfOk result (λ status. ReplaysAs style image bytes kept status
+        (D.bytes lent.new.disk.now) (S.left lent.new.trace.now) (K.kept lent.new.out.now)) }
+    ensures stopped { (image bytes kept : List ℕ) → D.bytes lent.old.disk.now ≡ Some image →
+        S.left lent.old.trace.now ≡ Some bytes → K.kept lent.old.out.now ≡ Some kept →
+        IfErr result (λ cause. StopsAs style image bytes kept cause
         (D.bytes lent.new.disk.now) (S.left lent.new.trace.now) (K.kept lent.new.out.now)) }
     ensures status { IfOk result IsOutcomeStatus }
     ensures same { IsSameOutside lent.old lent.new }

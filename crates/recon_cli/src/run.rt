@@ -4,9 +4,12 @@ ghost use Rattle.std.specs.Prelude.{ℕ, false, ◌≡◌, ◌<◌, ◌≤◌, �
 ghost use Rattle.verdict.specs.declared.machine.Event.{Event as AnEvent};
 ghost use Rattle.trace_reader.specs.Trace.{Ending, IsBytes, IsTrace};
 ghost use Rattle.recon_cli.specs.declared.lines.Style.{Style};
+ghost use Rattle.recon_cli.specs.declared.run_fault.RunFault.{RunFault as Cause};
 ghost use Rattle.recon_cli.specs.Words.{AsksToMake, IsForm, IsNoForm};
 ghost use Rattle.recon_cli.specs.Making.{IsUnwritten, MakesAs};
 ghost use Rattle.recon_cli.specs.Outcome.{replay_outcome};
+ghost use Rattle.recon_cli.specs.Status.{fault_status};
+ghost use Rattle.recon_cli.specs.Stopped.{CheckStops, StopsAs};
 ghost use Rattle.recon_cli.specs.Run.{ChecksAs, ComesOut, HadNoFault, HasStatusCause, IsCheckStatus, IsOutcomeStatus, TookLines, faults_of, record_limit};
 
 use crate::check::check;
@@ -62,10 +65,23 @@ pub fn recon_run<D: Disk, S: Source, K: Sink, L>(
         ComesOut (replay_outcome style image events ending) bytes kept result
         (D.bytes disk.new) (S.left trace.new) (K.kept out.new) }
 
+    // A replay that stops early, at a status from 4 to 7, has printed the lines of what it did, and the device holds
+    // what these lines say: after the records that were taken whole, or at a failed call a stop image of the last.
+    ensures stopped { (style : Style) → IsForm (Form.Replay style) (map string_bytes words.now) →
+        (cause : Cause) → result ≡ fault_status cause →
+        (image bytes kept : List ℕ) → D.bytes disk.old ≡ Some image →
+        S.left trace.old ≡ Some bytes → K.kept out.old ≡ Some kept →
+        StopsAs style image bytes kept cause
+        (D.bytes disk.new) (S.left trace.new) (K.kept out.new) }
+
     // A check of the image prints what the full check says of it. It writes nothing to the disk, and leaves the trace.
     ensures check { IsForm Form.Check (map string_bytes words.now) → IsOutcomeStatus result →
         (image kept : List ℕ) → D.bytes disk.old ≡ Some image → K.kept out.old ≡ Some kept →
         ChecksAs image kept result (D.bytes disk.new) (K.kept out.new) }
+    ensures check_stopped { IsForm Form.Check (map string_bytes words.now) →
+        (cause : Cause) → result ≡ fault_status cause →
+        (image kept : List ℕ) → D.bytes disk.old ≡ Some image → K.kept out.old ≡ Some kept →
+        CheckStops image kept cause (D.bytes disk.new) (K.kept out.new) }
     ensures checked { IsForm Form.Check (map string_bytes words.now) →
         IsCheckStatus result × IsUnwritten D.Disk disk.old disk.new × (trace.new ≡ trace.old) }
 

@@ -1,11 +1,12 @@
 //! What one event does.
 
-ghost use Rattle.std.specs.Prelude.{ℕ, ◌≡◌, ◌+◌, ◌^◌, ◌<◌, ◌≤◌, ◌++◌, false, List, Some, IfOk, IfSome, OnOk, option_map};
+ghost use Rattle.std.specs.Prelude.{ℕ, ◌≡◌, ◌+◌, ◌^◌, ◌<◌, ◌≤◌, ◌++◌, false, List, Some, IfOk, IfErr, IfSome, OnOk, option_map};
 ghost use Rattle.verdict.specs.Events.{IsSized, begin_of};
 ghost use Rattle.recon_core.specs.Machine.{MachineState};
 ghost use Rattle.recon_core.specs.Standing.{IsBelow, StandsFor};
 ghost use Rattle.recon_cli.specs.Outcome.{answer_text, is_settle, counts_after};
 ghost use Rattle.recon_cli.specs.Run.{HasPrintCause, HasTurnCause, TookLines, Turns};
+ghost use Rattle.recon_cli.specs.Stopping.{IsCutPrint, TurnStops};
 
 use crate::counts::Counts;
 use crate::lines::{Style, print};
@@ -54,6 +55,8 @@ impl Replay {
         ensures printed { OnOk result (K.kept out.new ≡
             option_map (λ kept. kept ++
             answer_text self.old.style self.old.counts at settle answer) (K.kept out.old)) }
+        ensures stopped { let line = answer_text self.old.style self.old.counts at settle answer in
+            IfErr result (λ fault. IsCutPrint (K.kept out.old) line fault (K.kept out.new)) }
         ensures counts { self.new ≡
             record self.old { counts = counts_after self.old.counts answer } }
         ensures lines { TookLines K.Sink self.old.style out.old out.new }
@@ -112,6 +115,11 @@ impl Replay {
             K.kept out.old ≡ Some kept → IfOk result (λ status.
             Turns self.old.style state place self.old.counts event kept status
             self.new.checker self.new.counts (D.bytes disk.new) (K.kept out.new)) }
+        ensures stopped { (state : MachineState) (kept : List ℕ) →
+            StandsFor self.old.checker state → D.bytes disk.old ≡ Some state.image →
+            K.kept out.old ≡ Some kept → IfErr result (λ fault.
+            TurnStops self.old.style state place self.old.counts event kept fault
+            (D.bytes disk.new) (K.kept out.new)) }
         ensures status { IfOk result (λ status. IfSome status (λ n. n ≡ 3)) }
         ensures style { self.new.style ≡ self.old.style }
         ensures open { OnOk result (self.new.checker.closed ≡ false) }
