@@ -1,6 +1,6 @@
 -- The children that a table lists are those of the blocks of the walk that it stands for.
-use Rattle.std.proofs.Common.{◌≡◌, ℕ, zero, suc, ◌<◌, ◌≤◌, ◌==◌, Bool, true, false, cond, ◌||◌, List, [], ◌∷◌, ◌⊎◌, inl, inr, refl, ap, sym, subst, ◌∙◌, arith, if◌then◌else◌}
-use Rattle.std.specs.Prelude.{Option, Some, None, IfSome, nat_lt, Result, Ok, Err}
+use Rattle.std.proofs.Common.{◌≡◌, ℕ, zero, suc, ◌≤◌, Bool, true, false, cond, ◌||◌, List, [], ◌∷◌, ◌⊎◌, inl, inr, refl, ap, sym, subst, ◌∙◌, arith, if◌then◌else◌}
+use Rattle.std.specs.Prelude.{Option, Some, None, IfSome, nat_lt, Ok}
 use Rattle.std.specs.List.{AllByRecursion, list_any}
 use Rattle.std.proofs.lemmas.Bool.{eqb-true}
 use Rattle.std.proofs.lemmas.Bool.Decides.{nat_tests}
@@ -20,7 +20,7 @@ use Rattle.touched_pairs.specs.Marking.{if_above, parent_of}
 use Rattle.walk_laws.specs.WalkOrder.{AllAbove, Ascend as KeysAscend}
 use Rattle.walk_laws.proofs.Blocks.{block_keys}
 use Rattle.tree_change.specs.declared.starts.Start.{Start}
-use Rattle.tree_change.specs.Keeping.{IsKnown, Marks, OneOf, Under, last_in, live_at, starts_at, starts_in}
+use Rattle.tree_change.specs.Keeping.{IsKnown, Marks, OneOf, last_in, live_at, starts_at, starts_in}
 use Rattle.tree_change.specs.Listed.{AreChildren, Ascend, IsChild, ListingLaw, is_at, is_before, up_to}
 use Rattle.tree_change.proofs.Accepted.{Accepts, accepts, keys_at}
 use Rattle.tree_change.proofs.Climbing.{of_tree}

@@ -1,6 +1,6 @@
 -- The key of the next pointer of a node is the next first key of a table on the level below.
-use Rattle.std.proofs.Common.{◌≡◌, ℕ, zero, suc, ◌==◌, Bool, true, false, ◌&&◌, List, [], ◌∷◌, ◌⊎◌, inl, inr, refl, ap, sym, subst, ◌∙◌, arith, if◌then◌else◌}
-use Rattle.std.specs.Prelude.{Option, Some, None, IfSome, Result, Ok, Err}
+use Rattle.std.proofs.Common.{◌≡◌, ℕ, suc, ◌==◌, Bool, true, false, List, [], ◌∷◌, ◌⊎◌, inl, inr, refl, ap, sym, subst, ◌∙◌, arith}
+use Rattle.std.specs.Prelude.{Option, Some, None, IfSome}
 use Rattle.std.proofs.lemmas.Bool.{eqb-true}
 use Rattle.std.proofs.lemmas.Bool.Decides.{nat_tests}
 use Rattle.std.proofs.lemmas.Grind.{common_steps}
@@ -11,7 +11,7 @@ use Rattle.live_index.specs.Pairs.{IsNextFirst, Pairs, has_first}
 use Rattle.live_index.specs.declared.live.Live.{Live}
 use Rattle.node_reader.specs.Layout.{count_of, pointer_of, pointers_of}
 use Rattle.node_reader.specs.Places.{each_from}
-use Rattle.node_reader.specs.Stored.{CopyFault, Stored}
+use Rattle.node_reader.specs.Stored.{Stored}
 use Rattle.node_reader.specs.declared.expect.Expect.{Expect}
 use Rattle.node_reader.specs.declared.expect.Pointer.{Pointer}
 use Rattle.records.specs.Walk.{child_of, children_of, high_of, walk_of}
@@ -20,12 +20,12 @@ use Rattle.walk_laws.proofs.Blocks.{block_keys}
 use Rattle.tree_change.specs.Keeping.{IsKnown, last_in, live_at}
 use Rattle.tree_change.specs.Listed.{up_to}
 use Rattle.tree_change.specs.Skips.{is_below}
-use Rattle.tree_change.proofs.Accepted.{Accepts, accepts, keys_at}
+use Rattle.tree_change.proofs.Accepted.{Accepts, keys_at}
 use Rattle.tree_change.proofs.Bounds.{and_parts, below_self, keys_below, upto}
 use Rattle.tree_change.proofs.Lasting.{lasting}
 use Rattle.tree_change.proofs.Separating.{IsApart, Known, apart, first_at, first_child, of}
 use Rattle.tree_change.proofs.Ordering.{one_key, same_itself, same_key}
-use Rattle.tree_change.proofs.Trails.{Trail, trail_and, trail_below, trail_of, trails}
+use Rattle.tree_change.proofs.Trails.{Trail, trail_below, trail_of, trails}
 use Rattle.tree_change.proofs.Visiting.{Visits, VisitsOne, visits_map, visits_one, visits_then_first, visits_then_later}
 use Rattle.tree_change.proofs.Within.{bounded, here_of, node_keys, pointer_keys, rest_of, upto_block}
 

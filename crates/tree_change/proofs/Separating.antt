@@ -1,14 +1,12 @@
 -- The blocks on one level of a walk lie apart, in the order of their keys.
-use Rattle.std.proofs.Common.{◌≡◌, ℕ, zero, suc, ◌<◌, ◌≤◌, ◌==◌, Bool, true, false, ◌&&◌, List, [], ◌∷◌, ◌⊎◌, inl, inr, refl, ap, sym, subst, ◌∙◌, arith}
+use Rattle.std.proofs.Common.{◌≡◌, ℕ, zero, suc, ◌<◌, ◌≤◌, ◌==◌, Bool, true, false, List, [], ◌∷◌, ◌⊎◌, inl, inr, refl, ap, sym, subst, ◌∙◌, arith}
 use Rattle.std.specs.Prelude.{Option, Some, None, Result, Ok, Err}
-use Rattle.std.proofs.lemmas.Bool.{eqb-true}
 use Rattle.std.proofs.lemmas.Grind.{common_steps}
-use Rattle.verdict.specs.OnDisk.{key_below, key_same}
+use Rattle.verdict.specs.OnDisk.{key_below}
 use Rattle.verdict.specs.Rules.{first_failing}
 use Rattle.verdict.specs.declared.key.Key.{Key}
 use Rattle.verdict.proofs.Tables.{joined_none}
 use Rattle.super_reader.specs.declared.Super.{Super}
-use Rattle.live_index.specs.declared.live.Live.{Live}
 use Rattle.node_reader.specs.Faults.{block_fault, header_rules}
 use Rattle.node_reader.specs.Layout.{count_of, entry_key, entry_size, pointers_of}
 use Rattle.node_reader.specs.Places.{each_from}
@@ -23,13 +21,13 @@ use Rattle.walk_laws.proofs.Keys.{NoneBelow}
 use Rattle.tree_change.specs.Keeping.{first_in, live_at}
 use Rattle.tree_change.specs.Skips.{is_below}
 use Rattle.tree_change.proofs.Accepted.{Accepts, LowFits, accepts, keys_at, visit_of, walk_accepted}
-use Rattle.tree_change.proofs.Bounds.{and_parts, below_self, below_through, below_trans, keys_below}
+use Rattle.tree_change.proofs.Bounds.{and_parts, below_self, below_through, keys_below}
 use Rattle.tree_change.proofs.Climbing.{Table}
 use Rattle.tree_change.proofs.Lasting.{low_fits}
 use Rattle.tree_change.proofs.Ordering.{from_trans, not_less, same_key}
 use Rattle.tree_change.proofs.Trails.{Trail, after, then_trail, trail_and, trail_below, trail_of, trails}
 use Rattle.tree_change.proofs.Visiting.{Visits, visits_after, visits_both, visits_map, visits_then, visits_then_first, visits_then_later}
-use Rattle.tree_change.proofs.Within.{here_of, keys_fit, node_keys, pointer_keys, rest_of}
+use Rattle.tree_change.proofs.Within.{keys_fit, node_keys, pointer_keys, rest_of}
 
 header_kept : (bytes fsid : List ℕ) (e : Expect) → block_fault bytes fsid e ≡ None → first_failing (header_rules bytes fsid e) ≡ None
 unfolding block_fault

@@ -1,4 +1,4 @@
--- The children that are walked below kept blocks, by a table of live pairs and by marks of those that moved and of all above them.
+-- The children that are walked below kept blocks, by a table of live pairs and by marks on those that moved and on all above.
 use Rattle.std.specs.Prelude.{ℕ, ◌≡◌, ◌&&◌, ◌||◌, ◌==◌, nat_lt, Bool, true, List, [], ◌∷◌, Option, Some, None, if◌then◌else◌}
 use Rattle.std.specs.List.{AllByRecursion, list_any}
 use Rattle.verdict.specs.OnDisk.{key_below, key_same}
@@ -17,8 +17,8 @@ abbrev pub up_to : Key → Option Key → Option Key
 up_to last None = None
 up_to last (Some key) = if key_below last key then None else Some key
 
--- A marked child of the block of a tree at an address, as a table has it: its pointer has its first key, its address and its generation,
--- and the next pointer's key is the next first key of its level, where that is not above the greatest key below the block.
+-- A marked child of the block of a tree at an address, as a table has it: its pointer has its first key, its address and its
+-- generation, and the next pointer's key is the next first key of its level, where that is not above the block's greatest key.
 pub record IsChild (pairs : Pairs) (marked : Marks) (tree address : ℕ) (start : Start) : Type 0 where
   pub live : Live
   pub up : Live
@@ -38,7 +38,9 @@ is_at address start = start.pointer.address == address
 
 -- children come one before the other by their keys, and where these are the same by their addresses
 abbrev pub is_before : Start → Start → Bool
-is_before a b = key_below a.pointer.key b.pointer.key || (key_same a.pointer.key b.pointer.key && nat_lt a.pointer.address b.pointer.address)
+is_before a b =
+    key_below a.pointer.key b.pointer.key
+    || (key_same a.pointer.key b.pointer.key && nat_lt a.pointer.address b.pointer.address)
 
 abbrev pub Ascend : List Start → Type 0
 Ascend [] = Unit {0}
@@ -47,8 +49,8 @@ Ascend (start ∷ starts) = AllByRecursion (λ other. is_before start other ≡ 
 -- of the block of a tree at an address just the marked children stand in a list, in the order of their keys
 pub record AreChildren (pairs : Pairs) (marked : Marks) (tree address : ℕ) (starts : List Start) : Type 0 where
   pub each : AllByRecursion (IsChild pairs marked tree address) starts
-  pub all : (child : ℕ) (live up : Live) → marked tree child ≡ true → pairs tree child ≡ Some live → parent_of pairs tree live ≡ Some up
-      → live.parent ≡ address → list_any (is_at child) starts ≡ true
+  pub all : (child : ℕ) (live up : Live) → marked tree child ≡ true → pairs tree child ≡ Some live
+      → parent_of pairs tree live ≡ Some up → live.parent ≡ address → list_any (is_at child) starts ≡ true
   pub order : Ascend starts
 
 -- the same, of each block

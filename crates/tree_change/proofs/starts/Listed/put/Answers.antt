@@ -1,4 +1,4 @@
-use Rattle.std.proofs.Common.{◌≡◌, ◌<◌, ◌≤◌, ◌∙◌, ap, sym, subst, arith, true, vec_len}
+use Rattle.std.proofs.Common.{◌≡◌, ◌≤◌, ◌∙◌, ap, sym, subst, arith, true, vec_len}
 use Rattle.tree_change.specs.Listed.{is_before}
 use Rattle.tree_change.specs.Listing.{rank_of}
 use Rattle.tree_change.proofs.Listed.{put_at}
