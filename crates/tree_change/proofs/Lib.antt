@@ -6,6 +6,7 @@ pub mod Lasting
 pub mod LivePairsExample
 pub mod Sharing
 pub mod Sifting
+pub mod Tables
 pub mod Skipping
 pub mod Trails
 pub mod Visiting

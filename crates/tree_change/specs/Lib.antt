@@ -9,3 +9,4 @@ pub mod KeepingWalk
 pub mod Under
 pub mod Known
 pub mod ImageLaw
+pub mod TableLaw

@@ -4,6 +4,7 @@ ghost use Rattle.tree_change.specs.ImageLaw.{ReadAlikeLaw, StoredAlikeLaw};
 ghost use Rattle.tree_change.specs.Keeping.{KeepingLaw};
 ghost use Rattle.tree_change.specs.Marking.{MarkingLaw};
 ghost use Rattle.tree_change.specs.SkipLaw.{SkippingLaw, WalkIsOwn};
+ghost use Rattle.tree_change.specs.TableLaw.{TreeTableLaw};
 
 /// A walk is the own records of the blocks that it comes to, one after the other, or their first finding.
 pub fn walk_is_own()
@@ -39,4 +40,10 @@ pub fn read_alike_law()
 /// touches a byte of a copy and the two lists of chunks give the same place.
 pub fn stored_alike_law()
     ensures { StoredAlikeLaw }
+{}
+
+/// The table of the live pairs of the blocks that the walk of a tree comes to stands for that walk, where it has no
+/// finding: it has the pair of each of these blocks, and nothing else of the tree. No address is come to twice.
+pub fn tree_table_law()
+    ensures { TreeTableLaw }
 {}
