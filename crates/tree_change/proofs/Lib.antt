@@ -4,6 +4,7 @@ pub mod Climbing
 pub mod Images
 pub mod Lasting
 pub mod LivePairsExample
+pub mod Lives
 pub mod Sharing
 pub mod Sifting
 pub mod Tables

@@ -301,7 +301,7 @@ module _ (sup : Super) (stored : Stored) where
   each_at es [] same into = tt
   each_at es (e ∷ some) same into = (one_at es e same.0 (into e (inl refl)), each_at es some same.1 (λ v h. into v (inr h)))
 
-  any_each : (es : List Expect) → AllByRecursion Any es
+  pub any_each : (es : List Expect) → AllByRecursion Any es
   any_each [] = tt
   any_each (e ∷ es) = (tt, any_each es)
 

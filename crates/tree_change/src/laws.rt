@@ -4,7 +4,7 @@ ghost use Rattle.tree_change.specs.ImageLaw.{ReadAlikeLaw, StoredAlikeLaw};
 ghost use Rattle.tree_change.specs.Keeping.{KeepingLaw};
 ghost use Rattle.tree_change.specs.Marking.{MarkingLaw};
 ghost use Rattle.tree_change.specs.SkipLaw.{SkippingLaw, WalkIsOwn};
-ghost use Rattle.tree_change.specs.TableLaw.{TreeTableLaw};
+ghost use Rattle.tree_change.specs.TableLaw.{LivesLaw, TreeTableLaw};
 
 /// A walk is the own records of the blocks that it comes to, one after the other, or their first finding.
 pub fn walk_is_own()
@@ -46,4 +46,10 @@ pub fn stored_alike_law()
 /// finding: it has the pair of each of these blocks, and nothing else of the tree. No address is come to twice.
 pub fn tree_table_law()
     ensures { TreeTableLaw }
+{}
+
+/// The live pairs of the records of a walk are those of the blocks that it comes to, in their order, where it has no
+/// finding.
+pub fn lives_law()
+    ensures { LivesLaw }
 {}
