@@ -1,6 +1,7 @@
 pub mod Accepted
 pub mod Bounds
 pub mod Climbing
+pub mod Forest
 pub mod Images
 pub mod Lasting
 pub mod LivePairsExample

@@ -5,6 +5,7 @@ use Rattle.std.proofs.lemmas.Bool.{eqb-true}
 use Rattle.std.proofs.lemmas.Bool.Decides.{nat_tests}
 use Rattle.std.specs.Prelude.{Option, Some, None, IfSome, Result, Ok, Err, map}
 use Rattle.std.specs.List.{AllByRecursion}
+use Rattle.std.specs.Result.{IsOk}
 use Rattle.verdict.specs.OnDisk.{key_below, key_same}
 use Rattle.verdict.specs.declared.key.Key.{Key}
 use Rattle.super_reader.specs.declared.Super.{Super}
@@ -16,15 +17,14 @@ use Rattle.node_reader.specs.Stored.{CopyFault, Stored}
 use Rattle.node_reader.specs.declared.expect.Expect.{Expect}
 use Rattle.node_reader.specs.declared.expect.Pointer.{Pointer}
 use Rattle.node_reader.proofs.Sound.{fault_free_level}
-use Rattle.records.specs.Walk.{child_of, children_of, high_of}
+use Rattle.records.specs.Walk.{child_of, children_of, high_of, walk_of}
 use Rattle.records.specs.WalkLaw.{visited}
 use Rattle.walk_laws.specs.WalkOrder.{AllAbove, Ascend}
 use Rattle.walk_laws.proofs.Blocks.{block_keys}
 use Rattle.walk_laws.proofs.Keys.{AllBelow, Lie, NoneBelow}
-use Rattle.tree_change.specs.Keeping.{IsKnown, OneOf, live_at}
+use Rattle.tree_change.specs.Keeping.{IsKnown, OneOf, Stands, live_at}
 use Rattle.tree_change.specs.LivePairs.{table_of}
 use Rattle.tree_change.specs.Skips.{is_below}
-use Rattle.tree_change.specs.TableLaw.{TreeTableLaw}
 use Rattle.tree_change.proofs.Accepted.{Accepts, LowFits, accepts, keys_at, visit_of, walk_accepted}
 use Rattle.tree_change.proofs.Bounds.{and_parts, below_through}
 use Rattle.tree_change.proofs.Lasting.{low_fits}
@@ -305,8 +305,8 @@ module _ (sup : Super) (stored : Stored) where
   any_each [] = tt
   any_each (e ∷ es) = (tt, any_each es)
 
-pub tree_table : TreeTableLaw
-tree_table sup stored root fine =
+pub stands_for : (sup : Super) (stored : Stored) (root : Expect) → IsOk (walk_of sup stored root) → Stands (table sup stored (visited sup stored root)) sup stored root
+stands_for sup stored root fine =
     let any = visits_from (Any sup stored) sup stored root (record { fine = fine; each = any_each sup stored (visited sup stored root) }) in
     let trail = trail_of sup stored root in
     let alone : Alone trail = alone_of sup stored root any in

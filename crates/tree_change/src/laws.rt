@@ -4,7 +4,7 @@ ghost use Rattle.tree_change.specs.ImageLaw.{ReadAlikeLaw, StoredAlikeLaw};
 ghost use Rattle.tree_change.specs.Keeping.{KeepingLaw};
 ghost use Rattle.tree_change.specs.Marking.{MarkingLaw};
 ghost use Rattle.tree_change.specs.SkipLaw.{SkippingLaw, WalkIsOwn};
-ghost use Rattle.tree_change.specs.TableLaw.{LivesLaw, TreeTableLaw};
+ghost use Rattle.tree_change.specs.TableLaw.{LivesLaw, TablesLaw, TreeTableLaw};
 
 /// A walk is the own records of the blocks that it comes to, one after the other, or their first finding.
 pub fn walk_is_own()
@@ -42,14 +42,20 @@ pub fn stored_alike_law()
     ensures { StoredAlikeLaw }
 {}
 
-/// The table of the live pairs of the blocks that the walk of a tree comes to stands for that walk, where it has no
-/// finding: it has the pair of each of these blocks, and nothing else of the tree. No address is come to twice.
-pub fn tree_table_law()
-    ensures { TreeTableLaw }
-{}
-
 /// The live pairs of the records of a walk are those of the blocks that it comes to, in their order, where it has no
 /// finding.
 pub fn lives_law()
     ensures { LivesLaw }
+{}
+
+/// The table of the live pairs of the records of a tree's walk stands for that walk, where it has no
+/// finding: it has the pair of each block that the walk comes to, and nothing else of the tree. No address is come to twice.
+pub fn tree_table_law()
+    ensures { TreeTableLaw }
+{}
+
+/// The table of the live pairs of the records of several trees of different ids stands for the walk of each, where none
+/// of these walks has a finding.
+pub fn tables_law()
+    ensures { TablesLaw }
 {}
