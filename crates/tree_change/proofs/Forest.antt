@@ -1,14 +1,12 @@
 -- The table of the live pairs of several trees stands for each.
-use Rattle.std.proofs.Common.{◌≡◌, ℕ, ◌==◌, Bool, true, false, not, ◌&&◌, ◌||◌, List, [], ◌∷◌, ◌++◌, refl, ap, sym, subst, ◌∙◌, arith, if◌then◌else◌}
+use Rattle.std.proofs.Common.{◌≡◌, ℕ, ◌==◌, true, false, not, ◌&&◌, List, [], ◌∷◌, ◌++◌, refl, ap, sym, subst, ◌∙◌, arith, if◌then◌else◌}
 use Rattle.std.proofs.lemmas.Bool.Decides.{nat_tests}
-use Rattle.std.specs.Prelude.{nat_le, Option, Some, None, IfSome, Ok, Err, map}
+use Rattle.std.specs.Prelude.{Option, Some, None, IfSome, Ok, Err, map}
 use Rattle.std.specs.List.{AllByRecursion, flat_map}
 use Rattle.std.specs.Result.{IsOk}
-use Rattle.verdict.specs.declared.finding.Finding.{Finding}
 use Rattle.super_reader.specs.declared.Super.{Super}
 use Rattle.live_index.specs.Pairs.{Pairs}
 use Rattle.live_index.specs.declared.live.Live.{Live}
-use Rattle.node_reader.specs.Stored.{Stored}
 use Rattle.node_reader.specs.declared.expect.Expect.{Expect}
 use Rattle.records.specs.Seen.{Seen}
 use Rattle.records.specs.Seen.Seen.{BlockSeen, PointerSeen, ItemSeen}
@@ -136,10 +134,12 @@ module _ (sup : Super) where
   stand_all [] records apart is = tt
   stand_all (tree ∷ trees) records apart is =
       let split = then_ok (walk_of sup tree.0 tree.1) (walks trees) records is in
-      let fine : IsOk (walk_of sup tree.0 tree.1) = rw split.2 refl in
-      (stands_as tree (table_of (lives_of tree)) (table_of (lives_of tree ++ all_lives trees))
-      (λ address. table_first (lives_of tree) (all_lives trees) tree.1.tree address (others_all trees split.1 tree.1.tree split.3 (others_after tree trees apart.0)))
-      (stands_for sup tree.0 tree.1 fine), later trees fine apart.0 (stand_all trees split.1 apart.1 split.3))
+      let fine : IsOk (walk_of sup tree.0 tree.1) = rw split.2 refl in (
+        stands_as tree (table_of (lives_of tree)) (table_of (lives_of tree ++ all_lives trees))
+            (λ address. table_first (lives_of tree) (all_lives trees) tree.1.tree address (others_all trees split.1 tree.1.tree split.3 (others_after tree trees apart.0)))
+            (stands_for sup tree.0 tree.1 fine),
+        later trees fine apart.0 (stand_all trees split.1 apart.1 split.3),
+      )
     where
       apart_is : (m n : ℕ) → not (m == n) ≡ true → (m == n) ≡ false
       apart_is m n is = grind (arith, nat_tests)
@@ -147,9 +147,11 @@ module _ (sup : Super) where
       later : (some : List Tree) → IsOk (walk_of sup tree.0 tree.1) → AllByRecursion (λ b. is_other tree b ≡ true) some
           → AllByRecursion (λ t. Stands (table_of (all_lives trees)) sup t.0 t.1) some → AllByRecursion (λ t. Stands (table_of (lives_of tree ++ all_lives trees)) sup t.0 t.1) some
       later [] fine apart all = tt
-      later (t ∷ some) fine apart all =
-          (stands_as t (table_of (all_lives trees)) (table_of (lives_of tree ++ all_lives trees))
-          (λ address. table_later (lives_of tree) (all_lives trees) t.1.tree address (of_other tree t.1.tree fine (apart_is tree.1.tree t.1.tree apart.0))) all.0, later some fine apart.1 all.1)
+      later (t ∷ some) fine apart all = (
+        stands_as t (table_of (all_lives trees)) (table_of (lives_of tree ++ all_lives trees))
+            (λ address. table_later (lives_of tree) (all_lives trees) t.1.tree address (of_other tree t.1.tree fine (apart_is tree.1.tree t.1.tree apart.0))) all.0,
+        later some fine apart.1 all.1,
+      )
 
 pub tables_stand : TablesLaw
 tables_stand sup trees records apart is =

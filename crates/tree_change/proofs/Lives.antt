@@ -1,16 +1,12 @@
 -- The live pairs of a walk's records are those of the blocks that it comes to.
 use Rattle.std.proofs.Common.{◌≡◌, ℕ, zero, suc, ◌<◌, ◌==◌, Bool, true, false, not, ◌||◌, List, [], ◌∷◌, ◌++◌, refl, ap, sym, subst, ◌∙◌, arith, if◌then◌else◌}
 use Rattle.std.proofs.lemmas.Bool.Decides.{nat_tests}
-use Rattle.std.specs.Prelude.{nat_le, Result, Ok, Err, map}
-use Rattle.std.specs.List.{AllByRecursion}
-use Rattle.std.specs.Result.{IsOk}
-use Rattle.verdict.specs.declared.finding.Finding.{Finding}
-use Rattle.verdict.specs.declared.key.Key.{Key}
+use Rattle.std.specs.Prelude.{nat_le, Ok, Err, map}
 use Rattle.verdict.specs.declared.place.At.{At}
 use Rattle.super_reader.specs.declared.Super.{Super}
 use Rattle.super_reader.specs.Superblock.{item_place}
 use Rattle.live_index.specs.declared.live.Live.{Live}
-use Rattle.node_reader.specs.Layout.{LeafItem, first_key_of, items_of, owner_of, pointers_of}
+use Rattle.node_reader.specs.Layout.{LeafItem, items_of, pointers_of}
 use Rattle.node_reader.specs.Stored.{Stored}
 use Rattle.node_reader.specs.declared.expect.Expect.{Expect}
 use Rattle.node_reader.specs.declared.expect.Pointer.{Pointer}
@@ -21,7 +17,7 @@ use Rattle.records.specs.Walk.{Records, block_at, child_of, children_of, each, e
 use Rattle.records.specs.WalkLaw.{visited}
 use Rattle.records.specs.declared.rec.BlockAt.{BlockAt}
 use Rattle.tree_change.specs.Keeping.{live_at}
-use Rattle.tree_change.specs.LivePairs.{first_or_greatest, is_beside, last_key, live_in, live_of, records_in}
+use Rattle.tree_change.specs.LivePairs.{last_key, live_in, live_of, records_in}
 use Rattle.tree_change.specs.TableLaw.{LivesLaw}
 use Rattle.tree_change.proofs.Accepted.{Accepts, accepts, visit_of, walk_accepted}
 use Rattle.tree_change.proofs.Tables.{Any, any_each}

@@ -3,7 +3,7 @@ use Rattle.std.proofs.Common.{◌≡◌, ℕ, zero, suc, ◌<◌, ◌==◌, Bool
 use Rattle.std.proofs.lemmas.Grind.{common_steps}
 use Rattle.std.proofs.lemmas.Bool.{eqb-true}
 use Rattle.std.proofs.lemmas.Bool.Decides.{nat_tests}
-use Rattle.std.specs.Prelude.{Option, Some, None, IfSome, Result, Ok, Err, map}
+use Rattle.std.specs.Prelude.{Option, Some, None, IfSome, Ok, map}
 use Rattle.std.specs.List.{AllByRecursion}
 use Rattle.std.specs.Result.{IsOk}
 use Rattle.verdict.specs.OnDisk.{key_below, key_same}
@@ -13,7 +13,7 @@ use Rattle.live_index.specs.Pairs.{Pairs}
 use Rattle.live_index.specs.declared.live.Live.{Live}
 use Rattle.node_reader.specs.Layout.{count_of, entry_key, entry_size, level_of, pointers_of}
 use Rattle.node_reader.specs.Places.{each_from}
-use Rattle.node_reader.specs.Stored.{CopyFault, Stored}
+use Rattle.node_reader.specs.Stored.{Stored}
 use Rattle.node_reader.specs.declared.expect.Expect.{Expect}
 use Rattle.node_reader.specs.declared.expect.Pointer.{Pointer}
 use Rattle.node_reader.proofs.Sound.{fault_free_level}
@@ -28,7 +28,7 @@ use Rattle.tree_change.specs.Skips.{is_below}
 use Rattle.tree_change.proofs.Accepted.{Accepts, LowFits, accepts, keys_at, visit_of, walk_accepted}
 use Rattle.tree_change.proofs.Bounds.{and_parts, below_through}
 use Rattle.tree_change.proofs.Lasting.{low_fits}
-use Rattle.tree_change.proofs.Trails.{Trail, after, then_trail, trail_and, trail_below, trail_of, trails}
+use Rattle.tree_change.proofs.Trails.{Trail, then_trail, trail_and, trail_below, trail_of, trails}
 use Rattle.tree_change.proofs.Visiting.{Visits, comes_from, visits_after, visits_both, visits_from, visits_map, visits_then, visits_then_first, visits_then_later}
 use Rattle.tree_change.proofs.Within.{node_keys, pointer_keys, rest_of}
 
