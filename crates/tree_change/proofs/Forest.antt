@@ -68,7 +68,7 @@ module _ (sup : Super) where
   NoneOf id trees = AllByRecursion (λ tree. (tree.1.tree == id) ≡ false) trees
 
   -- all blocks of a walk are of its tree
-  of_root : (tree : Tree) → IsOk (walk_of sup tree.0 tree.1) → Comes (λ v. v.tree ≡ tree.1.tree) sup tree.0 tree.1
+  pub of_root : (tree : Tree) → IsOk (walk_of sup tree.0 tree.1) → Comes (λ v. v.tree ≡ tree.1.tree) sup tree.0 tree.1
   of_root tree fine =
       comes_from (λ v. v.tree ≡ tree.1.tree) sup tree.0 tree.1
       (of_tree (Any sup tree.0) sup tree.0 tree.1 (visits_from (Any sup tree.0) sup tree.0 tree.1 (record { fine = fine; each = any_each sup tree.0 (visited sup tree.0 tree.1) })))

@@ -6,6 +6,7 @@ pub mod Images
 pub mod Lasting
 pub mod LivePairsExample
 pub mod Lives
+pub mod Rooted
 pub mod Sharing
 pub mod Sifting
 pub mod Tables

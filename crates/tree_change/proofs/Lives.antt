@@ -132,7 +132,7 @@ append_none (x ∷ a) = ap (λ more. x ∷ more) (append_none a)
 abbrev pub ok_records : List Seen → Records
 ok_records records = Ok records
 
-ok_same : (a b : List Seen) → ok_records a ≡ ok_records b → a ≡ b
+pub ok_same : (a b : List Seen) → ok_records a ≡ ok_records b → a ≡ b
 ok_same a b is = cc
 
 module _ (sup : Super) (stored : Stored) where

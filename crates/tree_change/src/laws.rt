@@ -4,7 +4,7 @@ ghost use Rattle.tree_change.specs.ImageLaw.{ReadAlikeLaw, StoredAlikeLaw};
 ghost use Rattle.tree_change.specs.Keeping.{KeepingLaw};
 ghost use Rattle.tree_change.specs.Marking.{MarkingLaw};
 ghost use Rattle.tree_change.specs.SkipLaw.{SkippingLaw, WalkIsOwn};
-ghost use Rattle.tree_change.specs.TableLaw.{LivesLaw, TablesLaw, TreeTableLaw};
+ghost use Rattle.tree_change.specs.TableLaw.{LivesLaw, TableLaw, TablesLaw, TreeTableLaw};
 
 /// A walk is the own records of the blocks that it comes to, one after the other, or their first finding.
 pub fn walk_is_own()
@@ -58,4 +58,10 @@ pub fn tree_table_law()
 /// of these walks has a finding.
 pub fn tables_law()
     ensures { TablesLaw }
+{}
+
+/// The table of an image's live pairs stands for each of its trees, where the walks of the image have no finding: no
+/// tree comes to an address twice, and no two trees have one id. No account is needed.
+pub fn table_law()
+    ensures { TableLaw }
 {}
