@@ -1,11 +1,9 @@
 -- The table of an image's live pairs stands for each of its trees, of which no two have one id.
-use Rattle.std.proofs.Common.{◌≡◌, ℕ, ◌==◌, Bool, true, false, not, ◌||◌, List, [], ◌∷◌, ◌++◌, refl, ap, sym, subst, ◌∙◌, arith, if◌then◌else◌}
+use Rattle.std.proofs.Common.{◌≡◌, ℕ, ◌==◌, Bool, true, false, not, ◌||◌, List, [], ◌∷◌, ◌++◌, refl, ap, sym, subst, ◌∙◌, if◌then◌else◌}
 use Rattle.std.proofs.lemmas.Bool.{eqb-true}
-use Rattle.std.proofs.lemmas.Bool.Decides.{nat_tests}
 use Rattle.std.proofs.lemmas.List.Folds.{list_any-append}
 use Rattle.std.specs.Prelude.{Option, Some, None, Result, Ok, Err, map}
 use Rattle.std.specs.List.{AllByRecursion, fold, list_any}
-use Rattle.std.specs.Result.{IsOk}
 use Rattle.verdict.specs.Rules.{and_then, finding_or, first_failing, or_found}
 use Rattle.verdict.specs.declared.finding.Finding.{Finding}
 use Rattle.verdict.specs.declared.key.Key.{Key}
@@ -24,7 +22,7 @@ use Rattle.node_reader.specs.Layout.{LeafItem, items_of, pointers_of}
 use Rattle.node_reader.specs.Stored.{Stored, block_in, stored_in}
 use Rattle.node_reader.specs.declared.expect.Expect.{Expect}
 use Rattle.node_reader.specs.declared.expect.Pointer.{Pointer}
-use Rattle.records.specs.Contents.{all_records, roots_finding, chunk_map_in, chunk_records, chunk_tree_root, missing_rows, named_root, names, repeated_after, root_items_in, root_records, root_tree_root, roots_fault, superblock_in, tree_records}
+use Rattle.records.specs.Contents.{all_records, roots_finding, chunk_map_in, chunk_tree_root, missing_rows, named_root, names, repeated_after, root_items_in, root_records, root_tree_root, roots_fault, superblock_in, tree_records}
 use Rattle.records.specs.Item.{item_record, record_in, root_tree_record, unlisted}
 use Rattle.records.specs.Part.{Located, Part}
 use Rattle.records.specs.Part.Part.{LinkPart, RootPart, UnreadPart}
@@ -41,7 +39,6 @@ use Rattle.tree_change.specs.TableLaw.{AreApart, TableLaw, Tree, is_other, trees
 use Rattle.tree_change.proofs.Forest.{of_root, tables_stand, walks}
 use Rattle.tree_change.proofs.Lives.{ok_same}
 use Rattle.tree_change.proofs.Trails.{Matches, Tells, Trail, Visit, all_own, tells, trail_of}
-use Rattle.tree_change.proofs.Within.{one_own}
 
 step_ok : {A B : Type 0} (step : Result A Finding) (next : A → Result B Finding) (value : B) → and_then step next ≡ Ok value → (a : A) × (step ≡ Ok a) × (next a ≡ Ok value)
 step_ok (Err finding) next value is = absurd (cc)
@@ -235,9 +232,10 @@ roots_are sup chunks image roots is =
     let held = step_ok (held_after with_root [] (root_records sup chunks image)) (λ roots. and_then (finding_or (roots_fault roots) (tt {0})) (λ _. Ok roots)) roots is in
     let fine = step_ok (finding_or (roots_fault held.0) (tt {0})) (λ _. Ok held.0) roots held.2 in
     let none = (finding_or-ok (roots_fault held.0) (tt {0}) fine.0 fine.1).0 in
-    let same : held.0 ≡ roots = ok_of held.0 roots fine.2 in
-    (subst (λ rs. repeated_after [] rs ≡ None) same (first_none (repeated_after [] held.0) (first_failing (missing_rows held.0)) none),
-    subst (AllByRecursion HasRootId) same (by (root_records sup chunks image) refl held.0 held.1))
+    let same : held.0 ≡ roots = ok_of held.0 roots fine.2 in (
+      subst (λ rs. repeated_after [] rs ≡ None) same (first_none (repeated_after [] held.0) (first_failing (missing_rows held.0)) none),
+      subst (AllByRecursion HasRootId) same (by (root_records sup chunks image) refl held.0 held.1),
+    )
   where
     first_none : (a b : Option Finding) → or_found a b ≡ None → a ≡ None
     first_none None b is = refl
@@ -258,9 +256,10 @@ all_walks sup array chunks roots image = rw (named_walks (stored_in image chunks
 -- of the trees of an image no two have one id
 all_apart : (sup : Super) (array chunks : List Chunk) (roots : List RootItem) (image : List ℕ) → (repeated_after [] roots ≡ None) × AllByRecursion HasRootId roots → AreApart (trees_in sup array chunks roots image)
 all_apart sup array chunks roots image are =
-    let stored = stored_in image chunks sup.nodesize in
-    ((refl, named_other stored (stored_in image array sup.nodesize, chunk_tree_root sup) refl roots are.1),
-    (named_other stored (stored, root_tree_root sup) refl roots are.1, named_apart stored [] roots are.0))
+    let stored = stored_in image chunks sup.nodesize in (
+      (refl, named_other stored (stored_in image array sup.nodesize, chunk_tree_root sup) refl roots are.1),
+      (named_other stored (stored, root_tree_root sup) refl roots are.1, named_apart stored [] roots are.0),
+    )
 
 pub table_stands : TableLaw
 unfolding walked
@@ -289,9 +288,9 @@ table_stands image trees array roots is arrays items =
         → AllByRecursion (λ tree. Stands (table_of (live_in trees.seen)) trees.sup tree.0 tree.1) (trees_in trees.sup array trees.chunks roots image)
     by sup a c r seen same x y z arrays items =
         subst (λ (t : Walked). array_chunks (array_place t.sup) t.sup.array t.sup.array_size ≡ Ok array → root_items_in t.sup t.chunks image ≡ Ok roots
-            → AllByRecursion (λ tree. Stands (table_of (live_in t.seen)) t.sup tree.0 tree.1) (trees_in t.sup array t.chunks roots image)) same
+        → AllByRecursion (λ tree. Stands (table_of (live_in t.seen)) t.sup tree.0 tree.1) (trees_in t.sup array t.chunks roots image)) same
         (λ arrays items. whole sup array c roots seen items
-            (subst (λ b. all_records sup b c roots image ≡ Ok seen) (both sup a array x arrays) (subst (λ q. all_records sup a c q image ≡ Ok seen) (alike r roots y items) z)))
+        (subst (λ b. all_records sup b c roots image ≡ Ok seen) (both sup a array x arrays) (subst (λ q. all_records sup a c q image ≡ Ok seen) (alike r roots y items) z)))
         arrays items
       where
         alike : (a b : List RootItem) → root_items_in sup c image ≡ Ok a → root_items_in sup c image ≡ Ok b → a ≡ b
