@@ -1,11 +1,15 @@
 pub mod Accepted
 pub mod Bounds
 pub mod Climbing
+pub mod Forest
 pub mod Images
 pub mod Lasting
 pub mod LivePairsExample
+pub mod Lives
+pub mod Rooted
 pub mod Sharing
 pub mod Sifting
+pub mod Tables
 pub mod Skipping
 pub mod Trails
 pub mod Visiting

@@ -92,7 +92,7 @@ pub each_append : (of : Expect → Records) (first later : List Expect) → each
 each_append of [] later = sym (behind_none (each of later))
 each_append of (e ∷ first) later = rw (each_append of first later) (sym (then_then (of e) (each of first) (each of later)))
 
-all_own_append : (first later : List Visit) → all_own (first ++ later) ≡ all_own first ++ all_own later
+pub all_own_append : (first later : List Visit) → all_own (first ++ later) ≡ all_own first ++ all_own later
 all_own_append [] later = refl
 all_own_append (v ∷ first) later = rw (all_own_append first later) (append_is v.own (all_own first) (all_own later))
   where

@@ -5,6 +5,7 @@ ghost use Rattle.tree_change.specs.Keeping.{KeepingLaw};
 ghost use Rattle.tree_change.specs.Listed.{ListingLaw};
 ghost use Rattle.tree_change.specs.Marking.{MarkingLaw};
 ghost use Rattle.tree_change.specs.SkipLaw.{SkippingLaw, WalkIsOwn};
+ghost use Rattle.tree_change.specs.TableLaw.{LivesLaw, TableLaw, TablesLaw, TreeTableLaw};
 
 /// A walk is the own records of the blocks that it comes to, one after the other, or their first finding.
 pub fn walk_is_own()
@@ -42,8 +43,33 @@ pub fn stored_alike_law()
     ensures { StoredAlikeLaw }
 {}
 
+<<<<<<< HEAD
 /// The children that a table lists of the marked pairs, each below the node above it, are the marked children of the blocks
 /// of the tree that the table stands for, each with the key of the next pointer.
 pub fn listing_law()
     ensures { ListingLaw }
+=======
+/// The live pairs of the records of a walk are those of the blocks that it comes to, in their order, where it has no
+/// finding.
+pub fn lives_law()
+    ensures { LivesLaw }
+{}
+
+/// The table of the live pairs of the records of a tree's walk stands for that walk, where it has no
+/// finding: it has the pair of each block that the walk comes to, and nothing else of the tree. No address is come to twice.
+pub fn tree_table_law()
+    ensures { TreeTableLaw }
+{}
+
+/// The table of the live pairs of the records of several trees of different ids stands for the walk of each, where none
+/// of these walks has a finding.
+pub fn tables_law()
+    ensures { TablesLaw }
+{}
+
+/// The table of an image's live pairs stands for each of its trees, where the walks of the image have no finding: no
+/// tree comes to an address twice, and no two trees have one id. No account is needed.
+pub fn table_law()
+    ensures { TableLaw }
+>>>>>>> 22a8e80a23825587ca96b56997a875cf2f60ce2a
 {}
