@@ -221,7 +221,7 @@ is_less Less e = refl
 is_less Equal e = absurd (cc)
 is_less Greater e = absurd (cc)
 
-below_trans : (x y z : Span) → is_below x y ≡ true → is_below y z ≡ true → is_below x z ≡ true
+pub below_trans : (x y z : Span) → is_below x y ≡ true → is_below y z ≡ true → is_below x z ≡ true
 unfolding is_below
 below_trans x y z e f = ap is_lt (span_total.trans x y z (is_less _ e) (is_less _ f))
 
