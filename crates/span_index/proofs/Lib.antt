@@ -8,3 +8,4 @@ pub mod NextLaws
 pub mod SumLaws
 pub mod CursorLaws
 pub mod PassLaws
+pub mod ListLaws
