@@ -3,8 +3,7 @@ use Rattle.std.proofs.Common.{◌≡◌, ℕ, ◌+◌, ◌*◌, Bool, true, fals
 use Rattle.std.specs.Prelude.{Option, Some, None, IsSome, replicate}
 use Rattle.std.specs.Option.{unwrap_or}
 use Rattle.std.specs.Ordering.{is_eq}
-use Rattle.std.specs.declared.cmp.Ordering.{Ordering}
-use Rattle.std.specs.declared.cmp.Ordering.TheVariants.{Less, Equal, Greater}
+use Rattle.std.specs.declared.cmp.Ordering.TheVariants.{Less}
 use Rattle.std.specs.Cmp.{Equal-is, tied_itself}
 use Rattle.std.specs.List.{AllByRecursion, count_by}
 use Rattle.std.specs.List.Sorted.{IsStrictlySortedBy}
@@ -68,10 +67,10 @@ counted s (e ∷ es) sorted own =
           (counted s es (sorted_tail place_cmp e.0 (keys_of es) sorted) own.1 ∙ ap (λ o. unwrap_or o 0) none)
       | false ↦ λ apart.
           elsewhere (is_same s e.0.span) e.1 (count_by (is_same s) (spans_in es)) (false_if _ (λ same.
-              let is : s ≡ e.0.span = same_is s e.0.span same in
-              let at : is_at (place_cmp (place_of s)) e.0 ≡ true =
-              ap (λ x. is_at (place_cmp (place_of x)) e.0) is ∙ ap (λ q. is_at (place_cmp q) e.0) (sym own.0) ∙ ap is_eq (tied_itself place_total e.0) in
-              let no : true ≡ false = sym at ∙ apart in cc))
+          let is : s ≡ e.0.span = same_is s e.0.span same in
+          let at : is_at (place_cmp (place_of s)) e.0 ≡ true =
+          ap (λ x. is_at (place_cmp (place_of x)) e.0) is ∙ ap (λ q. is_at (place_cmp q) e.0) (sym own.0) ∙ ap is_eq (tied_itself place_total e.0) in
+          let no : true ≡ false = sym at ∙ apart in cc))
           ∙ counted s es (sorted_tail place_cmp e.0 (keys_of es) sorted) own.1
     ] refl)
 

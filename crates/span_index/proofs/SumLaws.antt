@@ -5,7 +5,7 @@ use Rattle.std.specs.Ordering.{is_eq}
 use Rattle.std.specs.Cmp.{tied_itself}
 use Rattle.std.proofs.lemmas.List.Sums.{sum_by-cons}
 use Rattle.span_index.specs.declared.span.Span.{Span}
-use Rattle.span_index.specs.Order.{is_same, span_cmp}
+use Rattle.span_index.specs.Order.{is_same}
 use Rattle.span_index.specs.OrderLaws.{span_total}
 use Rattle.span_index.specs.Sectors.{times_of_span}
 use Rattle.span_index.specs.Spans.{Table}

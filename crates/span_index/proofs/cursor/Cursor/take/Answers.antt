@@ -1,8 +1,7 @@
-use Rattle.std.proofs.Common.{◌≡◌, ℕ, ◌+◌, ◌*◌, ◌%◌, ◌∙◌, ◌&&◌, min, ap, sym}
+use Rattle.std.proofs.Common.{◌+◌, ◌*◌, ◌%◌, ◌∙◌, ◌&&◌, min, ap, sym}
 use Rattle.std.specs.Prelude.{◌==◌, nat_lt}
-use Rattle.span_index.specs.Open.{main_field, open_at}
-use Rattle.span_index.specs.Sectors.{adds, adds_to, counts}
-use Rattle.span_index.specs.Spans.{end_of}
+use Rattle.span_index.specs.Open.{open_at}
+use Rattle.span_index.specs.Sectors.{adds_to, counts}
 use Rattle.span_index.proofs.CursorLaws.{adds_is, bit, main_adds}
 use Rattle.span_index.proofs.cursor.Cursor.take.Goals as goal
 
