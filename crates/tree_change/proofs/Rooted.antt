@@ -44,9 +44,9 @@ step_ok : {A B : Type 0} (step : Result A Finding) (next : A → Result B Findin
 step_ok (Err finding) next value is = absurd (cc)
 step_ok (Ok a) next value is = (a, refl, is)
 
--- a root item has an id that one may have
+-- a root item has an id that one may have, with some set of features
 abbrev pub HasRootId : RootItem → Type 0
-HasRootId root = is_root_id root.key.objectid ≡ true
+HasRootId root = (features : ℕ) × (is_root_id features root.key.objectid ≡ true)
 
 abbrev pub FitsPart : Part → Type 0
 FitsPart (RootPart root) = HasRootId root
@@ -64,8 +64,8 @@ root_fits at key bytes part is = by (key.kind == ROOT_ITEM) (key.kind == ROOT_RE
     passes true is = refl
     passes false is = absurd (cc)
 
-    kept : first_failing (root_rows at key bytes) ≡ None → is_root_id key.objectid ≡ true
-    kept none = passes (is_root_id key.objectid) (kept_at 1 (root_rows at key bytes) none)
+    kept : first_failing (root_rows at key bytes) ≡ None → (features : ℕ) × (is_root_id features key.objectid ≡ true)
+    kept none = (at.compat_ro, passes (is_root_id at.compat_ro key.objectid) (kept_at 1 (root_rows at key bytes) none))
 
     link : (row : Result RootLinkFields Finding) → and_then row (λ fields. Ok (LinkPart fields)) ≡ Ok part → FitsPart part
     link (Err finding) is = absurd (cc)
@@ -158,11 +158,16 @@ fold_fits (PointerSeen one ∷ records) held all has = fold_fits records held al
 fold_fits (ItemSeen one ∷ records) held all has = fold_fits records (with_root held (ItemSeen one)) all.1 (part_fits held one one.part all.0 has)
 
 -- an id that no root item has is that of none
-other_id : (n id : ℕ) → is_root_id n ≡ false → is_root_id id ≡ true → not (n == id) ≡ true
+other_id : (n id : ℕ) → ((features : ℕ) → is_root_id features n ≡ false) → ((features : ℕ) × (is_root_id features id ≡ true)) → not (n == id) ≡ true
 other_id n id none is = by (n == id) refl
   where
     by : (b : Bool) → (n == id) ≡ b → not b ≡ true
-    by true same = let h : n ≡ id = eqb-true n id same in let k : is_root_id n ≡ is_root_id id = ap is_root_id h in absurd (cc)
+    by true same =
+        let h : n ≡ id = eqb-true n id same in
+        let k : is_root_id is.0 n ≡ is_root_id is.0 id = ap (is_root_id is.0) h in
+        let never : is_root_id is.0 n ≡ false = none is.0 in
+        let ever : is_root_id is.0 id ≡ true = is.1 in
+        absurd (cc)
     by false same = refl
 
 or_false : (a b : Bool) → (a || b) ≡ false → (a ≡ false) × (b ≡ false)
@@ -213,7 +218,7 @@ module _ (stored : Stored) where
       each_apart (q ∷ some) all =
           (lift (r.key.objectid == q.key.objectid) (or_false (list_any (names q.key.objectid) before) (list_any (names q.key.objectid) (r ∷ [])) (sym (list_any-append (names q.key.objectid) before (r ∷ [])) ∙ all.0)).1, each_apart some all.1)
 
-  named_other : (tree : Tree) → is_root_id tree.1.tree ≡ false → (roots : List RootItem) → AllByRecursion HasRootId roots → AllByRecursion (λ b. is_other tree b ≡ true) (named roots)
+  named_other : (tree : Tree) → ((features : ℕ) → is_root_id features tree.1.tree ≡ false) → (roots : List RootItem) → AllByRecursion HasRootId roots → AllByRecursion (λ b. is_other tree b ≡ true) (named roots)
   named_other tree none [] all = tt
   named_other tree none (r ∷ roots) all = (other_id tree.1.tree r.key.objectid none all.0, named_other tree none roots all.1)
 
@@ -229,11 +234,11 @@ ok_of a b is = cc
 roots_are : (sup : Super) (chunks : List Chunk) (image : List ℕ) (roots : List RootItem) → root_items_in sup chunks image ≡ Ok roots → (repeated_after [] roots ≡ None) × AllByRecursion HasRootId roots
 unfolding root_items_in roots_fault walk_in
 roots_are sup chunks image roots is =
-    let held = step_ok (held_after with_root [] (root_records sup chunks image)) (λ roots. and_then (finding_or (roots_fault roots) (tt {0})) (λ _. Ok roots)) roots is in
-    let fine = step_ok (finding_or (roots_fault held.0) (tt {0})) (λ _. Ok held.0) roots held.2 in
-    let none = (finding_or-ok (roots_fault held.0) (tt {0}) fine.0 fine.1).0 in
+    let held = step_ok (held_after with_root [] (root_records sup chunks image)) (λ roots. and_then (finding_or (roots_fault sup.compat_ro roots) (tt {0})) (λ _. Ok roots)) roots is in
+    let fine = step_ok (finding_or (roots_fault sup.compat_ro held.0) (tt {0})) (λ _. Ok held.0) roots held.2 in
+    let none = (finding_or-ok (roots_fault sup.compat_ro held.0) (tt {0}) fine.0 fine.1).0 in
     let same : held.0 ≡ roots = ok_of held.0 roots fine.2 in (
-      subst (λ rs. repeated_after [] rs ≡ None) same (first_none (repeated_after [] held.0) (first_failing (missing_rows held.0)) none),
+      subst (λ rs. repeated_after [] rs ≡ None) same (first_none (repeated_after [] held.0) (first_failing (missing_rows sup.compat_ro held.0)) none),
       subst (AllByRecursion HasRootId) same (by (root_records sup chunks image) refl held.0 held.1),
     )
   where
@@ -257,8 +262,8 @@ all_walks sup array chunks roots image = rw (named_walks (stored_in image chunks
 all_apart : (sup : Super) (array chunks : List Chunk) (roots : List RootItem) (image : List ℕ) → (repeated_after [] roots ≡ None) × AllByRecursion HasRootId roots → AreApart (trees_in sup array chunks roots image)
 all_apart sup array chunks roots image are =
     let stored = stored_in image chunks sup.nodesize in (
-      (refl, named_other stored (stored_in image array sup.nodesize, chunk_tree_root sup) refl roots are.1),
-      (named_other stored (stored, root_tree_root sup) refl roots are.1, named_apart stored [] roots are.0),
+      (refl, named_other stored (stored_in image array sup.nodesize, chunk_tree_root sup) (λ features. refl) roots are.1),
+      (named_other stored (stored, root_tree_root sup) (λ features. refl) roots are.1, named_apart stored [] roots are.0),
     )
 
 pub table_stands : TableLaw

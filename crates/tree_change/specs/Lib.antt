@@ -9,9 +9,6 @@ pub mod KeepingWalk
 pub mod Under
 pub mod Known
 pub mod ImageLaw
-<<<<<<< HEAD
 pub mod Listed
 pub mod Listing
-=======
 pub mod TableLaw
->>>>>>> 22a8e80a23825587ca96b56997a875cf2f60ce2a

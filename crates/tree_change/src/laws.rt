@@ -43,12 +43,12 @@ pub fn stored_alike_law()
     ensures { StoredAlikeLaw }
 {}
 
-<<<<<<< HEAD
 /// The children that a table lists of the marked pairs, each below the node above it, are the marked children of the blocks
 /// of the tree that the table stands for, each with the key of the next pointer.
 pub fn listing_law()
     ensures { ListingLaw }
-=======
+{}
+
 /// The live pairs of the records of a walk are those of the blocks that it comes to, in their order, where it has no
 /// finding.
 pub fn lives_law()
@@ -71,5 +71,4 @@ pub fn tables_law()
 /// tree comes to an address twice, and no two trees have one id. No account is needed.
 pub fn table_law()
     ensures { TableLaw }
->>>>>>> 22a8e80a23825587ca96b56997a875cf2f60ce2a
 {}
