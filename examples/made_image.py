@@ -305,6 +305,18 @@ class Image:
             self.put_leaf(address, tree, items[tree], 2)
         self.superblock = superblock(2, NEXT_BLOCKS[1])
 
+    def group_tree(self, address=5324800):
+        """Moves the block groups to a tree of their own, 11, whose leaf is a block that was free: they leave the extent tree, the
+        root tree names theirs, the superblock has the feature, and the sums have one block more."""
+        groups = [group(start, length, kind, used) for (start, length, kind, _), used in zip(CHUNKS, (16384, 98304, 0))]
+        for key, _ in groups:
+            self.drop(2, key)
+        self.put_leaf(address, 11, dict(groups))
+        self.put(1, root(11, address))
+        self.put(2, block(address, 11))
+        self.write(SUPERBLOCK + 0xB4, number(8))
+        self.write(SUPERBLOCK + 0x78, number(114688))
+
     def new_file(self):
         """A commit of generation 2 that makes the empty file `hello`."""
         self.copy_on_write()

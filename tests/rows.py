@@ -76,13 +76,11 @@ def changed(image, changes):
 
 
 BASE = made.Image()
-# The block groups in a tree of their own, whose leaf is a block that was free: they leave the extent tree, the root tree
-# names theirs, the superblock has the feature, and the sums have one block more.
+# The block groups in a tree of their own.
 GROUP_TREE = write(SUPERBLOCK + 0xb4, made.number(8))
 NO_GROUP_TREE = write(SUPERBLOCK + 0xb4, made.number(0))
 GROUPS = [made.group(start, length, kind, total) for (start, length, kind, _), total in zip(made.CHUNKS, (16384, 98304, 0))]
-OWN_GROUPS = [GROUP_TREE, *(drop(2, *key) for key, _ in GROUPS), leaf(LEFT, 11, *GROUPS), put(1, made.root(11, LEFT)),
-              put(2, made.block(LEFT, 11)), used(114688)]
+OWN_GROUPS = [made.Image.group_tree]
 ENTRY = made.entry(257, 1, b'hello')
 # The names of a file `hello`, 257, in the top directory.
 HELLO = [put(5, made.top(10)), put(5, made.hashed(256, ENTRY)), put(5, made.indexed(256, 2, ENTRY)),
