@@ -119,8 +119,10 @@ def groups_apart(image):
     used(114688)(image)
 
 
-# Commits over another image than the base image: the image before, and the one that the commit makes.
+# Commits over another image than the base image: the image before, and the one that the commit makes. The leaf of a tree that
+# went away stays where it was, as a free block.
 APART = changed(BASE, OWN_GROUPS)
+BACK = changed(BASE, [lambda image: image.blocks.update({LEFT: APART.blocks[LEFT]})])
 MOVES = [
     ('block groups to a tree of their own', BASE, changed(BASE, [groups_apart]), PASSES),
     ('without the feature', BASE, changed(BASE, [groups_apart, NO_GROUP_TREE]), 'rejected U7 tree 1 block 5357568 key 11 132 0 detail 11'),
@@ -128,7 +130,7 @@ MOVES = [
      APART, changed(BASE, [GROUP_TREE]), 'rejected X2 tree 1 block 0 key 11 132 0 detail 0'),
     ('back, with the feature and with their tree', APART, changed(APART, [leaf(LEFT, 11), *(put(2, item) for item in GROUPS)]),
      'rejected U9 tree 2 block 5259264 key 1048576 192 4194304 detail 192'),
-    ('back, without both', APART, BASE, 'passed generation 1 '),
+    ('back, without both', APART, BACK, 'passed generation 1 '),
 ]
 
 
