@@ -5,7 +5,3 @@ pub mod TableLaws
 pub mod FileLaws
 pub mod MeetingLaws
 pub mod NextLaws
-pub mod SumLaws
-pub mod CursorLaws
-pub mod PassLaws
-pub mod ListLaws

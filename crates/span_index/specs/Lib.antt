@@ -4,4 +4,3 @@ pub mod Spans
 pub mod Sectors
 pub mod Places
 pub mod Table
-pub mod Open

@@ -2,13 +2,10 @@
 //! show. Each look into it is counted.
 #![tactic(auto)]
 
-mod cursor;
-mod ends;
 mod files;
 mod index;
 mod kept;
 mod meeting;
-mod open;
 mod places;
 mod span;
 #[cfg(test)]

@@ -34,13 +34,13 @@ pub(crate) fn place_of(span: &Span) -> Place
     }
 }
 
-// The class of a length in sectors: how many binary digits it has. No sectors are a class of their own, 0.
+// The class of a length in sectors. Below two sectors it is 0.
 fn class_of(sectors: u64) -> u8
     ensures { result ≡ class_of sectors }
 {
     if sectors == 0 {
         0
     } else {
-        sectors.ilog2() as u8 + 1
+        sectors.ilog2() as u8
     }
 }
