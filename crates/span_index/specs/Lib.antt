@@ -4,3 +4,4 @@ pub mod Spans
 pub mod Sectors
 pub mod Places
 pub mod Table
+pub mod Reach

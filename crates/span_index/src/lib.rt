@@ -7,6 +7,7 @@ mod index;
 mod kept;
 mod meeting;
 mod places;
+mod reach;
 mod span;
 #[cfg(test)]
 mod tests;
