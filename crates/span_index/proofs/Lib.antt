@@ -5,3 +5,5 @@ pub mod TableLaws
 pub mod FileLaws
 pub mod MeetingLaws
 pub mod NextLaws
+pub mod StepLaws
+pub mod SumLaws

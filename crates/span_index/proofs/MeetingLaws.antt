@@ -211,6 +211,7 @@ module _ (m : map.BTreeMap Place ℕ) (start : Bound Place) (sort : SortName) (c
               let high : is_gt (span_cmp e.0.span s) ≡ false =
               ap is_gt (sym (same_class e.0 (place_of s) (at_sort ∙ sym (sort_of s asked)) (at_class ∙ sym cl))) ∙ not_gt s v cl asked there in
               opposed _ (turned (span_cmp s e.0.span) (span_cmp e.0.span s) (span_total.antisymm e.0.span s) below) high),
+          eq-eqb (class_of e.0.span.sectors) class (sym (ap (λ p. p.class) (there_own m e.0 e.1 own stands)) ∙ at_class),
         )
 
 -- ---- the least of all classes
@@ -220,7 +221,7 @@ is_less Less e = refl
 is_less Equal e = absurd (cc)
 is_less Greater e = absurd (cc)
 
-below_trans : (x y z : Span) → is_below x y ≡ true → is_below y z ≡ true → is_below x z ≡ true
+pub below_trans : (x y z : Span) → is_below x y ≡ true → is_below y z ≡ true → is_below x z ≡ true
 unfolding is_below
 below_trans x y z e f = ap is_lt (span_total.trans x y z (is_less _ e) (is_less _ f))
 
@@ -253,6 +254,19 @@ one_class f c k {P} h low here =
       | false ↦ λ e. here (grind (arith, nat_tests))
     ] refl
 
+more_in : (f k n c : ℕ) → k ≤ n → in_classes f k c ≡ true → in_classes f n c ≡ true
+more_in f k n c more h =
+    let upto : nat_lt c k ≡ true = and_right (nat_le f c) _ h in
+    let under : nat_lt c n ≡ true = grind (arith, nat_tests) in
+    and_both _ _ (and_left _ _ h) under
+
+at_in : (f k c : ℕ) → f ≤ k → (c == k) ≡ true → in_classes f (k + 1) c ≡ true
+at_in f k c low h =
+    let is : c ≡ k = eqb-true c k h in
+    let over : nat_le f c ≡ true = grind (arith, nat_tests) in
+    let under : nat_lt c (k + 1) ≡ true = grind (arith, nat_tests) in
+    and_both _ _ over under
+
 high_in : (f n c : ℕ) → in_classes f n c ≡ true → c < n
 high_in f n c h = let upto : nat_lt c n ≡ true = and_right (nat_le f c) _ h in grind (arith, nat_tests)
 
@@ -272,29 +286,30 @@ module _ (f : ℕ) (t : Table) (sort : SortName) (address : ℕ) (after : Option
       omega arith)
 
   -- where no span stands of the classes between
-  pub skipped : (k n : ℕ) (a : Option (Span × ℕ)) → Below k a → ((s : Span) → is_sort sort s.sort ≡ true → k ≤ class_of s.sectors → class_of s.sectors < n → t s ≡ 0) → Below n a
+  pub skipped : (k n : ℕ) → k ≤ n → (a : Option (Span × ℕ)) → Below k a → ((s : Span) → is_sort sort s.sort ≡ true → k ≤ class_of s.sectors → class_of s.sectors < n → t s ≡ 0) → Below n a
   unfolding is_met
-  skipped k n None below none = λ s in_class met. lower_or f (class_of s.sectors) k (and_left _ _ in_class) (λ e. below s e met) (λ e. none s (and_left _ _ met) e (high_in f n (class_of s.sectors) in_class))
-  skipped k n (Some a) below none = (
+  skipped k n up None below none = λ s in_class met. lower_or f (class_of s.sectors) k (and_left _ _ in_class) (λ e. below s e met) (λ e. none s (and_left _ _ met) e (high_in f n (class_of s.sectors) in_class))
+  skipped k n up (Some a) below none = (
     below.0,
     below.1,
     λ s in_class met lower.
         lower_or f (class_of s.sectors) k (and_left _ _ in_class) (λ e. below.2 s e met lower) (λ e. none s (and_left _ _ met) e (high_in f n (class_of s.sectors) in_class)),
+      more_in f k n (class_of a.0.sectors) up below.3,
   )
 
   pub all_skipped : (k : ℕ) (a : Option (Span × ℕ)) → Below k a → ((s : Span) → is_sort sort s.sort ≡ true → k ≤ class_of s.sectors → t s ≡ 0) → IsMetWhere (nat_le f) t sort address after (option_map (λ p. p.0) a)
   unfolding is_met
   all_skipped k None below none = λ s in_class met. lower_or f (class_of s.sectors) k in_class (λ e. below s e met) (λ e. none s (and_left _ _ met) e)
-  all_skipped k (Some a) below none = (below.0, below.1, λ s in_class met lower. lower_or f (class_of s.sectors) k in_class (λ e. below.2 s e met lower) (λ e. none s (and_left _ _ met) e))
+  all_skipped k (Some a) below none = (below.0, below.1, λ s in_class met lower. lower_or f (class_of s.sectors) k in_class (λ e. below.2 s e met lower) (λ e. none s (and_left _ _ met) e), and_left _ _ below.3)
 
-  pub one_more : (k : ℕ) (a b : Option (Span × ℕ)) → Below k a → At k b → Below (k + 1) (lesser a b)
-  one_more k None None below here = λ s in_class met. one_class f (class_of s.sectors) k in_class (λ e. below s e met) (λ e. here s e met)
-  one_more k (Some a) None below here = (below.0, below.1, λ s in_class met lower. one_class f (class_of s.sectors) k in_class (λ e. below.2 s e met lower) (λ e. here s e met))
-  one_more k None (Some b) below here = (here.0, here.1, λ s in_class met lower. one_class f (class_of s.sectors) k in_class (λ e. below s e met) (λ e. here.2 s e met lower))
-  one_more k (Some a) (Some b) below here =
+  pub one_more : (k : ℕ) → f ≤ k → (a b : Option (Span × ℕ)) → Below k a → At k b → Below (k + 1) (lesser a b)
+  one_more k up None None below here = λ s in_class met. one_class f (class_of s.sectors) k in_class (λ e. below s e met) (λ e. here s e met)
+  one_more k up (Some a) None below here = (below.0, below.1, λ s in_class met lower. one_class f (class_of s.sectors) k in_class (λ e. below.2 s e met lower) (λ e. here s e met), more_in f k (k + 1) (class_of a.0.sectors) (omega arith) below.3)
+  one_more k up None (Some b) below here = (here.0, here.1, λ s in_class met lower. one_class f (class_of s.sectors) k in_class (λ e. below s e met) (λ e. here.2 s e met lower), at_in f k (class_of b.0.sectors) up here.3)
+  one_more k up (Some a) (Some b) below here =
       elim (is_below b.0 a.0) as (λ c. is_below b.0 a.0 ≡ c → Below (k + 1) (cond c (Some b) (Some a))) [
-        | true ↦ λ less. (here.0, here.1, λ s in_class met lower. one_class f (class_of s.sectors) k in_class (λ e. below.2 s e met (below_trans s b.0 a.0 lower less)) (λ e. here.2 s e met lower))
-        | false ↦ λ less. (below.0, below.1, λ s in_class met lower. one_class f (class_of s.sectors) k in_class (λ e. below.2 s e met lower) (λ e. here.2 s e met (below_upto s a.0 b.0 lower less)))
+        | true ↦ λ less. (here.0, here.1, λ s in_class met lower. one_class f (class_of s.sectors) k in_class (λ e. below.2 s e met (below_trans s b.0 a.0 lower less)) (λ e. here.2 s e met lower), at_in f k (class_of b.0.sectors) up here.3)
+        | false ↦ λ less. (below.0, below.1, λ s in_class met lower. one_class f (class_of s.sectors) k in_class (λ e. below.2 s e met lower) (λ e. here.2 s e met (below_upto s a.0 b.0 lower less)), more_in f k (k + 1) (class_of a.0.sectors) (omega arith) below.3)
       ] refl
 
   pub lesser_times : (a b : Option (Span × ℕ)) → IfSome a (λ p. p.1 ≡ t p.0) → IfSome b (λ p. p.1 ≡ t p.0) → IfSome (lesser a b) (λ p. p.1 ≡ t p.0)

@@ -5,3 +5,4 @@ pub mod Sectors
 pub mod Places
 pub mod Table
 pub mod Reach
+pub mod Sweep

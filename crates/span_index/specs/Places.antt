@@ -70,6 +70,7 @@ IsMetWhere in_class table sort address after (Some least) =
     (0 < table least)
     × (is_met sort address after least ≡ true)
     × ((span : Span) → in_class (class_of span.sectors) ≡ true → is_met sort address after span ≡ true → is_below span least ≡ true → table span ≡ 0)
+    × (in_class (class_of least.sectors) ≡ true)
 
 -- the first class from one on of which spans of a sort stand, or none
 abbrev pub IsClassFrom : Table → SortName → ℕ → Option ℕ → Type 0

@@ -2,6 +2,7 @@
 //! show. Each look into it is counted.
 #![tactic(auto)]
 
+mod cursor;
 mod files;
 mod index;
 mod kept;
