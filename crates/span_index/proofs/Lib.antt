@@ -7,3 +7,5 @@ pub mod MeetingLaws
 pub mod NextLaws
 pub mod StepLaws
 pub mod SumLaws
+pub mod ListLaws
+pub mod WalkLaws

@@ -143,7 +143,7 @@ absent_at m s (Some v) is h = absurd (h v is)
 absent : (m : map.BTreeMap Place ℕ) (s : Span) → ((v : ℕ) → map.get place_cmp m (place_of s) ≡ Some v → ⊥) → times_in m s ≡ 0
 absent m s h = absent_at m s (map.get place_cmp m (place_of s)) refl h
 
-there_own : (m : map.BTreeMap Place ℕ) (p : Place) (v : ℕ) → AreOwn m → map.get place_cmp m p ≡ Some v → p ≡ place_of p.span
+pub there_own : (m : map.BTreeMap Place ℕ) (p : Place) (v : ℕ) → AreOwn m → map.get place_cmp m p ≡ Some v → p ≡ place_of p.span
 there_own m p v own there =
     let had : IsSome (map.get place_cmp m p) = subst IsSome (sym there) refl in
     let s : p.sort ≡ name_of p.span.sort = own.sort p had in

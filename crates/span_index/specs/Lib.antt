@@ -6,3 +6,4 @@ pub mod Places
 pub mod Table
 pub mod Reach
 pub mod Sweep
+pub mod Walks

@@ -1,8 +1,10 @@
 -- A walk over the spans of a sort, from address to address. It serves to state what private functions keep.
-use Rattle.std.specs.Prelude.{◌≡◌, ℕ, ◌*◌, ◌<◌, Bool, true, false, ◌&&◌, nat_lt, List, Option, Some, None, if◌then◌else◌}
+use Rattle.std.specs.Prelude.{◌≡◌, ℕ, ◌*◌, ◌<◌, Bool, true, false, ◌&&◌, nat_lt, List, [], ◌∷◌, ◌++◌, replicate, Option, Some, None, if◌then◌else◌}
 use Rattle.std.specs.List.{sum_by}
 use Rattle.span_index.specs.declared.cursor.Head.{Head}
 use Rattle.span_index.specs.declared.cursor.Head.TheVariants.{Start, At, End}
+use Rattle.span_index.specs.declared.kept.SpanIndex.{SpanIndex}
+use Rattle.span_index.specs.declared.places.Place.{Place}
 use Rattle.span_index.specs.declared.span.Span.{Span}
 use Rattle.span_index.specs.declared.span.SortName.{SortName}
 use Rattle.span_index.specs.Order.{is_below, is_same}
@@ -58,3 +60,12 @@ abbrev pub at_sum : (Span → ℕ) → Head → ℕ
 at_sum value Start = 0
 at_sum value (At span times) = times * value span
 at_sum value End = 0
+
+-- the spans of some entries, each as often as it stands
+unfoldable pub spans_in : List (Place × ℕ) → List Span
+spans_in [] = []
+spans_in (entry ∷ entries) = replicate entry.1 entry.0.span ++ spans_in entries
+
+-- the spans of an index
+abbrev pub spans_of : {L : Type 0} → SpanIndex L → List Span
+spans_of index = spans_in index.spans.entries
