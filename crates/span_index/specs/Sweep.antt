@@ -16,6 +16,12 @@ IsOpen Start = Unit {0}
 IsOpen (At span times) = Unit {0}
 IsOpen End = ⊥
 
+-- whether a walk is not before all spans
+abbrev pub IsBegun : Head → Type 0
+IsBegun Start = ⊥
+IsBegun (At span times) = Unit {0}
+IsBegun End = Unit {0}
+
 -- whether a walk has passed a span of its sort: it stands at one above it
 abbrev pub is_passed : Head → Span → Bool
 is_passed Start span = false

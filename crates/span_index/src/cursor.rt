@@ -1,13 +1,16 @@
 //! A walk over the spans of one sort, in their order.
 
-ghost use Rattle.std.specs.Prelude.{◌≡◌, ℕ, ◌+◌, ◌*◌, ◌%◌, ◌≤◌, true, ◌&&◌, ◌==◌, min, if◌then◌else◌};
+ghost use Rattle.std.specs.Prelude.{◌≡◌, ℕ, ◌+◌, ◌*◌, ◌%◌, ◌<◌, ◌≤◌, nat_le, None, true, ◌&&◌, ◌==◌, min, if◌then◌else◌};
+ghost use Rattle.accounts.specs.Context.{Context};
 ghost use Rattle.recon_disk.specs.Outside.{counted};
+ghost use Rattle.std.specs.BTreeMap.{IsOrdered};
+ghost use Rattle.span_index.specs.Places.{place_cmp};
 ghost use Rattle.span_index.specs.Reach.{reaching};
 ghost use Rattle.span_index.specs.Sectors.{adds, counts};
 ghost use Rattle.span_index.specs.Spans.{end_of, is_sort};
-ghost use Rattle.span_index.specs.Sweep.{IsHead, IsOpen, IsStep, above_of};
+ghost use Rattle.span_index.specs.Sweep.{IsBegun, IsHead, IsOpen, IsStep, above_of, spans_of};
 ghost use Rattle.span_index.specs.Table.{times_of};
-ghost use Rattle.span_index.specs.Walks.{is_data, is_field, reach_in};
+ghost use Rattle.span_index.specs.Walks.{IsBeginning, IsBeyond, IsPassing, IsWalked, due, is_data, is_field, is_settled, reach_in};
 
 use crate::kept::SpanIndex;
 use crate::reach::Reach;
@@ -36,12 +39,34 @@ impl Head {
             _ => None,
         }
     }
+
+    // Whether a walk needs no look to go on from an address.
+    fn is_settled(self, address: u64) -> bool
+        ensures { result ≡ is_settled address self }
+    {
+        match self {
+            Head::Start => false,
+            Head::At(span, _) => end_of(&span) > u128::from(address),
+            Head::End => true,
+        }
+    }
+
+    // The span that a walk stands at, with how often it stands, where it begins at an address or before it.
+    fn due(self, address: u64) -> Option<(Span, u64)>
+        ensures { result ≡ due address self }
+    {
+        match self {
+            Head::At(span, times) if span.first <= address => Some((span, times)),
+            _ => None,
+        }
+    }
 }
 
 impl<L> SpanIndex<L> {
     // The next of a walk over the spans of a sort that have a sector and end after an address.
     pub(crate) fn step(&self, head: Head, sort: SortName, address: u64, steps: &mut Steps<L>) -> Head
         requires { IsOpen head }
+        ensures begun { IsBegun result }
         ensures head { IsHead (times_of self.now) sort address result }
         ensures step { IsStep (times_of self.now) sort address head result }
         ensures looks { steps.new ≡ counted steps.old }
@@ -87,6 +112,82 @@ impl Walk {
             all: self.all.with(end, all),
             of_data: self.of_data.with(end, of_data),
             ..self
+        }
+    }
+}
+
+impl Walk {
+    // Goes on from an address: to the first span that ends after it, of those not passed yet.
+    pub(crate) fn begin<L>(
+        self,
+        index: &SpanIndex<L>,
+        address: u64,
+        steps: &mut Steps<L>,
+    ) -> Walk
+        requires { IsOrdered place_cmp index.now.spans }
+        ensures { (context : Context) (low from : ℕ) → from ≤ address →
+            IsWalked context (times_of index.now) (spans_of index.now) low from self →
+            IsBeginning context (times_of index.now) (spans_of index.now) address self result
+                steps.old steps.new }
+    {
+        if self.head.is_settled(address) {
+            self
+        } else {
+            Walk {
+                head: index.step(self.head, self.sort, address, steps),
+                ..self
+            }
+        }
+    }
+
+    // Passes all spans that begin at an address or before it.
+    pub(crate) fn pass<L, C: Ctx>(
+        self,
+        ctx: &C,
+        index: &SpanIndex<L>,
+        address: u64,
+        steps: &mut Steps<L>,
+    ) -> Walk
+        ghost low: { ℕ }
+        requires ordered { IsOrdered place_cmp index.now.spans }
+        requires low { low ≤ address }
+        requires begun { IsBegun self.head }
+        requires walked { IsWalked (C.context ctx.now) (times_of index.now) (spans_of index.now)
+            low address self }
+        ensures passing { IsPassing (C.context ctx.now) (times_of index.now) (spans_of index.now)
+            low address self result steps.old steps.new }
+        ensures beyond { due address result.head ≡ None }
+    {
+        let mut walk = self;
+        while let Some((span, times)) = walk.head.due(address) {
+            let head = index.step(walk.head, walk.sort, address, steps);
+            walk = Walk {
+                head,
+                ..walk.reaching(ctx, &span, times)
+            };
+        }
+        walk
+    }
+}
+
+impl Walk {
+    // The lesser of an address and where a sum can change next, behind another address.
+    pub(crate) fn bound(&self, address: u64, most: u128) -> u128
+        requires most { address < most }
+        requires beyond { due address self.now.head ≡ None }
+        ensures after { address < result }
+        ensures most { result ≤ most }
+        ensures head { IsBeyond result self.now.head }
+        ensures all { (later : ℕ) → address ≤ later → later < result →
+            reaching self.now.all later ≡ reaching self.now.all address }
+        ensures of_data { (later : ℕ) → address ≤ later → later < result →
+            reaching self.now.of_data later ≡ reaching self.now.of_data address }
+    {
+        let most = self.all.bound(address, most);
+        let most = self.of_data.bound(address, most);
+        match self.head {
+            Head::At(span, _) if u128::from(span.first) < most => u128::from(span.first),
+            _ => most,
         }
     }
 }
