@@ -9,3 +9,4 @@ pub mod StepLaws
 pub mod SumLaws
 pub mod ListLaws
 pub mod WalkLaws
+pub mod SectorLaws

@@ -2,7 +2,6 @@
 use Rattle.std.proofs.Common.{◌≡◌, ℕ, ◌+◌, ◌*◌, Bool, true, false, cond, List, [], ◌∷◌, ◌++◌, refl, sym, ap, ◌∙◌, subst, arith}
 use Rattle.std.specs.Prelude.{Option, Some, None, replicate}
 use Rattle.std.specs.Option.{unwrap_or}
-use Rattle.std.specs.List.{sum_by}
 use Rattle.std.specs.List.Sorted.{IsStrictlySortedBy}
 use Rattle.std.specs.Map.{keys_of, lookup}
 use Rattle.std.specs.Ordering.{is_eq}
@@ -21,7 +20,7 @@ use Rattle.span_index.specs.Sectors.{times_of_span}
 use Rattle.span_index.specs.Sweep.{spans_in}
 use Rattle.span_index.proofs.MeetingLaws.{there_own}
 use Rattle.span_index.proofs.OrderLaws.{place_total}
-use Rattle.span_index.proofs.TableLaws.{same_is, same_itself, tied_place}
+use Rattle.span_index.proofs.TableLaws.{same_is, tied_place}
 use Rattle.std.specs.Cmp.{tied_itself}
 
 abbrev Entry : Type 0
@@ -68,8 +67,8 @@ all_times (e ∷ es) s sorted own =
     ∙ chosen (is_same s e.0.span) e.1 (times_of_span (spans_in es) s) (lookup (is_at (place_cmp (place_of s))) es)
     (all_times es s (sorted_tail place_cmp e.0 (keys_of es) sorted) (own_tail e es own))
     (λ same.
-        let k : e.0 ≡ place_of s = head ∙ ap place_of (sym (same_is s e.0.span same)) in
-        subst (λ p. lookup (is_at (place_cmp p)) es ≡ None) k (none_later e.0 es (sorted_head place_cmp e.0 (keys_of es) sorted)))
+    let k : e.0 ≡ place_of s = head ∙ ap place_of (sym (same_is s e.0.span same)) in
+    subst (λ p. lookup (is_at (place_cmp p)) es ≡ None) k (none_later e.0 es (sorted_head place_cmp e.0 (keys_of es) sorted)))
     ∙ ap (λ b. unwrap_or (cond b (Some e.1) (lookup (is_at (place_cmp (place_of s))) es)) 0) (sym test)
 
 -- each span stands in the list as often as in the table

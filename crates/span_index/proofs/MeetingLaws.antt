@@ -294,7 +294,7 @@ module _ (f : ℕ) (t : Table) (sort : SortName) (address : ℕ) (after : Option
     below.1,
     λ s in_class met lower.
         lower_or f (class_of s.sectors) k (and_left _ _ in_class) (λ e. below.2 s e met lower) (λ e. none s (and_left _ _ met) e (high_in f n (class_of s.sectors) in_class)),
-      more_in f k n (class_of a.0.sectors) up below.3,
+    more_in f k n (class_of a.0.sectors) up below.3,
   )
 
   pub all_skipped : (k : ℕ) (a : Option (Span × ℕ)) → Below k a → ((s : Span) → is_sort sort s.sort ≡ true → k ≤ class_of s.sectors → t s ≡ 0) → IsMetWhere (nat_le f) t sort address after (option_map (λ p. p.0) a)

@@ -1,6 +1,6 @@
 -- A step of a walk over the spans of a sort.
-use Rattle.std.proofs.Common.{◌≡◌, ℕ, ◌<◌, ◌≤◌, Bool, true, false, cond, not, ◌&&◌, refl, sym, ap, ◌∙◌, subst, arith}
-use Rattle.std.specs.Prelude.{Option, Some, None, nat_le, nat_lt}
+use Rattle.std.proofs.Common.{◌≡◌, ℕ, ◌<◌, true, false, refl, sym, ap, ◌∙◌, subst, arith}
+use Rattle.std.specs.Prelude.{Some, None, nat_le, nat_lt}
 use Rattle.std.specs.Ordering.{is_eq, is_lt}
 use Rattle.std.specs.declared.cmp.Ordering.{Ordering}
 use Rattle.std.specs.declared.cmp.Ordering.TheVariants.{Less, Equal, Greater}
@@ -16,7 +16,7 @@ use Rattle.span_index.specs.Spans.{Table, end_of, is_above, is_met, is_sort}
 use Rattle.span_index.specs.Sweep.{IsHead, IsOpen, IsStep, above_of, is_at, is_passed, is_reaching}
 use Rattle.span_index.proofs.ClassLaws.{class_some, some_class}
 use Rattle.span_index.proofs.TableLaws.{same_is}
-use Rattle.span_index.proofs.MeetingLaws.{and_both, and_left, and_right, below_trans, opposed}
+use Rattle.span_index.proofs.MeetingLaws.{and_both, and_left, and_right, below_trans}
 
 -- what is neither below a span nor the same is above it
 apart_by : (x y : Span) (r : Ordering) → span_cmp x y ≡ r → is_lt r ≡ false → is_eq (span_cmp y x) ≡ false → span_cmp y x ≡ Less

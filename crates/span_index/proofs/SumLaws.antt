@@ -1,11 +1,9 @@
 -- Sums over the spans that a walk has passed.
-use Rattle.std.proofs.Common.{◌≡◌, ℕ, ◌+◌, ◌*◌, ◌<◌, ◌≤◌, Bool, true, false, cond, not, ◌&&◌, List, [], ◌∷◌, refl, sym, ap, ◌∙◌, subst, arith}
-use Rattle.std.specs.Prelude.{nat_le, nat_lt}
-use Rattle.std.specs.List.{sum_by, count_by}
+use Rattle.std.proofs.Common.{◌≡◌, ℕ, ◌+◌, ◌*◌, ◌<◌, ◌≤◌, Bool, true, false, cond, List, [], ◌∷◌, refl, sym, ap, ◌∙◌, subst, arith}
+use Rattle.std.specs.List.{sum_by}
 use Rattle.std.specs.Ordering.{is_eq, is_lt}
 use Rattle.std.specs.declared.cmp.Ordering.{Ordering}
 use Rattle.std.specs.declared.cmp.Ordering.TheVariants.{Less, Equal, Greater}
-use Rattle.std.proofs.lemmas.Bool.Decides.{nat_tests}
 use Rattle.std.proofs.lemmas.List.Sums.{sum_by-cons}
 use Rattle.span_index.specs.declared.cursor.Head.{Head}
 use Rattle.span_index.specs.declared.cursor.Head.TheVariants.{Start, At, End}
@@ -14,7 +12,7 @@ use Rattle.span_index.specs.declared.span.SortName.{SortName}
 use Rattle.span_index.specs.Order.{is_below, is_same, span_cmp}
 use Rattle.span_index.specs.Sectors.{times_of_span}
 use Rattle.span_index.specs.Spans.{Table}
-use Rattle.span_index.specs.Sweep.{IsHead, IsStep, at_sum, is_at, is_passed, is_reaching, passed_sum}
+use Rattle.span_index.specs.Sweep.{IsStep, at_sum, is_at, is_passed, is_reaching, passed_sum}
 use Rattle.span_index.proofs.TableLaws.{same_is, same_itself}
 
 -- ---- sums over a list of spans

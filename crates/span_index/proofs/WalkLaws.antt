@@ -1,5 +1,5 @@
 -- What the spans come to that a walk has passed.
-use Rattle.std.proofs.Common.{◌≡◌, ℕ, zero, suc, ◌-◌, ◌+◌, ◌*◌, ◌<◌, ◌≤◌, ◌%◌, Bool, true, false, cond, not, ◌&&◌, ◌||◌, List, [], ◌∷◌, refl, sym, ap, ◌∙◌, subst, arith}
+use Rattle.std.proofs.Common.{◌≡◌, ℕ, zero, suc, ◌-◌, ◌+◌, ◌*◌, ◌<◌, ◌≤◌, ◌%◌, Bool, true, false, cond, ◌&&◌, List, refl, sym, ap, ◌∙◌, subst, arith}
 use Rattle.std.specs.Prelude.{◌==◌, Option, Some, None, min, nat_le, nat_lt}
 use Rattle.std.specs.List.{sum_by}
 use Rattle.recon_disk.specs.Outside.{counted}
@@ -78,7 +78,7 @@ module _ (context : Context) (span : Span) (times later field : ℕ) (at_sector 
     pub reaches : reaching (reach_in new field) later ≡ min (reaching (reach_in old field) later + times * adds context later field span) 2
     reaches =
         elim (field == 1) as (λ b. (field == 1) ≡ b
-            → reaching (cond b new.of_data new.all) later ≡ min (reaching (cond b old.of_data old.all) later + times * adds context later field span) 2) [
+        → reaching (cond b new.of_data new.all) later ≡ min (reaching (cond b old.of_data old.all) later + times * adds context later field span) 2) [
           | true ↦ λ e.
               of_data
               ∙ ap (λ x. min (reaching old.of_data later + cond (nat_lt later x) d 0) 2) end_is

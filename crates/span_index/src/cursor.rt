@@ -64,7 +64,13 @@ impl Head {
 
 impl<L> SpanIndex<L> {
     // The next of a walk over the spans of a sort that have a sector and end after an address.
-    pub(crate) fn step(&self, head: Head, sort: SortName, address: u64, steps: &mut Steps<L>) -> Head
+    pub(crate) fn step(
+        &self,
+        head: Head,
+        sort: SortName,
+        address: u64,
+        steps: &mut Steps<L>,
+    ) -> Head
         requires { IsOpen head }
         ensures begun { IsBegun result }
         ensures head { IsHead (times_of self.now) sort address result }
@@ -103,7 +109,7 @@ impl Walk {
         ensures sums { (field later : ℕ) → is_field self.sort field ≡ true → later % 4096 ≡ 0 →
             span.now.first ≤ later → reaching (reach_in result field) later
             ≡ min (reaching (reach_in self field) later
-                + times * adds (C.context ctx.now) later field span.now) 2 }
+            + times * adds (C.context ctx.now) later field span.now) 2 }
     {
         let end = end_of(span);
         let all = counting(ctx, span, times);
@@ -118,17 +124,12 @@ impl Walk {
 
 impl Walk {
     // Goes on from an address: to the first span that ends after it, of those not passed yet.
-    pub(crate) fn begin<L>(
-        self,
-        index: &SpanIndex<L>,
-        address: u64,
-        steps: &mut Steps<L>,
-    ) -> Walk
+    pub(crate) fn begin<L>(self, index: &SpanIndex<L>, address: u64, steps: &mut Steps<L>) -> Walk
         requires { IsOrdered place_cmp index.now.spans }
         ensures { (context : Context) (low from : ℕ) → from ≤ address →
             IsWalked context (times_of index.now) (spans_of index.now) low from self →
             IsBeginning context (times_of index.now) (spans_of index.now) address self result
-                steps.old steps.new }
+            steps.old steps.new }
     {
         if self.head.is_settled(address) {
             self

@@ -1,8 +1,8 @@
-use Rattle.std.proofs.Common.{◌≡◌, ◌∙◌, sym}
+use Rattle.std.proofs.Common.{◌∙◌, sym}
 use Rattle.span_index.specs.Sweep.{spans_of}
 use Rattle.span_index.specs.Table.{times_of}
 use Rattle.span_index.proofs.ListLaws.{all_spans}
-use Rattle.span_index.proofs.WalkLaws.{begin_kept, begin_on, settled_open}
+use Rattle.span_index.proofs.WalkLaws.{begin_kept, begin_on}
 use Rattle.span_index.proofs.cursor.Walk.begin.Goals as goal
 
 -- src/cursor.rt:121:5

@@ -1,4 +1,4 @@
-use Rattle.std.proofs.Common.{◌≡◌, sym, subst}
+use Rattle.std.proofs.Common.{sym, subst}
 use Rattle.span_index.specs.Sweep.{spans_of}
 use Rattle.span_index.specs.Table.{times_of}
 use Rattle.span_index.specs.Walks.{IsPassing}

@@ -1,7 +1,6 @@
-use Rattle.std.proofs.Common.{◌≡◌, ◌∙◌, sym, ap, subst}
-use Rattle.std.specs.Prelude.{None, Some, IfSome, nat_le, option_map}
+use Rattle.std.proofs.Common.{subst}
+use Rattle.std.specs.Prelude.{None, Some, nat_le}
 use Rattle.span_index.specs.Places.{IsMetWhere}
-use Rattle.span_index.specs.Sweep.{above_of}
 use Rattle.span_index.specs.Table.{times_of}
 use Rattle.span_index.proofs.StepLaws.{head_at, stepped_at, stepped_end}
 use Rattle.span_index.proofs.kept.SpanIndex.step.Goals as goal
