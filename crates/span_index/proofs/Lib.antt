@@ -5,3 +5,8 @@ pub mod TableLaws
 pub mod FileLaws
 pub mod MeetingLaws
 pub mod NextLaws
+pub mod StepLaws
+pub mod SumLaws
+pub mod ListLaws
+pub mod WalkLaws
+pub mod SectorLaws

@@ -1,6 +1,6 @@
 -- The next span that ends after an address: in a class, and in all.
 use Rattle.std.proofs.Common.{◌≡◌, ℕ, ◌+◌, ◌-◌, ◌*◌, ◌<◌, ◌≤◌, ◌%◌, ◌^◌, Bool, true, false, cond, not, ◌&&◌, ◌||◌, List, [], ◌∷◌, refl, sym, ap, ◌∙◌, subst, arith}
-use Rattle.std.specs.Prelude.{◌==◌, Option, Some, None, IsSome, IfSome, nat_lt, option_map}
+use Rattle.std.specs.Prelude.{◌==◌, Option, Some, None, IsSome, IfSome, nat_le, nat_lt, option_map}
 use Rattle.std.specs.List.{find}
 use Rattle.std.specs.Ordering.{is_gt, is_lt, is_le, nat_cmp, ordering_then}
 use Rattle.std.specs.declared.cmp.Ordering.{Ordering}
@@ -23,7 +23,7 @@ use Rattle.span_index.specs.declared.places.Place.{Place}
 use Rattle.span_index.specs.Order.{is_below, name_of, rank, sort_cmp, span_cmp}
 use Rattle.span_index.specs.OrderLaws.{span_total}
 use Rattle.span_index.specs.Places.{AreOwn, BeginsIn, IsClassFrom, IsMetWhere, StartsClass, class_of, is_of, is_stop, lesser, place_cmp, place_of, times_in}
-use Rattle.span_index.specs.Spans.{IsMeeting, Table, end_of, is_above, is_met, is_sort}
+use Rattle.span_index.specs.Spans.{Table, end_of, is_above, is_met, is_sort}
 use Rattle.span_index.proofs.OrderLaws.{place_exact, place_total}
 use Rattle.span_index.proofs.FindLaws.{find_filter, found_least, found_passes, found_stands, none_passes}
 use Rattle.span_index.proofs.ClassLaws.{class_below, class_reach}
@@ -143,7 +143,7 @@ absent_at m s (Some v) is h = absurd (h v is)
 absent : (m : map.BTreeMap Place ℕ) (s : Span) → ((v : ℕ) → map.get place_cmp m (place_of s) ≡ Some v → ⊥) → times_in m s ≡ 0
 absent m s h = absent_at m s (map.get place_cmp m (place_of s)) refl h
 
-there_own : (m : map.BTreeMap Place ℕ) (p : Place) (v : ℕ) → AreOwn m → map.get place_cmp m p ≡ Some v → p ≡ place_of p.span
+pub there_own : (m : map.BTreeMap Place ℕ) (p : Place) (v : ℕ) → AreOwn m → map.get place_cmp m p ≡ Some v → p ≡ place_of p.span
 there_own m p v own there =
     let had : IsSome (map.get place_cmp m p) = subst IsSome (sym there) refl in
     let s : p.sort ≡ name_of p.span.sort = own.sort p had in
@@ -211,6 +211,7 @@ module _ (m : map.BTreeMap Place ℕ) (start : Bound Place) (sort : SortName) (c
               let high : is_gt (span_cmp e.0.span s) ≡ false =
               ap is_gt (sym (same_class e.0 (place_of s) (at_sort ∙ sym (sort_of s asked)) (at_class ∙ sym cl))) ∙ not_gt s v cl asked there in
               opposed _ (turned (span_cmp s e.0.span) (span_cmp e.0.span s) (span_total.antisymm e.0.span s) below) high),
+          eq-eqb (class_of e.0.span.sectors) class (sym (ap (λ p. p.class) (there_own m e.0 e.1 own stands)) ∙ at_class),
         )
 
 -- ---- the least of all classes
@@ -220,7 +221,7 @@ is_less Less e = refl
 is_less Equal e = absurd (cc)
 is_less Greater e = absurd (cc)
 
-below_trans : (x y z : Span) → is_below x y ≡ true → is_below y z ≡ true → is_below x z ≡ true
+pub below_trans : (x y z : Span) → is_below x y ≡ true → is_below y z ≡ true → is_below x z ≡ true
 unfolding is_below
 below_trans x y z e f = ap is_lt (span_total.trans x y z (is_less _ e) (is_less _ f))
 
@@ -234,54 +235,81 @@ below_upto : (x y z : Span) → is_below x y ≡ true → is_below z y ≡ false
 unfolding is_below
 below_upto x y z e f = ap is_lt (upto_by x y z (span_cmp z y) refl f (is_less _ e))
 
-lower_or : (c k : ℕ) {P : Type 0} → (nat_lt c k ≡ true → P) → (k ≤ c → P) → P
-lower_or c k {P} low high =
+-- the classes from one on below another
+abbrev pub in_classes : ℕ → ℕ → ℕ → Bool
+in_classes f k c = nat_le f c && nat_lt c k
+
+lower_or : (f c k : ℕ) {P : Type 0} → nat_le f c ≡ true → (in_classes f k c ≡ true → P) → (k ≤ c → P) → P
+lower_or f c k {P} from low high =
     elim (nat_lt c k) as (λ b. nat_lt c k ≡ b → P) [
-      | true ↦ λ e. low e
+      | true ↦ λ e. low (and_both _ _ from e)
       | false ↦ λ e. high (grind (arith, nat_tests))
     ] refl
 
-one_class : (c k : ℕ) {P : Type 0} → nat_lt c (k + 1) ≡ true → (nat_lt c k ≡ true → P) → ((c == k) ≡ true → P) → P
-one_class c k {P} h low here =
+one_class : (f c k : ℕ) {P : Type 0} → in_classes f (k + 1) c ≡ true → (in_classes f k c ≡ true → P) → ((c == k) ≡ true → P) → P
+one_class f c k {P} h low here =
+    let upto : nat_lt c (k + 1) ≡ true = and_right (nat_le f c) _ h in
     elim (nat_lt c k) as (λ b. nat_lt c k ≡ b → P) [
-      | true ↦ λ e. low e
+      | true ↦ λ e. low (and_both _ _ (and_left _ _ h) e)
       | false ↦ λ e. here (grind (arith, nat_tests))
     ] refl
 
-module _ (t : Table) (sort : SortName) (address : ℕ) (after : Option Span) where
+more_in : (f k n c : ℕ) → k ≤ n → in_classes f k c ≡ true → in_classes f n c ≡ true
+more_in f k n c more h =
+    let upto : nat_lt c k ≡ true = and_right (nat_le f c) _ h in
+    let under : nat_lt c n ≡ true = grind (arith, nat_tests) in
+    and_both _ _ (and_left _ _ h) under
+
+at_in : (f k c : ℕ) → f ≤ k → (c == k) ≡ true → in_classes f (k + 1) c ≡ true
+at_in f k c low h =
+    let is : c ≡ k = eqb-true c k h in
+    let over : nat_le f c ≡ true = grind (arith, nat_tests) in
+    let under : nat_lt c (k + 1) ≡ true = grind (arith, nat_tests) in
+    and_both _ _ over under
+
+high_in : (f n c : ℕ) → in_classes f n c ≡ true → c < n
+high_in f n c h = let upto : nat_lt c n ≡ true = and_right (nat_le f c) _ h in grind (arith, nat_tests)
+
+module _ (f : ℕ) (t : Table) (sort : SortName) (address : ℕ) (after : Option Span) where
   abbrev Below : ℕ → Option (Span × ℕ) → Type 0
-  Below k a = IsMetWhere (λ c. nat_lt c k) t sort address after (option_map (λ p. p.0) a)
+  Below k a = IsMetWhere (in_classes f k) t sort address after (option_map (λ p. p.0) a)
 
   abbrev At : ℕ → Option (Span × ℕ) → Type 0
   At k a = IsMetWhere (λ c. c == k) t sort address after (option_map (λ p. p.0) a)
 
-  pub none_below : Below 0 None
-  none_below = λ s in_class met. absurd (let low : class_of s.sectors < 0 = grind (arith, nat_tests) in omega arith)
+  pub none_below : Below f None
+  none_below = λ s in_class met. absurd (
+      let low : nat_le f (class_of s.sectors) ≡ true = and_left _ _ in_class in
+      let high : nat_lt (class_of s.sectors) f ≡ true = and_right (nat_le f (class_of s.sectors)) _ in_class in
+      let up : f ≤ class_of s.sectors = grind (arith, nat_tests) in
+      let down : class_of s.sectors < f = grind (arith, nat_tests) in
+      omega arith)
 
   -- where no span stands of the classes between
-  pub skipped : (k n : ℕ) (a : Option (Span × ℕ)) → Below k a → ((s : Span) → is_sort sort s.sort ≡ true → k ≤ class_of s.sectors → class_of s.sectors < n → t s ≡ 0) → Below n a
+  pub skipped : (k n : ℕ) → k ≤ n → (a : Option (Span × ℕ)) → Below k a → ((s : Span) → is_sort sort s.sort ≡ true → k ≤ class_of s.sectors → class_of s.sectors < n → t s ≡ 0) → Below n a
   unfolding is_met
-  skipped k n None below none = λ s in_class met. lower_or (class_of s.sectors) k (λ e. below s e met) (λ e. none s (and_left _ _ met) e (grind (arith, nat_tests)))
-  skipped k n (Some a) below none = (
+  skipped k n up None below none = λ s in_class met. lower_or f (class_of s.sectors) k (and_left _ _ in_class) (λ e. below s e met) (λ e. none s (and_left _ _ met) e (high_in f n (class_of s.sectors) in_class))
+  skipped k n up (Some a) below none = (
     below.0,
     below.1,
     λ s in_class met lower.
-        lower_or (class_of s.sectors) k (λ e. below.2 s e met lower) (λ e. none s (and_left _ _ met) e (grind (arith, nat_tests))),
+        lower_or f (class_of s.sectors) k (and_left _ _ in_class) (λ e. below.2 s e met lower) (λ e. none s (and_left _ _ met) e (high_in f n (class_of s.sectors) in_class)),
+    more_in f k n (class_of a.0.sectors) up below.3,
   )
 
-  pub all_skipped : (k : ℕ) (a : Option (Span × ℕ)) → Below k a → ((s : Span) → is_sort sort s.sort ≡ true → k ≤ class_of s.sectors → t s ≡ 0) → IsMeeting t sort address after (option_map (λ p. p.0) a)
+  pub all_skipped : (k : ℕ) (a : Option (Span × ℕ)) → Below k a → ((s : Span) → is_sort sort s.sort ≡ true → k ≤ class_of s.sectors → t s ≡ 0) → IsMetWhere (nat_le f) t sort address after (option_map (λ p. p.0) a)
   unfolding is_met
-  all_skipped k None below none = λ s met. lower_or (class_of s.sectors) k (λ e. below s e met) (λ e. none s (and_left _ _ met) e)
-  all_skipped k (Some a) below none = (below.0, below.1, λ s met lower. lower_or (class_of s.sectors) k (λ e. below.2 s e met lower) (λ e. none s (and_left _ _ met) e))
+  all_skipped k None below none = λ s in_class met. lower_or f (class_of s.sectors) k in_class (λ e. below s e met) (λ e. none s (and_left _ _ met) e)
+  all_skipped k (Some a) below none = (below.0, below.1, λ s in_class met lower. lower_or f (class_of s.sectors) k in_class (λ e. below.2 s e met lower) (λ e. none s (and_left _ _ met) e), and_left _ _ below.3)
 
-  pub one_more : (k : ℕ) (a b : Option (Span × ℕ)) → Below k a → At k b → Below (k + 1) (lesser a b)
-  one_more k None None below here = λ s in_class met. one_class (class_of s.sectors) k in_class (λ e. below s e met) (λ e. here s e met)
-  one_more k (Some a) None below here = (below.0, below.1, λ s in_class met lower. one_class (class_of s.sectors) k in_class (λ e. below.2 s e met lower) (λ e. here s e met))
-  one_more k None (Some b) below here = (here.0, here.1, λ s in_class met lower. one_class (class_of s.sectors) k in_class (λ e. below s e met) (λ e. here.2 s e met lower))
-  one_more k (Some a) (Some b) below here =
+  pub one_more : (k : ℕ) → f ≤ k → (a b : Option (Span × ℕ)) → Below k a → At k b → Below (k + 1) (lesser a b)
+  one_more k up None None below here = λ s in_class met. one_class f (class_of s.sectors) k in_class (λ e. below s e met) (λ e. here s e met)
+  one_more k up (Some a) None below here = (below.0, below.1, λ s in_class met lower. one_class f (class_of s.sectors) k in_class (λ e. below.2 s e met lower) (λ e. here s e met), more_in f k (k + 1) (class_of a.0.sectors) (omega arith) below.3)
+  one_more k up None (Some b) below here = (here.0, here.1, λ s in_class met lower. one_class f (class_of s.sectors) k in_class (λ e. below s e met) (λ e. here.2 s e met lower), at_in f k (class_of b.0.sectors) up here.3)
+  one_more k up (Some a) (Some b) below here =
       elim (is_below b.0 a.0) as (λ c. is_below b.0 a.0 ≡ c → Below (k + 1) (cond c (Some b) (Some a))) [
-        | true ↦ λ less. (here.0, here.1, λ s in_class met lower. one_class (class_of s.sectors) k in_class (λ e. below.2 s e met (below_trans s b.0 a.0 lower less)) (λ e. here.2 s e met lower))
-        | false ↦ λ less. (below.0, below.1, λ s in_class met lower. one_class (class_of s.sectors) k in_class (λ e. below.2 s e met lower) (λ e. here.2 s e met (below_upto s a.0 b.0 lower less)))
+        | true ↦ λ less. (here.0, here.1, λ s in_class met lower. one_class f (class_of s.sectors) k in_class (λ e. below.2 s e met (below_trans s b.0 a.0 lower less)) (λ e. here.2 s e met lower), at_in f k (class_of b.0.sectors) up here.3)
+        | false ↦ λ less. (below.0, below.1, λ s in_class met lower. one_class f (class_of s.sectors) k in_class (λ e. below.2 s e met lower) (λ e. here.2 s e met (below_upto s a.0 b.0 lower less)), more_in f k (k + 1) (class_of a.0.sectors) (omega arith) below.3)
       ] refl
 
   pub lesser_times : (a b : Option (Span × ℕ)) → IfSome a (λ p. p.1 ≡ t p.0) → IfSome b (λ p. p.1 ≡ t p.0) → IfSome (lesser a b) (λ p. p.1 ≡ t p.0)
@@ -323,18 +351,18 @@ less_first : (x y : ℕ) (r : Ordering) → x < y → is_lt (ordering_then (nat_
 less_first x y r h = grind (arith, nat_tests)
 
 -- a span of a class that ends after an address does not begin too far before it
-reach : (address class low : ℕ) (s : Span) → address < 2 ^ 64 → low ≡ address - 2 * 2 ^ class * 4096 → class_of s.sectors ≡ class → nat_lt address (end_of s) ≡ true → low ≤ s.first
+reach : (address class low : ℕ) (s : Span) → address < 2 ^ 64 → low ≡ address - 2 ^ class * 4096 → class_of s.sectors ≡ class → nat_lt address (end_of s) ≡ true → low ≤ s.first
 reach address class low s small is cl ends =
     let after : address < s.first + s.sectors * 4096 = grind (arith, nat_tests) in
-    elim (class == 63) as (λ b. (class == 63) ≡ b → low ≤ s.first) [
-      | true ↦ λ e. let none : low ≡ address - 2 * 2 ^ 63 * 4096 = is ∙ ap (λ x. address - 2 * 2 ^ x * 4096) (eqb-true class 63 e) in omega arith
+    elim (class == 64) as (λ b. (class == 64) ≡ b → low ≤ s.first) [
+      | true ↦ λ e. let none : low ≡ address - 2 ^ 64 * 4096 = is ∙ ap (λ x. address - 2 ^ x * 4096) (eqb-true class 64 e) in omega arith
       | false ↦ λ e.
-          let under : class_of s.sectors < 63 = let all : class_of s.sectors < 64 = class_below s.sectors in grind (arith, nat_tests) in
-          let few : s.sectors < 2 * 2 ^ class = subst (λ x. s.sectors < 2 * 2 ^ x) cl (class_reach s.sectors under) in
+          let under : class_of s.sectors < 64 = let all : class_of s.sectors < 65 = class_below s.sectors in grind (arith, nat_tests) in
+          let few : s.sectors < 2 ^ class = subst (λ x. s.sectors < 2 ^ x) cl (class_reach s.sectors under) in
           omega arith
     ] refl
 
-pub starts_low : (sort : SortName) (class address low : ℕ) (after : Option Span) → address < 2 ^ 64 → low ≡ address - 2 * 2 ^ class * 4096
+pub starts_low : (sort : SortName) (class address low : ℕ) (after : Option Span) → address < 2 ^ 64 → low ≡ address - 2 ^ class * 4096
     → ((s : Span) → low ≤ s.first → is_above after s ≡ true)
     → StartsClass sort class address after (Included (record { sort = sort; class = class; span = least_at low }))
 unfolding is_met
@@ -361,10 +389,10 @@ starts_after sort class address after = record {
   above = λ place at_sort at_class from. ap is_lt (sym (same_class (record { sort = sort; class = class; span = after }) place (sym at_sort) (sym at_class))) ∙ from;
 }
 
-pub shift_is : (class : ℕ) → class < 64 → 2 * 2 ^ class % 340282366920938463463374607431768211456 ≡ 2 * 2 ^ class
+pub shift_is : (class : ℕ) → class < 65 → 1 * 2 ^ class % 340282366920938463463374607431768211456 ≡ 2 ^ class
 shift_is class h =
-    let most : 2 ^ class ≤ 2 ^ 63 = pow-le-pow_right {n = 2} (omega arith) {i = class} {j = 63} (omega arith) in
-    let small : 2 * 2 ^ class < 340282366920938463463374607431768211456 = omega arith in
+    let most : 2 ^ class ≤ 2 ^ 64 = pow-le-pow_right {n = 2} (omega arith) {i = class} {j = 64} (omega arith) in
+    let small : 2 ^ class < 340282366920938463463374607431768211456 = omega arith in
     omega arith
 
 -- ---- the first class that has spans
@@ -408,7 +436,7 @@ module _ (m : map.BTreeMap Place ℕ) (own : AreOwn m) (sort : SortName) (class 
         let r1 : rank sort ≡ rank e.0.sort = sym (ap rank at_sort) in
         let owned : e.0 ≡ place_of e.0.span = there_own m e.0 e.1 own here.1.1 in
         let class_is : e.0.class ≡ class_of e.0.span.sectors = ap (λ p. p.class) owned in
-        let most : class_of e.0.span.sectors < 64 = class_below e.0.span.sectors in (
+        let most : class_of e.0.span.sectors < 65 = class_below e.0.span.sectors in (
           not_above _ _ _ (then_rest _ _ _ here.1.0.0 r1),
           omega arith,
           λ s own_sort low high. absent m s (λ v there.

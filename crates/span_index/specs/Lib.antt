@@ -4,3 +4,6 @@ pub mod Spans
 pub mod Sectors
 pub mod Places
 pub mod Table
+pub mod Reach
+pub mod Sweep
+pub mod Walks

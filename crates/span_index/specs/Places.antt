@@ -18,13 +18,14 @@ use Rattle.span_index.specs.declared.files.Files.{Files}
 use Rattle.span_index.specs.Order.{name_cmp, name_of, rank, span_cmp, is_same, is_below}
 use Rattle.span_index.specs.Spans.{Table, end_of, is_met, is_sort, is_above, is_behind}
 
--- the class of a length in sectors, at most a greatest class: class k has 2 ^ k sectors and more, but fewer than twice as many
+-- the class of a length in sectors, at most a greatest class: class 0 has no sector, and class k + 1 has 2 ^ k and more, but fewer than
+-- twice as many
 unfoldable pub class_upto : ℕ → ℕ → ℕ
 class_upto zero sectors = 0
-class_upto (suc k) sectors = if nat_le (2 ^ suc k) sectors then suc k else class_upto k sectors
+class_upto (suc k) sectors = if nat_le (2 ^ k) sectors then suc k else class_upto k sectors
 
 unfoldable pub class_of : ℕ → ℕ
-class_of sectors = class_upto 63 sectors
+class_of sectors = class_upto 64 sectors
 
 -- where a span stands among those of its sort and class
 abbrev pub place_of : Span → Place
@@ -69,13 +70,14 @@ IsMetWhere in_class table sort address after (Some least) =
     (0 < table least)
     × (is_met sort address after least ≡ true)
     × ((span : Span) → in_class (class_of span.sectors) ≡ true → is_met sort address after span ≡ true → is_below span least ≡ true → table span ≡ 0)
+    × (in_class (class_of least.sectors) ≡ true)
 
 -- the first class from one on of which spans of a sort stand, or none
 abbrev pub IsClassFrom : Table → SortName → ℕ → Option ℕ → Type 0
 IsClassFrom table sort class None = (span : Span) → is_sort sort span.sort ≡ true → class ≤ class_of span.sectors → table span ≡ 0
 IsClassFrom table sort class (Some next) =
     (class ≤ next)
-    × (next < 64)
+    × (next < 65)
     × ((span : Span) → is_sort sort span.sort ≡ true → class ≤ class_of span.sectors → class_of span.sectors < next → table span ≡ 0)
 
 -- the lesser of two spans that are there, each with how often it stands

@@ -95,7 +95,7 @@ impl<L> SpanIndex<L> {
         ensures looks { steps.new ≡ counted steps.old }
     {
         steps.look();
-        let (span, _) = self.next_meeting(sort, address, after.copied())?;
+        let (span, _) = self.next_meeting(0, sort, address, after.copied())?;
         Some(span)
     }
 

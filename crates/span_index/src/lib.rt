@@ -2,11 +2,13 @@
 //! show. Each look into it is counted.
 #![tactic(auto)]
 
+mod cursor;
 mod files;
 mod index;
 mod kept;
 mod meeting;
 mod places;
+mod reach;
 mod span;
 #[cfg(test)]
 mod tests;

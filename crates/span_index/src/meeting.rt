@@ -1,12 +1,12 @@
 //! The next span that ends after an address.
 
-ghost use Rattle.std.specs.Prelude.{◌≡◌, ◌==◌, ◌<◌, ◌^◌, ◌*◌, ◌-◌, IfSome, Some, true, option_map, nat_lt, if◌then◌else◌};
+ghost use Rattle.std.specs.Prelude.{◌≡◌, ◌==◌, ◌<◌, ◌^◌, ◌*◌, ◌-◌, IfSome, Some, true, option_map, nat_le, nat_lt, if◌then◌else◌};
 ghost use Rattle.std.specs.BTreeMap.{IsOrdered};
 ghost use Rattle.std.specs.BTreeMap.Range.{entries_between};
 ghost use Rattle.std.specs.List.{find};
 ghost use Rattle.std.specs.declared.ops.Bound.TheVariants.{Unbounded};
 ghost use Rattle.span_index.specs.Places.{IsClassFrom, IsMetWhere, StartsClass, is_of, is_stop, lesser, place_cmp};
-ghost use Rattle.span_index.specs.Spans.{IsMeeting, end_of};
+ghost use Rattle.span_index.specs.Spans.{end_of};
 ghost use Rattle.span_index.specs.Table.{times_of};
 
 use crate::kept::SpanIndex;
@@ -15,20 +15,22 @@ use crate::span::{SortName, Span, SpanSort};
 use std::ops::Bound;
 
 impl<L> SpanIndex<L> {
-    /// The least span of a sort that ends after an address and is above `after` where one is given, and how often
-    /// it stands.
+    /// The least span of a sort, of the classes from one on, that ends after an address and is above `after` where
+    /// one is given, and how often it stands.
     pub(crate) fn next_meeting(
         &self,
+        lowest: u8,
         sort: SortName,
         address: u64,
         after: Option<Span>,
     ) -> Option<(Span, u64)>
-        ensures value { IsMeeting (times_of self.now) sort address after
+        requires { lowest < 65 }
+        ensures value { IsMetWhere (nat_le lowest) (times_of self.now) sort address after
             (option_map (λ p. p.0) result) }
         ensures times { IfSome result (λ p. p.1 ≡ times_of self.now p.0) }
     {
         let mut least = None;
-        let mut class = 0;
+        let mut class = lowest;
         while let Some(next) = self.class_from(sort, class) {
             least = lesser(least, self.met_in(sort, next, address, after));
             class = next + 1;
@@ -61,7 +63,7 @@ impl<L> SpanIndex<L> {
         address: u64,
         after: Option<Span>,
     ) -> Option<(Span, u64)>
-        requires { class < 64 }
+        requires { class < 65 }
         ensures value { IsMetWhere (λ c. c == class) (times_of self.now) sort address after
             (option_map (λ p. p.0) result) }
         ensures times { IfSome result (λ p. p.1 ≡ times_of self.now p.0) }
@@ -135,12 +137,12 @@ fn lesser(one: Option<(Span, u64)>, other: Option<(Span, u64)>) -> Option<(Span,
 }
 
 // Where in a class to begin the search for spans that end after an address and are above `after`. In class k they
-// have fewer than 2^(k+1) sectors, so that each begins less than as many sectors before the address.
+// have fewer than 2^k sectors, so that each begins less than as many sectors before the address.
 fn start_in(sort: SortName, class: u8, address: u64, after: Option<Span>) -> Bound<Place>
-    requires { class < 64 }
+    requires { class < 65 }
     ensures { StartsClass sort class address after result }
 {
-    let reach = (2_u128 << class) * 4096;
+    let reach = (1_u128 << class) * 4096;
     let low = (address as u128).saturating_sub(reach) as u64;
     match after {
         Some(span) if span.first >= low => Bound::Excluded(Place { sort, class, span }),

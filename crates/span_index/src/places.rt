@@ -5,8 +5,9 @@ ghost use Rattle.span_index.specs.Places.{class_of, place_of};
 
 use crate::span::{SortName, Span};
 
-/// By sort, then by the class of its length, then in the order of spans. In a class the longest span is less than
-/// twice as long as the shortest, so that those that end after an address begin not far before it.
+/// By sort, then by the class of its length, then in the order of spans. Spans of no sector have a class of their
+/// own. In each other class the longest span is less than twice as long as the shortest, so that those that end after
+/// an address begin not far before it.
 #[derive(Clone, Copy, PartialEq, Eq, PartialOrd, Ord)]
 pub(crate) struct Place {
     pub(crate) sort: SortName,
@@ -34,13 +35,13 @@ pub(crate) fn place_of(span: &Span) -> Place
     }
 }
 
-// The class of a length in sectors. Below two sectors it is 0.
+// The class of a length in sectors: how many bits the number has.
 fn class_of(sectors: u64) -> u8
     ensures { result ≡ class_of sectors }
 {
     if sectors == 0 {
         0
     } else {
-        sectors.ilog2() as u8
+        sectors.ilog2() as u8 + 1
     }
 }

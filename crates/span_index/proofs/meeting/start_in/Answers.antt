@@ -14,13 +14,13 @@ returns-in-Some c =
 -- src/meeting.rt:121:1
 pub returns-in_default : goal.returns-in_default
 returns-in_default c =
-    let low : c.saturating_sub-low.result ≡ c.args.address - 2 * 2 ^ c.args.class * 4096 = c.saturating_sub-low.ensures ∙ ap (λ x. c.args.address - x * 4096) (shift_is c.args.class c.requires) in
+    let low : c.saturating_sub-low.result ≡ c.args.address - 2 ^ c.args.class * 4096 = c.saturating_sub-low.ensures ∙ ap (λ x. c.args.address - x * 4096) (shift_is c.args.class c.requires) in
     starts_low c.args.sort c.args.class c.args.address c.saturating_sub-low.result c.args.after (omega arith) low
     (λ s first. ap (λ a. is_above a s) c.in-Some.is ∙ above_low c.saturating_sub-low.result c.in-Some.span s c.if-span-low.false first)
 
 -- src/meeting.rt:121:1
 pub returns-in_default-2 : goal.returns-in_default-2
 returns-in_default-2 c =
-    let low : c.saturating_sub-low.result ≡ c.args.address - 2 * 2 ^ c.args.class * 4096 = c.saturating_sub-low.ensures ∙ ap (λ x. c.args.address - x * 4096) (shift_is c.args.class c.requires) in
+    let low : c.saturating_sub-low.result ≡ c.args.address - 2 ^ c.args.class * 4096 = c.saturating_sub-low.ensures ∙ ap (λ x. c.args.address - x * 4096) (shift_is c.args.class c.requires) in
     starts_low c.args.sort c.args.class c.args.address c.saturating_sub-low.result c.args.after (omega arith) low
     (λ s first. ap (λ a. is_above a s) c.in_default.is)
