@@ -13,6 +13,7 @@ use Rattle.verdict.specs.declared.place.TreeSort.{TreeSort}
 use Rattle.verdict.specs.declared.place.TreeSort.TheVariants.{Extent}
 use Rattle.extent_items.specs.declared.group.GroupItem.{GroupItem}
 
+-- whether a tree is that of the extents
 abbrev pub is_extent_tree : TreeSort → Bool
 is_extent_tree Extent = true
 is_extent_tree other = false

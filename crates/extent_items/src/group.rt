@@ -19,7 +19,7 @@ pub struct GroupItem {
 }
 
 /// The block group item with this key in these bytes, or the finding of the first rule that it breaks,
-/// in the order kind (U9), the key's length (I2), size (I1).
+/// in the order tree and kind (U9), the key's length (I2), size (I1).
 #[tactic(auto, unfolding(crate::specs::GroupRow::group_row))]
 pub fn read_group(at: &At, key: Key, bytes: &[u8]) -> Result<GroupItem, Finding>
     ensures { result ≡ group_row at.now key bytes.now }

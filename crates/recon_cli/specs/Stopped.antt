@@ -110,11 +110,6 @@ StopsFrom style first trace kept Memory disk left sink =
     ⊎ StopsInEvent style first trace kept (λ before event. HoldsAfter first before disk ⊎ HoldsAfter first (before ++ event ∷ []) disk) left sink
     ⊎ StopsBeforeLast style first trace kept disk sink
 
--- nothing was taken of the trace, and the device holds its image
-pub record IsUntaken (image trace : List ℕ) (disk left : Option (List ℕ)) : Type 0 where
-  pub device : disk ≡ Some image
-  pub left_is : left ≡ Some trace
-
 -- the line of an image that the full check accepts or not
 abbrev pub image_line : Style → Verdict → List ℕ
 image_line style (Accept generation) = line_in style (Image generation)

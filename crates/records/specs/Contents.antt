@@ -67,6 +67,7 @@ repeated_after before [] = None
 repeated_after before (root ∷ roots) =
     if list_any (names root.key.objectid) before then Some (roots_finding 1 root.key) else repeated_after (before ++ root ∷ []) roots
 
+-- the finding X2 names the root item that the tree with this id would have
 abbrev pub missing_finding : ℕ → Finding
 missing_finding id = roots_finding 2 (record { objectid = id; kind = ROOT_ITEM; offset = 0 })
 
