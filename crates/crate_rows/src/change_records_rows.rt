@@ -1,5 +1,6 @@
 use change_records::{ItemChange, ItemRef, affected, pair};
 use chunk_map::{Bases, Chunk, ChunkMap};
+use crate::common::key;
 use fs_items::{FileExtent, InodeItem};
 use live_index::{Live, LiveIndex};
 use recon_disk::Steps;
@@ -7,21 +8,13 @@ use records::{ItemAt, OwnedRec};
 use span_index::{Span, SpanIndex, SpanSort};
 use std::alloc::Global;
 use super_reader::Super;
-use verdict::{Bytes, Key, NoMemory};
+use verdict::{Bytes, NoMemory};
 use volume_items::RootAt;
 
 // The first byte of the data chunk and of the metadata chunk.
 const DATA: u64 = 13_631_488;
 
 const METADATA: u64 = 5_242_880;
-
-fn key(objectid: u64, kind: u8, offset: u64) -> Key {
-    Key {
-        objectid,
-        kind,
-        offset,
-    }
-}
 
 // An inode item with this size and these flags, in a leaf.
 fn inode(tree: u64, block: u64, ino: u64, size: u64, flags: u64) -> ItemAt {

@@ -1,37 +1,12 @@
 //! What records post, one of each kind and by each of its sides.
 
-ghost use Rattle.std.specs.Prelude.{[], false};
-
-use accounts::{Ctx, Home, Posting, Postings};
+use accounts::{Posting, Postings};
+use crate::common::{NoChunk, key};
 use dir_rules::post;
 use fs_items::{DirItem, InodeRef};
 use records::Rec;
-use verdict::{Key, NoMemory};
+use verdict::NoMemory;
 use volume_items::{RootItem, RootLink};
-
-/// The context of an image without a chunk.
-#[derive(Clone, Copy, Debug)]
-struct NoChunk;
-
-impl Ctx for NoChunk {
-    ghost context = { λ _. record { chunks = []; nodesize = 16384; sum_free = λ _ _. false } };
-
-    fn home(&self, _addr: u64, _len: u64) -> Option<Home> {
-        None
-    }
-
-    fn sum_free(&self, _tree: u64, _ino: u64) -> bool {
-        false
-    }
-
-    fn nodesize(&self) -> u32 {
-        16384
-    }
-
-    fn full(&self, _address: u64) -> bool {
-        false
-    }
-}
 
 /// A posting: the account's kind, tree, key, detail and tail, then the sum and the amount.
 type Row = (u8, u64, (u64, u8, u64), u64, &'static [u8], u8, u64);
@@ -52,14 +27,6 @@ const SUBVOLUME: &[u8] =
 
 /// The hash of the name `default`, as published.
 const HASH: u64 = 2378154706;
-
-fn key(objectid: u64, kind: u8, offset: u64) -> Key {
-    Key {
-        objectid,
-        kind,
-        offset,
-    }
-}
 
 /// The root item of a tree that is named twice.
 fn root<'a>(id: u64) -> Rec<'a> {

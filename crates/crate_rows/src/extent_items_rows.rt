@@ -1,3 +1,4 @@
+use crate::common::{front, key};
 use extent_items::{GroupItem, KeyedRef, Reference, read_extent, read_group, read_keyed};
 use recon_bytes::{put_u32, put_u64};
 use verdict::{At, Family, Finding, Key, Rule, TreeSort};
@@ -48,19 +49,6 @@ const LAST_BLOCK: u64 = 18446744073709535232;
 
 fn place(sort: TreeSort) -> At {
     At { sort, ..PLACE }
-}
-
-fn key(objectid: u64, kind: u8, offset: u64) -> Key {
-    Key {
-        objectid,
-        kind,
-        offset,
-    }
-}
-
-// The first bytes of an item, or all where it has fewer.
-fn front(bytes: &[u8], size: usize) -> &[u8] {
-    &bytes[..bytes.len().min(size)]
 }
 
 fn finding(key: Key, family: Family, number: u8, detail: u64) -> Finding {

@@ -1,33 +1,9 @@
-use accounts::{Account, Ctx, Home, Postings};
+use accounts::{Account, Postings};
+use crate::common::NoChunk;
 use extent_items::ExtentItem;
 use extent_rules::post;
 use records::Rec;
 use verdict::Key;
-
-// No chunks, no inodes, and blocks of 16 KiB.
-struct Empty;
-
-impl Ctx for Empty {
-    ghost use Rattle.std.specs.Prelude.{[], false};
-
-    ghost context = { λ _. record { chunks = []; nodesize = 16384; sum_free = λ _ _. false } };
-
-    fn home(&self, _addr: u64, _len: u64) -> Option<Home> {
-        None
-    }
-
-    fn sum_free(&self, _tree: u64, _ino: u64) -> bool {
-        false
-    }
-
-    fn nodesize(&self) -> u32 {
-        16384
-    }
-
-    fn full(&self, _address: u64) -> bool {
-        false
-    }
-}
 
 #[test]
 fn an_extent_posts_its_item_and_its_reference(rt: HostRuntime) {
@@ -50,7 +26,7 @@ fn an_extent_posts_its_item_and_its_reference(rt: HostRuntime) {
         references: &references,
     };
     let mut into = Postings::new(alloc);
-    let posted = post(alloc, &Empty, 2, &Rec::ExtentItem(item), &mut into);
+    let posted = post(alloc, &NoChunk, 2, &Rec::ExtentItem(item), &mut into);
     assert_eq!(rt; posted, Ok(()));
     let extent = Account::extent(alloc, 13631488);
     let form = Account::extent_form(alloc, 13631488, 168, 8192);

@@ -1,9 +1,10 @@
 //! Each reader's rules in a table: an item that keeps them, and what is found in it with one or two of its bytes
 //! changed.
 
+use crate::common::{front, key};
 use fs_items::*;
 use recon_bytes::{put_u16, put_u32, put_u64};
-use verdict::{At, Family, Finding, Key, TreeSort};
+use verdict::{At, Family, Finding, TreeSort};
 
 /// The place of a leaf of the tree of files.
 const FILES: At = At {
@@ -39,14 +40,6 @@ const CHECKSUMS: u64 = 18446744073709551606;
 /// The hash of the name `default`, as published.
 const DEFAULT_HASH: u64 = 2378154706;
 
-fn key(objectid: u64, kind: u8, offset: u64) -> Key {
-    Key {
-        objectid,
-        kind,
-        offset,
-    }
-}
-
 fn changed<const N: usize>(base: &[u8; N], changes: [(usize, u8); 2]) -> [u8; N] {
     let mut bytes = *base;
     for (at, byte) in changes {
@@ -55,11 +48,6 @@ fn changed<const N: usize>(base: &[u8; N], changes: [(usize, u8); 2]) -> [u8; N]
         }
     }
     bytes
-}
-
-/// So many of the first bytes, at most all.
-fn part<const N: usize>(bytes: &[u8; N], size: usize) -> &[u8] {
-    &bytes[..size.min(N)]
 }
 
 /// The rule and the detail of a finding.
@@ -98,7 +86,7 @@ fn an_inode_gives_its_fields_or_its_first_broken_rule(rt: HostRuntime) {
         (257, 0, 160, (53, 0xA1), None),
     ] {
         let bytes = changed(&base, [change, SAME]);
-        let read = read_inode(&FILES, key(objectid, 1, offset), part(&bytes, size));
+        let read = read_inode(&FILES, key(objectid, 1, offset), front(&bytes, size));
         assert_eq!(rt;
             rule(read.err()),
             want,
@@ -146,7 +134,7 @@ fn attributes_have_any_bytes_and_orphans_none(rt: HostRuntime) {
         (ORPHANS, 48, u64::MAX, 0, None),
     ] {
         let key = key(objectid, kind, offset);
-        let bytes = part(&bytes, size);
+        let bytes = front(&bytes, size);
         let found = if kind == 24 {
             read_xattr(&FILES, key, bytes).map(|item| item.key)
         } else {
@@ -188,7 +176,7 @@ fn names_of_a_file_are_judged_one_by_one(rt: HostRuntime) {
         (257, 24, (19, 2), Some((Family::I, 1, 23))),
     ] {
         let bytes = changed(&TWO_NAMES, [change, SAME]);
-        let found = read_inode_ref(&FILES, key(objectid, 12, 256), part(&bytes, size)).err();
+        let found = read_inode_ref(&FILES, key(objectid, 12, 256), front(&bytes, size)).err();
         assert_eq!(rt; rule(found), want, "{objectid} {size} {change:?}");
     }
     for (size, change, want) in [
@@ -200,7 +188,7 @@ fn names_of_a_file_are_judged_one_by_one(rt: HostRuntime) {
         (19, (17, 1), Some((Family::I, 1, 18))),
     ] {
         let bytes = changed(&FAR_NAME, [change, SAME]);
-        let found = read_inode_ref(&FILES, key(257, 13, 5), part(&bytes, size)).err();
+        let found = read_inode_ref(&FILES, key(257, 13, 5), front(&bytes, size)).err();
         assert_eq!(rt; rule(found), want, "{size} {change:?}");
     }
     let mut long = [b'n'; 266];
@@ -211,7 +199,7 @@ fn names_of_a_file_are_judged_one_by_one(rt: HostRuntime) {
         (256, 266, Some((Family::I, 3, 8))),
     ] {
         put_u16(&mut long, 8, name_len);
-        let found = read_inode_ref(&FILES, key(257, 12, 256), part(&long, size)).err();
+        let found = read_inode_ref(&FILES, key(257, 12, 256), front(&long, size)).err();
         assert_eq!(rt; rule(found), want, "{name_len} {size}");
     }
 }
@@ -306,7 +294,7 @@ fn the_entry_of_a_directory_gives_its_first_broken_rule(rt: HostRuntime) {
         ),
     ] {
         let bytes = changed(&ENTRIES, changes);
-        let found = read_dir(&FILES, key(objectid, 84, offset), part(&bytes, 37)).err();
+        let found = read_dir(&FILES, key(objectid, 84, offset), front(&bytes, 37)).err();
         assert_eq!(rt; rule(found), want, "{objectid} {offset} {changes:?}");
     }
     for (from, to, kind, want) in [
@@ -341,7 +329,7 @@ fn the_entry_of_a_directory_gives_its_first_broken_rule(rt: HostRuntime) {
     let other = changed(&ENTRIES, [(67, 149), SAME]);
     let found = read_dir(&FILES, key(256, 84, DEFAULT_HASH), &other).err();
     assert_eq!(rt; rule(found), Some((Family::I, 4, 1358588010)));
-    let found = read_dir(&FILES, key(256, 96, 2), part(&other, 37)).err();
+    let found = read_dir(&FILES, key(256, 96, 2), front(&other, 37)).err();
     assert_eq!(rt; rule(found), None);
 }
 
@@ -359,14 +347,14 @@ fn a_name_of_a_directory_has_at_most_255_bytes(rt: HostRuntime) {
         (255, 286, 96, Some((Family::I, 1, 286))),
     ] {
         put_u16(&mut long, 27, name_len);
-        let found = read_dir(&FILES, key(256, kind, 3785498463), part(&long, size)).err();
+        let found = read_dir(&FILES, key(256, kind, 3785498463), front(&long, size)).err();
         assert_eq!(rt; rule(found), want, "{name_len} {size} {kind}");
     }
 }
 
 #[test]
 fn entries_of_a_directory_come_in_the_order_of_the_bytes(rt: HostRuntime) {
-    let Ok(item) = read_dir(&FILES, key(256, 84, DEFAULT_HASH), part(&ENTRIES, 71)) else {
+    let Ok(item) = read_dir(&FILES, key(256, 84, DEFAULT_HASH), front(&ENTRIES, 71)) else {
         assert!(rt; false, "a finding");
         return;
     };
@@ -430,7 +418,7 @@ fn an_extent_on_the_disk_gives_its_first_broken_rule(rt: HostRuntime) {
         (0, 53, 1, [4096, 8192, TOP, 8192], Some((Family::I, 3, 45))),
     ] {
         let bytes = extent(sort, 4096, disk);
-        let found = read_file_extent(&FILES, key(257, 108, offset), part(&bytes, size)).err();
+        let found = read_file_extent(&FILES, key(257, 108, offset), front(&bytes, size)).err();
         assert_eq!(rt; rule(found), want, "{offset} {size} {sort} {disk:?}");
     }
     let item = FileExtent {
@@ -444,7 +432,7 @@ fn an_extent_on_the_disk_gives_its_first_broken_rule(rt: HostRuntime) {
     };
     let bytes = extent(2, 16384, good);
     assert_eq!(rt;
-        read_file_extent(&FILES, item.key, part(&bytes, 53)).ok(),
+        read_file_extent(&FILES, item.key, front(&bytes, 53)).ok(),
         Some(item)
     );
 }
@@ -483,7 +471,7 @@ fn an_inline_extent_gives_its_first_broken_rule(rt: HostRuntime) {
         ),
     ] {
         let bytes = changed(&extent(0, ram_bytes, [1, 1, 1, 1]), changes);
-        let found = read_file_extent(&FILES, key(objectid, 108, offset), part(&bytes, size)).err();
+        let found = read_file_extent(&FILES, key(objectid, 108, offset), front(&bytes, size)).err();
         assert_eq!(rt;
             rule(found),
             want,
@@ -501,7 +489,7 @@ fn an_inline_extent_gives_its_first_broken_rule(rt: HostRuntime) {
     };
     let bytes = extent(0, 32, [1, 1, 1, 1]);
     assert_eq!(rt;
-        read_file_extent(&FILES, item.key, part(&bytes, 53)).ok(),
+        read_file_extent(&FILES, item.key, front(&bytes, 53)).ok(),
         Some(item)
     );
 }
@@ -522,7 +510,7 @@ fn checksums_give_their_bytes_or_their_first_broken_rule(rt: HostRuntime) {
         (CHECKSUMS, TOP - 4096, 8, Some((Family::I, 1, 8))),
         (CHECKSUMS, TOP, 4, Some((Family::I, 1, 4))),
     ] {
-        let found = read_sums(&SUMS, key(objectid, 128, offset), part(&bytes, size)).err();
+        let found = read_sums(&SUMS, key(objectid, 128, offset), front(&bytes, size)).err();
         assert_eq!(rt; rule(found), want, "{objectid} {offset} {size}");
     }
     let key = key(CHECKSUMS, 128, 4096);

@@ -1,16 +1,9 @@
 //! The sums were computed by a program in another language that makes the same bytes from the format.
 
+use crate::common::key;
 use image_maker::*;
 use recon_crc::crc32c;
-use verdict::{Bytes, Event, Key, NoMemory};
-
-fn key_of(objectid: u64, kind: u8, offset: u64) -> Key {
-    Key {
-        objectid,
-        kind,
-        offset,
-    }
-}
+use verdict::{Bytes, Event, NoMemory};
 
 fn sum_of(bytes: &Bytes) -> u32 {
     crc32c(bytes.as_slice())
@@ -62,10 +55,10 @@ fn the_writes_of_a_new_file_are_those_of_the_format(rt: HostRuntime) -> Result<(
 fn a_leaf_takes_items_to_its_last_byte(rt: HostRuntime) -> Result<(), NoMemory> {
     let mut leaf = LeafMaker::new(rt.alloc(), 4096, &FSID, 8192, 5, 7);
     let bytes = [0xaau8; 3846];
-    assert_eq!(rt; leaf.push(key_of(1, 1, 0), [0x55; 100].as_slice())?, true);
-    assert_eq!(rt; leaf.push(key_of(2, 1, 0), bytes.as_slice())?, false);
-    assert_eq!(rt; leaf.push(key_of(2, 1, 0), &bytes[..3845])?, true);
-    assert_eq!(rt; leaf.push(key_of(3, 1, 0), &bytes[..0])?, false);
+    assert_eq!(rt; leaf.push(key(1, 1, 0), [0x55; 100].as_slice())?, true);
+    assert_eq!(rt; leaf.push(key(2, 1, 0), bytes.as_slice())?, false);
+    assert_eq!(rt; leaf.push(key(2, 1, 0), &bytes[..3845])?, true);
+    assert_eq!(rt; leaf.push(key(3, 1, 0), &bytes[..0])?, false);
     assert_eq!(rt; sum_of(&leaf.finish()?), 0x38b9b54a);
     Ok(())
 }
@@ -74,12 +67,12 @@ fn a_leaf_takes_items_to_its_last_byte(rt: HostRuntime) -> Result<(), NoMemory> 
 fn a_node_points_to_blocks_below_it(rt: HostRuntime) -> Result<(), NoMemory> {
     let pointers = [
         ChildPointer {
-            key: key_of(256, 1, 0),
+            key: key(256, 1, 0),
             address: 12288,
             generation: 6,
         },
         ChildPointer {
-            key: key_of(257, 84, 3),
+            key: key(257, 84, 3),
             address: 16384,
             generation: 7,
         },

@@ -1,36 +1,11 @@
 //! What records post, one of each kind and by each of its sides.
 
-ghost use Rattle.std.specs.Prelude.{[], false};
-
-use accounts::{Ctx, Home, Posting, Postings};
+use accounts::{Posting, Postings};
+use crate::common::{NoChunk, key};
 use fs_items::{DirItem, FileExtent, InodeItem, InodeRef, Orphan, Xattr};
 use inode_rules::post;
 use records::Rec;
-use verdict::{Key, NoMemory};
-
-/// The context of an image without a chunk.
-#[derive(Clone, Copy, Debug)]
-struct NoChunk;
-
-impl Ctx for NoChunk {
-    ghost context = { λ _. record { chunks = []; nodesize = 16384; sum_free = λ _ _. false } };
-
-    fn home(&self, _addr: u64, _len: u64) -> Option<Home> {
-        None
-    }
-
-    fn sum_free(&self, _tree: u64, _ino: u64) -> bool {
-        false
-    }
-
-    fn nodesize(&self) -> u32 {
-        16384
-    }
-
-    fn full(&self, _address: u64) -> bool {
-        false
-    }
-}
+use verdict::NoMemory;
 
 /// A posting to an account of tree 5: its kind, its inode, its detail, the sum and the amount.
 type Row = (u8, u64, u64, u8, u64);
@@ -44,14 +19,6 @@ const ENTRY: &[u8] = b"\x02\x01\0\0\0\0\0\0\x01\0\0\0\0\0\0\0\0\x07\0\0\0\0\0\0\
 /// An entry `s1` that leads to the root of subvolume 258.
 const SUBVOLUME: &[u8] =
     b"\x02\x01\0\0\0\0\0\0\x84\0\0\0\0\0\0\0\0\x07\0\0\0\0\0\0\0\0\0\x02\0\x02s1";
-
-fn key(objectid: u64, kind: u8, offset: u64) -> Key {
-    Key {
-        objectid,
-        kind,
-        offset,
-    }
-}
 
 /// The item of inode 257, by its type and permissions.
 fn inode<'a>(mode: u32) -> Rec<'a> {

@@ -7,6 +7,8 @@ mod change_records_rows;
 #[cfg(test)]
 mod chunk_map_rows;
 #[cfg(test)]
+mod common;
+#[cfg(test)]
 mod dir_rules_rows;
 #[cfg(test)]
 mod extent_items_rows;
