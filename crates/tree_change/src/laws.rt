@@ -4,6 +4,8 @@ ghost use Rattle.tree_change.specs.ImageLaw.{ReadAlikeLaw, StoredAlikeLaw};
 ghost use Rattle.tree_change.specs.Keeping.{KeepingLaw};
 ghost use Rattle.tree_change.specs.Listed.{ListingLaw};
 ghost use Rattle.tree_change.specs.Marking.{MarkingLaw};
+ghost use Rattle.tree_change.specs.NarrowLaw.{NarrowLaw};
+ghost use Rattle.tree_change.specs.SharedLaw.{KeptLaw, KeptTreeLaw};
 ghost use Rattle.tree_change.specs.SkipLaw.{SkippingLaw, WalkIsOwn};
 ghost use Rattle.tree_change.specs.TableLaw.{LivesLaw, TableLaw, TablesLaw, TreeTableLaw};
 
@@ -71,4 +73,22 @@ pub fn tables_law()
 /// tree comes to an address twice, and no two trees have one id. No account is needed.
 pub fn table_law()
     ensures { TableLaw }
+{}
+
+/// Of the blocks that a new tree's walk comes to, just those are kept whose pair is shared, where the table is that of the
+/// old pairs, and just those of the old tree's blocks are marked that writes touch or that are above a touched one.
+pub fn kept_tree_law()
+    ensures { KeptTreeLaw }
+{}
+
+/// The same of each tree of the image that pending writes make of another, but the chunk tree: the marks alone have to be
+/// right.
+pub fn kept_law()
+    ensures { KeptLaw }
+{}
+
+/// The ids of trees and the addresses of an image's live pairs have 64 bits, where its walks have no finding: the headers
+/// of the blocks name them.
+pub fn narrow_law()
+    ensures { NarrowLaw }
 {}
