@@ -46,38 +46,40 @@ nodesize_same a b alike =
     let two = and_parts (a.nodesize == b.nodesize) (a.incompat == b.incompat && (a.compat_ro == b.compat_ro && a.devid == b.devid)) one.1 in
     eqb-true a.nodesize b.nodesize two.0
 
+module _ (image : List ℕ) (pending : FinMap nat_cmp ℕ) (old new : Walked) (before : List Tree) (pairs : Pairs) (marked : Marks) (under : Under) where
+  abbrev pub judged : List ℕ
+  judged = overlaid pending 0 image
+
+  -- the blocks of the old tree of an id are marked
+  abbrev pub Marked : ℕ → Tree → Type 0
+  Marked id tree = tree.1.tree ≡ id → AreMarked marked (touches_old old (written_in pending) (length image)) old.sup tree.0 tree.1
+
+  abbrev pub Keeps : Tree → Type 0
+  Keeps now = (now.1.tree ≡ 3 → ⊥) → AllByRecursion (Marked now.1.tree) before → KeepsShared old new (written_in pending) (length image) pairs marked under now.0 now.1
+
+  was : are_read_alike old.sup new.sup ≡ true → (now tree : Tree) → IsOfImage judged new now → IsOfImage image old tree → (now.1.tree ≡ 3 → ⊥) → tree.1.tree ≡ now.1.tree
+      → AreUntouched (touches_old old (written_in pending) (length image)) (moves_between old new (length image)) tree.0 now.0
+  was alike now tree is of other same =
+      let here : now.0 ≡ stored_in judged new.chunks old.sup.nodesize = is.stored other ∙ ap (stored_in judged new.chunks) (sym (nodesize_same old.sup new.sup alike)) in
+      let there : tree.0 ≡ stored_in image old.chunks old.sup.nodesize = of.stored (λ three. other (sym same ∙ three)) in
+      subst (λ s. AreUntouched (touches_old old (written_in pending) (length image)) (moves_between old new (length image)) tree.0 s) (sym here)
+      (subst (λ s. AreUntouched (touches_old old (written_in pending) (length image)) (moves_between old new (length image)) s (stored_in judged new.chunks old.sup.nodesize)) (sym there)
+      (stored_alike image pending old.chunks new.chunks old.sup.nodesize))
+
+  one : HasTrees image old before → are_read_alike old.sup new.sup ≡ true → ((tree address : ℕ) → pairs tree address ≡ table_of (live_in old.seen) tree address)
+      → (now : Tree) → Stands (table_of (live_in new.seen)) new.sup now.0 now.1 → IsOfImage judged new now → Keeps now
+  one has alike pairs_are now stands is other marks =
+      let olds = trees_walk image old before has in
+      keeps_tree old new before (written_in pending) (length image) pairs marked under now.0 now.1 olds.0 olds.1 stands is.high alike (λ address. pairs_are now.1.tree address)
+      (each_map (λ tree. Marked now.1.tree tree × IsOfImage image old tree) (λ tree. tree.1.tree ≡ now.1.tree → IsBefore old new (written_in pending) (length image) marked now.0 tree) before
+      (λ tree h same. record { marks = h.0 same; alike = was alike now tree is h.1 other same })
+      (each_both (Marked now.1.tree) (IsOfImage image old) before marks (of_image image old before has)))
+
 pub keeps_image : KeptLaw
 keeps_image image pending old new before after pairs marked under has_old has_new alike pairs_are =
-    let judged = overlaid pending 0 image in
-    let olds = trees_walk image old before has_old in
-    let news = trees_walk judged new after has_new in
-    each_map (λ (now : Tree). Stands (table_of (live_in new.seen)) new.sup now.0 now.1 × IsOfImage judged new now) Keeps after (λ now h other marks. one now h.0 h.1 other marks)
-    (each_both (λ (now : Tree). Stands (table_of (live_in new.seen)) new.sup now.0 now.1) (IsOfImage judged new) after
-    (tables_stand new.sup after new.seen news.0 news.1) (of_image judged new after has_new))
-  where
-    abbrev judged : List ℕ
-    judged = overlaid pending 0 image
-
-    abbrev Marked : ℕ → Tree → Type 0
-    Marked id tree = tree.1.tree ≡ id → AreMarked marked (touches_old old (written_in pending) (length image)) old.sup tree.0 tree.1
-
-    abbrev Keeps : Tree → Type 0
-    Keeps now = (now.1.tree ≡ 3 → ⊥) → AllByRecursion (Marked now.1.tree) before → KeepsShared old new (written_in pending) (length image) pairs marked under now.0 now.1
-
-    was : (now tree : Tree) → IsOfImage judged new now → IsOfImage image old tree → (now.1.tree ≡ 3 → ⊥) → tree.1.tree ≡ now.1.tree
-        → AreUntouched (touches_old old (written_in pending) (length image)) (moves_between old new (length image)) tree.0 now.0
-    was now tree is of other same =
-        let here : now.0 ≡ stored_in judged new.chunks old.sup.nodesize = is.stored other ∙ ap (stored_in judged new.chunks) (sym (nodesize_same old.sup new.sup alike)) in
-        let there : tree.0 ≡ stored_in image old.chunks old.sup.nodesize = of.stored (λ three. other (sym same ∙ three)) in
-        subst (λ s. AreUntouched (touches_old old (written_in pending) (length image)) (moves_between old new (length image)) tree.0 s) (sym here)
-        (subst (λ s. AreUntouched (touches_old old (written_in pending) (length image)) (moves_between old new (length image)) s (stored_in judged new.chunks old.sup.nodesize)) (sym there)
-        (stored_alike image pending old.chunks new.chunks old.sup.nodesize))
-
-    one : (now : Tree) → Stands (table_of (live_in new.seen)) new.sup now.0 now.1 → IsOfImage judged new now → (now.1.tree ≡ 3 → ⊥) → AllByRecursion (Marked now.1.tree) before
-        → KeepsShared old new (written_in pending) (length image) pairs marked under now.0 now.1
-    one now stands is other marks =
-        let olds = trees_walk image old before has_old in
-        keeps_tree old new before (written_in pending) (length image) pairs marked under now.0 now.1 olds.0 olds.1 stands is.high alike (λ address. pairs_are now.1.tree address)
-        (each_map (λ tree. Marked now.1.tree tree × IsOfImage image old tree) (λ tree. tree.1.tree ≡ now.1.tree → IsBefore old new (written_in pending) (length image) marked now.0 tree) before
-        (λ tree h same. record { marks = h.0 same; alike = was now tree is h.1 other same })
-        (each_both (Marked now.1.tree) (IsOfImage image old) before marks (of_image image old before has_old)))
+    let news = trees_walk (overlaid pending 0 image) new after has_new in
+    let Is = IsOfImage (overlaid pending 0 image) new in
+    each_map (λ (now : Tree). Stands (table_of (live_in new.seen)) new.sup now.0 now.1 × Is now) (Keeps image pending old new before pairs marked under) after
+    (λ now h. one image pending old new before pairs marked under has_old alike pairs_are now h.0 h.1)
+    (each_both (λ (now : Tree). Stands (table_of (live_in new.seen)) new.sup now.0 now.1) Is after
+    (tables_stand new.sup after new.seen news.0 news.1) (of_image (overlaid pending 0 image) new after has_new))
