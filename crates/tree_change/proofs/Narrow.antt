@@ -1,11 +1,12 @@
 -- The ids and addresses of an image's live pairs have 64 bits, since the headers of their blocks name them.
-use Rattle.std.proofs.Common.{◌≡◌, ℕ, ◌<◌, ◌^◌, ◌==◌, Bool, true, false, not, List, [], ◌∷◌, drop, get_or, slice_index, inl, inr, refl, ap, sym, subst, ◌∙◌, arith}
+use Rattle.std.proofs.Common.{◌≡◌, ℕ, ◌<◌, ◌^◌, ◌==◌, Bool, true, false, not, List, [], ◌∷◌, drop, get_or, length, slice_index, inl, inr, refl, ap, sym, subst, ◌∙◌, arith}
 use Rattle.std.proofs.lemmas.Bool.{cases_lt, eqb-true}
 use Rattle.std.proofs.lemmas.Bool.Decides.{nat_tests}
 use Rattle.std.proofs.lemmas.Grind.{common_steps}
 use Rattle.std.proofs.lemmas.List.Elements.{All-drop, All-take}
 use Rattle.std.specs.Prelude.{Option, Some, None, Ok, Err, Result, is_some, map, if◌then◌else◌}
 use Rattle.std.specs.List.{All, AllByRecursion, list_any}
+use Rattle.std.specs.Result.{IsOk}
 use Rattle.byteorder.specs.Numbers.{little_from-lt}
 use Rattle.recon_bytes.specs.Field.{field}
 use Rattle.verdict.specs.Chunks.{place}
@@ -35,6 +36,7 @@ use Rattle.tree_change.proofs.Accepted.{Accepts, accepts}
 use Rattle.tree_change.proofs.Forest.{lives_all, then_ok, walks}
 use Rattle.tree_change.proofs.Picking.{comes_there, each_map, is_at, is_there, one_of, table_some, there_trees}
 use Rattle.tree_change.proofs.Bounds.{and_parts}
+use Rattle.tree_change.proofs.Sharing.{header_kept}
 use Rattle.tree_change.proofs.Tables.{Any, any_each}
 use Rattle.tree_change.proofs.Trails.{trail_below, trail_of}
 use Rattle.tree_change.proofs.Treed.{has_trees, steps_of, trees_walk}
@@ -91,9 +93,9 @@ same_of_not : (a b : ℕ) → not (a == b) ≡ false → a ≡ b
 same_of_not a b is = grind (arith, common_steps)
 
 named : (bytes fsid : List ℕ) (e : Expect) → block_fault bytes fsid e ≡ None → (field 8 bytes 0x30 ≡ e.address) × (field 8 bytes 0x58 ≡ e.tree)
-unfolding block_fault header_rules
+unfolding header_rules
 named bytes fsid e none =
-    let kept : first_failing (header_rules bytes fsid e) ≡ None = (joined_none (header_rules bytes fsid e) _ none).0 in (
+    let kept : first_failing (header_rules bytes fsid e) ≡ None = header_kept bytes fsid e none in (
       same_of_not (field 8 bytes 0x30) e.address (kept_at 2 (header_rules bytes fsid e) kept),
       same_of_not (field 8 bytes 0x58) e.tree (kept_at 4 (header_rules bytes fsid e) kept),
     )

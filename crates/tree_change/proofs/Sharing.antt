@@ -84,7 +84,7 @@ neither true b is = absurd (cc)
 neither false b is = (refl, is)
 
 -- the first key of a block that is accepted
-header_kept : (bytes fsid : List ℕ) (e : Expect) → block_fault bytes fsid e ≡ None → first_failing (header_rules bytes fsid e) ≡ None
+pub header_kept : (bytes fsid : List ℕ) (e : Expect) → block_fault bytes fsid e ≡ None → first_failing (header_rules bytes fsid e) ≡ None
 unfolding block_fault
 header_kept bytes fsid e none = (joined_none (header_rules bytes fsid e) _ none).0
 
