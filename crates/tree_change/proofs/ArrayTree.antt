@@ -12,7 +12,7 @@ use Rattle.verdict.specs.Items.{is_multiple}
 use Rattle.verdict.specs.Rules.{first_failing}
 use Rattle.verdict.specs.declared.finding.Finding.{Finding}
 use Rattle.verdict.specs.declared.place.Chunk.{Chunk}
-use Rattle.verdict.proofs.Tables.{joined_none, kept_first}
+use Rattle.verdict.proofs.Tables.{joined_none, kept_at, kept_first}
 use Rattle.super_reader.specs.declared.Super.{Super}
 use Rattle.volume_items.specs.ChunkOrder.{all_by_start, by_start, put_by_start}
 use Rattle.volume_items.specs.MapRules.{array_rows, last_before, map_finding, rows_by_start, rows_of_chunk, same_chunk, starts_inside}
@@ -46,7 +46,7 @@ chain_of : (before chunks : List Chunk) (end : ℕ) → first_failing (rows_by_s
 chain_of before [] end none = tt
 chain_of before (c ∷ cs) end none =
     let both = joined_none (rows_of_chunk before c end) (rows_by_start (before ++ c ∷ []) cs end) none in (
-      (kept_first _ _ both.0).0,
+      kept_at 0 (rows_of_chunk before c end) both.0,
       subst (λ last. Chain last cs) (get_last before c) (chain_of (before ++ c ∷ []) cs end both.1),
     )
 
@@ -154,12 +154,17 @@ module _ (a n : ℕ) (wide : 0 < n) where
 
   same_placed : (c d : Chunk) (end : ℕ) → same_chunk c d ≡ true → place_in (Some d) a n end ≡ place_in (Some c) a n end
   same_placed c d end same =
-      let one = and_parts _ (option_eq nat_eq c.second d.second) same in
-      let two = and_parts _ (c.first == d.first) one.0 in
-      let three = and_parts _ (c.class == d.class) two.0 in
-      let four = and_parts (c.start == d.start) (c.length == d.length) three.0 in
-      rw (eqb-true c.start d.start four.0, eqb-true c.first d.first two.1, seconds c.second d.second one.1) refl
+      let parts = five (c.start == d.start) (c.length == d.length) (c.class == d.class) (c.first == d.first) (option_eq nat_eq c.second d.second) same in
+      rw (eqb-true c.start d.start parts.0, eqb-true c.first d.first parts.1, seconds c.second d.second parts.2) refl
     where
+      five : (p q r s t : Bool) → (p && q && r && s && t) ≡ true → (p ≡ true) × (s ≡ true) × (t ≡ true)
+      five false q r s t is = absurd (cc)
+      five true false r s t is = absurd (cc)
+      five true true false s t is = absurd (cc)
+      five true true true false t is = absurd (cc)
+      five true true true true false is = absurd (cc)
+      five true true true true true is = (refl, refl, refl)
+
       seconds : (x y : Option ℕ) → option_eq nat_eq x y ≡ true → x ≡ y
       seconds None None is = refl
       seconds None (Some y) is = absurd (cc)
@@ -167,7 +172,7 @@ module _ (a n : ℕ) (wide : 0 < n) where
       seconds (Some x) (Some y) is = ap (λ (k : ℕ). Some k) (eqb-true x y is)
 
 -- what is stored at an address by the array's chunks is stored there by all
-same_stored : (image : List ℕ) (chunks array : List Chunk) (n : ℕ) (bytes : List ℕ) (address : ℕ) → 0 < n → map_finding chunks array (length image) ≡ None
+pub same_stored : (image : List ℕ) (chunks array : List Chunk) (n : ℕ) (bytes : List ℕ) (address : ℕ) → 0 < n → map_finding chunks array (length image) ≡ None
     → stored_in image array n address ≡ Ok bytes → stored_in image chunks n address ≡ stored_in image array n address
 unfolding stored_in
 same_stored image chunks array n bytes address wide none is = by (is_multiple address) is

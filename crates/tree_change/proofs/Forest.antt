@@ -118,7 +118,7 @@ module _ (sup : Super) where
       others_append id (lives_of tree) (all_lives trees) (of_other tree id (rw split.2 refl) none.0) (others_all trees split.1 id split.3 none.1)
 
   -- a table that is the same for a tree stands for it too
-  stands_as : (tree : Tree) (pairs others : Pairs) → ((address : ℕ) → others tree.1.tree address ≡ pairs tree.1.tree address) → Stands pairs sup tree.0 tree.1 → Stands others sup tree.0 tree.1
+  pub stands_as : (tree : Tree) (pairs others : Pairs) → ((address : ℕ) → others tree.1.tree address ≡ pairs tree.1.tree address) → Stands pairs sup tree.0 tree.1 → Stands others sup tree.0 tree.1
   stands_as tree pairs others same stands = record {
     each = record { fine = stands.each.fine; each = by (visited sup tree.0 tree.1) (of_root tree stands.each.fine).each stands.each.each };
     only = λ address. subst (λ (entry : Option Live). IfSome entry (λ live. OneOf (IsKnown sup tree.0 tree.1.tree address live) (visited sup tree.0 tree.1))) (sym (same address)) (stands.only address);

@@ -26,19 +26,18 @@ use Rattle.tree_change.proofs.Kept.{keeps_tree}
 use Rattle.tree_change.proofs.Picking.{each_both, each_map}
 use Rattle.tree_change.proofs.Treed.{trees_walk}
 
--- a tree of an image: its root has no high key, and it is read by the chunks, but for the chunk tree
+-- a tree of an image: its root has no high key, and it is read by the chunks
 pub record IsOfImage (image : List ℕ) (whole : Walked) (tree : Tree) : Type 0 where
   pub high : tree.1.high ≡ None
-  pub stored : (tree.1.tree ≡ 3 → ⊥) → tree.0 ≡ stored_in image whole.chunks whole.sup.nodesize
+  pub stored : tree.0 ≡ stored_in image whole.chunks whole.sup.nodesize
 
 of_image : (image : List ℕ) (whole : Walked) (trees : List Tree) → HasTrees image whole trees → AllByRecursion (IsOfImage image whole) trees
 of_image image whole trees has =
-    subst (AllByRecursion (IsOfImage image whole)) (sym has.trees_are)
-    (record { high = refl; stored = λ other. elim (other refl) [ ] }, (record { high = refl; stored = λ other. refl }, by has.roots))
+    subst (AllByRecursion (IsOfImage image whole)) (sym has.trees_are) (record { high = refl; stored = refl }, (record { high = refl; stored = refl }, by has.roots))
   where
     by : (some : List RootItem) → AllByRecursion (IsOfImage image whole) (map (λ root. (stored_in image whole.chunks whole.sup.nodesize, named_root root)) some)
     by [] = tt
-    by (root ∷ some) = (record { high = refl; stored = λ other. refl }, by some)
+    by (root ∷ some) = (record { high = refl; stored = refl }, by some)
 
 nodesize_same : (a b : Super) → are_read_alike a b ≡ true → a.nodesize ≡ b.nodesize
 nodesize_same a b alike =
@@ -55,24 +54,24 @@ module _ (image : List ℕ) (pending : FinMap nat_cmp ℕ) (old new : Walked) (b
   Marked id tree = tree.1.tree ≡ id → AreMarked marked (touches_old old (written_in pending) (length image)) old.sup tree.0 tree.1
 
   abbrev pub Keeps : Tree → Type 0
-  Keeps now = (now.1.tree ≡ 3 → ⊥) → AllByRecursion (Marked now.1.tree) before → KeepsShared old new (written_in pending) (length image) pairs marked under now.0 now.1
+  Keeps now = AllByRecursion (Marked now.1.tree) before → KeepsShared old new (written_in pending) (length image) pairs marked under now.0 now.1
 
-  was : are_read_alike old.sup new.sup ≡ true → (now tree : Tree) → IsOfImage judged new now → IsOfImage image old tree → (now.1.tree ≡ 3 → ⊥) → tree.1.tree ≡ now.1.tree
+  was : are_read_alike old.sup new.sup ≡ true → (now tree : Tree) → IsOfImage judged new now → IsOfImage image old tree
       → AreUntouched (touches_old old (written_in pending) (length image)) (moves_between old new (length image)) tree.0 now.0
-  was alike now tree is of other same =
-      let here : now.0 ≡ stored_in judged new.chunks old.sup.nodesize = is.stored other ∙ ap (stored_in judged new.chunks) (sym (nodesize_same old.sup new.sup alike)) in
-      let there : tree.0 ≡ stored_in image old.chunks old.sup.nodesize = of.stored (λ three. other (sym same ∙ three)) in
+  was alike now tree is of =
+      let here : now.0 ≡ stored_in judged new.chunks old.sup.nodesize = is.stored ∙ ap (stored_in judged new.chunks) (sym (nodesize_same old.sup new.sup alike)) in
+      let there : tree.0 ≡ stored_in image old.chunks old.sup.nodesize = of.stored in
       subst (λ s. AreUntouched (touches_old old (written_in pending) (length image)) (moves_between old new (length image)) tree.0 s) (sym here)
       (subst (λ s. AreUntouched (touches_old old (written_in pending) (length image)) (moves_between old new (length image)) s (stored_in judged new.chunks old.sup.nodesize)) (sym there)
       (stored_alike image pending old.chunks new.chunks old.sup.nodesize))
 
   one : HasTrees image old before → are_read_alike old.sup new.sup ≡ true → ((tree address : ℕ) → pairs tree address ≡ table_of (live_in old.seen) tree address)
       → (now : Tree) → Stands (table_of (live_in new.seen)) new.sup now.0 now.1 → IsOfImage judged new now → Keeps now
-  one has alike pairs_are now stands is other marks =
+  one has alike pairs_are now stands is marks =
       let olds = trees_walk image old before has in
       keeps_tree old new before (written_in pending) (length image) pairs marked under now.0 now.1 olds.0 olds.1 stands is.high alike (λ address. pairs_are now.1.tree address)
       (each_map (λ tree. Marked now.1.tree tree × IsOfImage image old tree) (λ tree. tree.1.tree ≡ now.1.tree → IsBefore old new (written_in pending) (length image) marked now.0 tree) before
-      (λ tree h same. record { marks = h.0 same; alike = was alike now tree is h.1 other same })
+      (λ tree h same. record { marks = h.0 same; alike = was alike now tree is h.1 })
       (each_both (Marked now.1.tree) (IsOfImage image old) before marks (of_image image old before has)))
 
 pub keeps_image : KeptLaw

@@ -141,12 +141,12 @@ narrow image trees bytes is tree address has = by (table_of (live_in trees.seen)
     by None entry has = absurd (cc)
     by (Some one) entry has =
         let s = steps_of image trees is in
-        let all = trees_in trees.sup s.array trees.chunks s.roots image in
+        let all = trees_in trees.sup trees.chunks trees.chunks s.roots image in
         let walk = trees_walk image trees all (has_trees image trees s is) in
         let there : list_any (comes_there trees.sup tree address) all ≡ true =
         sym (there_trees trees.sup tree address all) ∙ (ap (list_any (is_there tree address)) (sym (lives_all trees.sup all trees.seen walk.0 walk.1)) ∙ table_some (live_in trees.seen) tree address one entry) in
         let pick = one_of (λ t. AllByRecursion IsNarrow (visited trees.sup t.0 t.1)) (comes_there trees.sup tree address) all
-        (narrow_trees trees.sup all trees.seen (trees_bytes trees.sup s.array trees.chunks s.roots image bytes) walk.1) there in
+        (narrow_trees trees.sup all trees.seen (trees_bytes trees.sup trees.chunks trees.chunks s.roots image bytes) walk.1) there in
         let at = one_of IsNarrow (is_at tree address) (visited trees.sup pick.0.0 pick.0.1) pick.1 pick.2 in
         let both = and_parts (at.0.tree == tree) (at.0.address == address) at.2 in (
           subst (λ n. n < 2 ^ 64) (eqb-true at.0.tree tree both.0) at.1.0,

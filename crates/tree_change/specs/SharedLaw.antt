@@ -9,9 +9,9 @@ use Rattle.super_reader.specs.Superblock.{array_place}
 use Rattle.volume_items.specs.SystemArray.{array_chunks}
 use Rattle.volume_items.specs.declared.root.RootItem.{RootItem}
 use Rattle.live_index.specs.Pairs.{Pairs}
-use Rattle.node_reader.specs.Stored.{Stored}
+use Rattle.node_reader.specs.Stored.{Stored, stored_in}
 use Rattle.node_reader.specs.declared.expect.Expect.{Expect}
-use Rattle.records.specs.Contents.{root_items_in}
+use Rattle.records.specs.Contents.{chunk_tree_root, root_items_in}
 use Rattle.records.specs.Walk.{each, walk_of}
 use Rattle.records.specs.WalkLaw.{visited}
 use Rattle.touched_pairs.specs.Moves.{is_moved}
@@ -51,20 +51,30 @@ KeptTreeLaw = (old new : Walked) (trees : List Tree) (written : Written) (end : 
     → AllByRecursion (λ tree. tree.1.tree ≡ root.tree → IsBefore old new written end marked stored tree) trees
     → KeepsShared old new written end pairs marked under stored root
 
--- the walks of an image have no finding, and these are its trees
+-- the chunk tree is the same by the chunks of the system array and by all chunks
+abbrev pub ChunkTreeLaw : Type 0
+ChunkTreeLaw = (image : List ℕ) (whole : Walked) (array : List Chunk)
+    → walked image ≡ Ok whole → array_chunks (array_place whole.sup) whole.sup.array whole.sup.array_size ≡ Ok array
+    → (walk_of whole.sup (stored_in image whole.chunks whole.sup.nodesize) (chunk_tree_root whole.sup) ≡ walk_of whole.sup (stored_in image array whole.sup.nodesize) (chunk_tree_root whole.sup))
+    × (visited whole.sup (stored_in image whole.chunks whole.sup.nodesize) (chunk_tree_root whole.sup) ≡ visited whole.sup (stored_in image array whole.sup.nodesize) (chunk_tree_root whole.sup))
+
+-- the walks of an image have no finding, and these are its trees, all read by its chunks
 pub record HasTrees (image : List ℕ) (whole : Walked) (trees : List Tree) : Type 0 where
   pub walks : walked image ≡ Ok whole
-  pub array : List Chunk
-  pub arrays : array_chunks (array_place whole.sup) whole.sup.array whole.sup.array_size ≡ Ok array
   pub roots : List RootItem
   pub items : root_items_in whole.sup whole.chunks image ≡ Ok roots
-  pub trees_are : trees ≡ trees_in whole.sup array whole.chunks roots image
+  pub trees_are : trees ≡ trees_in whole.sup whole.chunks whole.chunks roots image
 
--- Of each tree of a judged image but the chunk tree, where the old image's tree of its id, if there is one, is marked.
+-- the trees of an image have different ids, and their walks give its records
+abbrev pub TreesLaw : Type 0
+TreesLaw = (image : List ℕ) (whole : Walked) (trees : List Tree)
+    → HasTrees image whole trees → AreApart trees × (each (λ tree. walk_of whole.sup tree.0 tree.1) trees ≡ Ok whole.seen)
+
+-- Of each tree of a judged image, where the old image's tree of its id, if there is one, is marked.
 abbrev pub KeptLaw : Type 0
 KeptLaw = (image : List ℕ) (pending : FinMap nat_cmp ℕ) (old new : Walked) (before after : List Tree) (pairs : Pairs) (marked : Marks) (under : Under)
     → HasTrees image old before → HasTrees (overlaid pending 0 image) new after → are_read_alike old.sup new.sup ≡ true
     → ((tree address : ℕ) → pairs tree address ≡ table_of (live_in old.seen) tree address)
-    → AllByRecursion (λ now. (now.1.tree ≡ 3 → ⊥)
-    → AllByRecursion (λ tree. tree.1.tree ≡ now.1.tree → AreMarked marked (touches_old old (written_in pending) (length image)) old.sup tree.0 tree.1) before
+    → AllByRecursion (λ now.
+    AllByRecursion (λ tree. tree.1.tree ≡ now.1.tree → AreMarked marked (touches_old old (written_in pending) (length image)) old.sup tree.0 tree.1) before
     → KeepsShared old new (written_in pending) (length image) pairs marked under now.0 now.1) after

@@ -5,7 +5,7 @@ ghost use Rattle.tree_change.specs.Keeping.{KeepingLaw};
 ghost use Rattle.tree_change.specs.Listed.{ListingLaw};
 ghost use Rattle.tree_change.specs.Marking.{MarkingLaw};
 ghost use Rattle.tree_change.specs.NarrowLaw.{NarrowLaw};
-ghost use Rattle.tree_change.specs.SharedLaw.{KeptLaw, KeptTreeLaw};
+ghost use Rattle.tree_change.specs.SharedLaw.{ChunkTreeLaw, KeptLaw, KeptTreeLaw, TreesLaw};
 ghost use Rattle.tree_change.specs.SkipLaw.{SkippingLaw, WalkIsOwn};
 ghost use Rattle.tree_change.specs.TableLaw.{LivesLaw, TableLaw, TablesLaw, TreeTableLaw};
 
@@ -81,10 +81,20 @@ pub fn kept_tree_law()
     ensures { KeptTreeLaw }
 {}
 
-/// The same of each tree of the image that pending writes make of another, but the chunk tree: the marks alone have to be
-/// right.
+/// The same of each tree of the image that pending writes make of another: the marks alone have to be right.
 pub fn kept_law()
     ensures { KeptLaw }
+{}
+
+/// The chunk tree of an image, which is read by the chunks of the system array, is the same where it is read by all
+/// chunks.
+pub fn chunk_tree_law()
+    ensures { ChunkTreeLaw }
+{}
+
+/// The trees of an image, all read by its chunks, have different ids, and their walks give the image's records.
+pub fn trees_law()
+    ensures { TreesLaw }
 {}
 
 /// The ids of trees and the addresses of an image's live pairs have 64 bits, where its walks have no finding: the headers
