@@ -1,25 +1,20 @@
 -- The chunk tree is the same by the chunks of the system array and by all chunks, where the rules on the chunk map keep.
-use Rattle.std.proofs.Common.{◌≡◌, ℕ, zero, suc, ◌+◌, ◌-◌, ◌<◌, ◌≤◌, ◌==◌, Bool, true, false, not, ◌&&◌, ◌||◌, List, [], ◌∷◌, ◌++◌, length, refl, ap, sym, subst, ◌∙◌, arith, if◌then◌else◌}
+use Rattle.std.proofs.Common.{◌≡◌, ℕ, suc, ◌+◌, ◌-◌, ◌<◌, ◌≤◌, ◌==◌, Bool, true, false, not, ◌&&◌, ◌||◌, List, [], ◌∷◌, ◌++◌, length, refl, ap, sym, subst, ◌∙◌, arith, if◌then◌else◌}
 use Rattle.std.proofs.lemmas.Bool.{eqb-true}
 use Rattle.std.proofs.lemmas.Bool.Decides.{nat_tests}
 use Rattle.std.proofs.lemmas.Grind.{common_steps}
-use Rattle.std.specs.Prelude.{Option, Some, None, Result, Ok, Err, nat_eq, nat_le, nat_lt}
-use Rattle.std.specs.List.{AllByRecursion, flat_map, list_any, slice_get}
+use Rattle.std.specs.Prelude.{Option, Some, None, Ok, Err, nat_eq, nat_le, nat_lt}
+use Rattle.std.specs.List.{AllByRecursion, list_any, slice_get}
 use Rattle.std.specs.Option.{option_eq}
-use Rattle.std.specs.Result.{IsOk}
-use Rattle.verdict.specs.Chunks.{holds_range, home, place, place_in, place_of_copies}
+use Rattle.verdict.specs.Chunks.{holds_range, home, place, place_in}
 use Rattle.verdict.specs.Items.{is_multiple}
 use Rattle.verdict.specs.Rules.{first_failing}
-use Rattle.verdict.specs.declared.finding.Finding.{Finding}
 use Rattle.verdict.specs.declared.place.Chunk.{Chunk}
 use Rattle.verdict.proofs.Tables.{joined_none, kept_at, kept_first}
-use Rattle.super_reader.specs.declared.Super.{Super}
 use Rattle.volume_items.specs.ChunkOrder.{all_by_start, by_start, put_by_start}
 use Rattle.volume_items.specs.MapRules.{array_rows, last_before, map_finding, rows_by_start, rows_of_chunk, same_chunk, starts_inside}
-use Rattle.node_reader.specs.Stored.{CopyFault, Stored, block_in, bytes_at, stored_in}
+use Rattle.node_reader.specs.Stored.{bytes_at, stored_in}
 use Rattle.node_reader.specs.Stored.CopyFault.{NoPlace}
-use Rattle.node_reader.specs.declared.expect.Expect.{Expect}
-use Rattle.tree_change.proofs.Bounds.{and_parts}
 use Rattle.tree_change.proofs.Picking.{each_map, one_of}
 
 -- of these chunks each begins where the one before it ends, or above

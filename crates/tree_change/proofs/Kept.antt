@@ -1,12 +1,10 @@
 -- A block is kept just where its pair is shared.
-use Rattle.std.proofs.Common.{◌≡◌, ℕ, zero, suc, ◌==◌, Bool, true, false, not, ◌&&◌, ◌||◌, List, [], ◌∷◌, ◌++◌, refl, ap, sym, subst, ◌∙◌, arith, if◌then◌else◌}
+use Rattle.std.proofs.Common.{◌≡◌, ℕ, zero, suc, ◌==◌, Bool, true, false, not, ◌&&◌, ◌||◌, List, [], ◌∷◌, refl, ap, sym, subst, ◌∙◌, arith, if◌then◌else◌}
 use Rattle.std.proofs.lemmas.Bool.{eqb-true}
 use Rattle.std.proofs.lemmas.Bool.Decides.{nat_tests}
 use Rattle.std.proofs.lemmas.Grind.{common_steps}
-use Rattle.std.proofs.lemmas.List.Folds.{list_any-append}
-use Rattle.std.specs.Prelude.{Option, Some, None, Ok, is_none, is_some, map}
+use Rattle.std.specs.Prelude.{Option, Some, None, Ok, is_none, is_some}
 use Rattle.std.specs.List.{AllByRecursion, list_any}
-use Rattle.std.specs.Result.{IsOk}
 use Rattle.verdict.specs.OnDisk.{key_same}
 use Rattle.verdict.specs.declared.key.Key.{Key}
 use Rattle.super_reader.specs.declared.Super.{Super}
@@ -16,9 +14,9 @@ use Rattle.node_reader.specs.Layout.{pointers_of}
 use Rattle.node_reader.specs.Stored.{Stored}
 use Rattle.node_reader.specs.declared.expect.Expect.{Expect}
 use Rattle.node_reader.specs.declared.expect.Pointer.{Pointer}
-use Rattle.records.specs.Walk.{child_of, children_of, high_of, walk_of}
+use Rattle.records.specs.Walk.{child_of, children_of, high_of}
 use Rattle.records.specs.WalkLaw.{visited}
-use Rattle.tree_change.specs.Keeping.{AreMarked, AreUntouched, Comes, Marks, Stands, Under, bound_of, comes_to, first_in, is_first, is_same, kept_of, last_if_same, live_at}
+use Rattle.tree_change.specs.Keeping.{AreMarked, Marks, Stands, Under, bound_of, comes_to, first_in, is_first, is_same, kept_of, last_if_same, live_at}
 use Rattle.tree_change.specs.LivePairs.{Walked, live_in, table_of}
 use Rattle.tree_change.specs.Shared.{are_alike, are_read_alike, is_shared, stands_untouched}
 use Rattle.tree_change.specs.SharedLaw.{IsBefore, KeepsShared, KeptTreeLaw, moves_between, touches_old}
@@ -27,7 +25,7 @@ use Rattle.tree_change.specs.declared.starts.Start.{Start}
 use Rattle.touched_pairs.specs.Touched.{Written, stays_in_place}
 use Rattle.tree_change.proofs.Accepted.{Accepts, IsAs, accepts, visit_of, walk_accepted}
 use Rattle.tree_change.proofs.Bounds.{and_parts}
-use Rattle.tree_change.proofs.Forest.{all_lives, lives_all, of_root, tables_stand, walks}
+use Rattle.tree_change.proofs.Forest.{lives_all, of_root, tables_stand, walks}
 use Rattle.tree_change.proofs.Lasting.{low_fits}
 use Rattle.tree_change.proofs.Picking.{comes_there, each_both, each_if, each_map, is_at, is_there, one_of, table_some, there_trees}
 use Rattle.tree_change.proofs.Sharing.{same_from}
@@ -35,7 +33,7 @@ use Rattle.tree_change.proofs.Sifting.{IsSame, LowAt}
 use Rattle.tree_change.proofs.Tables.{Any, any_each}
 use Rattle.tree_change.proofs.Trails.{Trail, trail_and, trail_below, trail_of, trails}
 use Rattle.tree_change.proofs.Untouching.{free_all, is_free}
-use Rattle.tree_change.proofs.Visiting.{Visits, comes_from, visits_after, visits_any_from, visits_both, visits_fail, visits_from, visits_map, visits_then, visits_then_first, visits_then_later}
+use Rattle.tree_change.proofs.Visiting.{Visits, comes_from, visits_after, visits_any_from, visits_fail, visits_from, visits_then, visits_then_first, visits_then_later}
 use Rattle.tree_change.proofs.Within.{Below, here_of, rest_of, within}
 
 -- a block that has no low key has no high key

@@ -1,26 +1,24 @@
 -- The same, of the trees of an image and of the image that pending writes make of it.
 use Rattle.std.proofs.Common.{◌≡◌, ℕ, ◌==◌, true, ◌&&◌, List, [], ◌∷◌, length, refl, ap, sym, subst, ◌∙◌}
 use Rattle.std.proofs.lemmas.Bool.{eqb-true}
-use Rattle.std.specs.Prelude.{Option, None, bytes_eq, map}
+use Rattle.std.specs.Prelude.{None, bytes_eq, map}
 use Rattle.std.specs.List.{AllByRecursion}
 use Rattle.std.specs.Ordering.{nat_cmp}
 use Rattle.std.specs.FinMap.{FinMap}
-use Rattle.verdict.specs.declared.key.Key.{Key}
-use Rattle.verdict.specs.declared.place.Chunk.{Chunk}
 use Rattle.write_cache.specs.Cache.{overlaid}
 use Rattle.super_reader.specs.declared.Super.{Super}
 use Rattle.volume_items.specs.declared.root.RootItem.{RootItem}
 use Rattle.live_index.specs.Pairs.{Pairs}
-use Rattle.node_reader.specs.Stored.{Stored, stored_in}
+use Rattle.node_reader.specs.Stored.{stored_in}
 use Rattle.records.specs.Contents.{named_root}
 use Rattle.touched_pairs.specs.Touched.{written_in}
 use Rattle.tree_change.specs.Keeping.{AreMarked, AreUntouched, Marks, Stands, Under}
 use Rattle.tree_change.specs.LivePairs.{Walked, live_in, table_of}
 use Rattle.tree_change.specs.Shared.{are_read_alike}
 use Rattle.tree_change.specs.SharedLaw.{HasTrees, IsBefore, KeepsShared, KeptLaw, moves_between, touches_old}
-use Rattle.tree_change.specs.TableLaw.{AreApart, Tree, trees_in}
+use Rattle.tree_change.specs.TableLaw.{Tree}
 use Rattle.tree_change.proofs.Bounds.{and_parts}
-use Rattle.tree_change.proofs.Forest.{tables_stand, walks}
+use Rattle.tree_change.proofs.Forest.{tables_stand}
 use Rattle.tree_change.proofs.Images.{stored_alike}
 use Rattle.tree_change.proofs.Kept.{keeps_tree}
 use Rattle.tree_change.proofs.Picking.{each_both, each_map}

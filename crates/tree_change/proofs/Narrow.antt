@@ -1,7 +1,6 @@
 -- The ids and addresses of an image's live pairs have 64 bits, since the headers of their blocks name them.
 use Rattle.std.proofs.Common.{◌≡◌, ℕ, ◌<◌, ◌^◌, ◌==◌, Bool, true, false, not, List, [], ◌∷◌, drop, get_or, length, slice_index, inl, inr, refl, ap, sym, subst, ◌∙◌, arith}
 use Rattle.std.proofs.lemmas.Bool.{cases_lt, eqb-true}
-use Rattle.std.proofs.lemmas.Bool.Decides.{nat_tests}
 use Rattle.std.proofs.lemmas.Grind.{common_steps}
 use Rattle.std.proofs.lemmas.List.Elements.{All-drop, All-take}
 use Rattle.std.specs.Prelude.{Option, Some, None, Ok, Err, Result, is_some, map, if◌then◌else◌}
@@ -16,7 +15,7 @@ use Rattle.verdict.specs.Rules.{first_failing}
 use Rattle.verdict.specs.declared.place.Chunk.{Chunk}
 use Rattle.verdict.specs.declared.place.Place.{Place}
 use Rattle.verdict.specs.declared.place.Place.TheVariants.{Nowhere, One, Two}
-use Rattle.verdict.proofs.Tables.{joined_none, kept_at}
+use Rattle.verdict.proofs.Tables.{kept_at}
 use Rattle.volume_items.specs.declared.root.RootItem.{RootItem}
 use Rattle.super_reader.specs.declared.Super.{Super}
 use Rattle.live_index.specs.declared.live.Live.{Live}
@@ -28,11 +27,10 @@ use Rattle.records.specs.Contents.{named_root}
 use Rattle.records.specs.Seen.{Seen}
 use Rattle.records.specs.Walk.{walk_of}
 use Rattle.records.specs.WalkLaw.{visited}
-use Rattle.tree_change.specs.LivePairs.{Walked, live_in, table_of, walked}
-use Rattle.tree_change.specs.Marking.{AreNarrow}
+use Rattle.tree_change.specs.LivePairs.{live_in, table_of}
 use Rattle.tree_change.specs.NarrowLaw.{NarrowLaw}
 use Rattle.tree_change.specs.TableLaw.{Tree, trees_in}
-use Rattle.tree_change.proofs.Accepted.{Accepts, accepts}
+use Rattle.tree_change.proofs.Accepted.{accepts}
 use Rattle.tree_change.proofs.Forest.{lives_all, then_ok, walks}
 use Rattle.tree_change.proofs.Picking.{comes_there, each_map, is_at, is_there, one_of, table_some, there_trees}
 use Rattle.tree_change.proofs.Bounds.{and_parts}

@@ -1,5 +1,5 @@
 -- One of the blocks that the walks of trees come to, by a table of their live pairs.
-use Rattle.std.proofs.Common.{◌≡◌, ℕ, ◌==◌, Bool, true, false, ◌&&◌, ◌||◌, List, [], ◌∷◌, ◌++◌, refl, ap, ◌∙◌, if◌then◌else◌}
+use Rattle.std.proofs.Common.{◌≡◌, ℕ, ◌==◌, Bool, true, false, ◌&&◌, ◌||◌, List, [], ◌∷◌, refl, ap, ◌∙◌, if◌then◌else◌}
 use Rattle.std.proofs.lemmas.List.Folds.{list_any-append}
 use Rattle.std.specs.Prelude.{Some, map}
 use Rattle.std.specs.List.{AllByRecursion, list_any}
@@ -67,4 +67,3 @@ module _ (sup : Super) where
       list_any-append (is_there id address) (map (live_at sup tree.0) (visited sup tree.0 tree.1)) (all_lives sup trees)
       ∙ (ap (λ b. b || list_any (is_there id address) (all_lives sup trees)) (there_blocks id address tree.0 (visited sup tree.0 tree.1))
       ∙ ap (λ b. comes_there id address tree || b) (there_trees id address trees))
-

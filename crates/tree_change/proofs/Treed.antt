@@ -1,18 +1,16 @@
 -- The trees of an image, whose walks give its records. The chunk tree is the same by the system array's chunks and by all chunks.
 use Rattle.std.proofs.Common.{◌≡◌, ℕ, zero, suc, ◌<◌, Bool, true, false, List, [], ◌∷◌, ◌++◌, length, refl, ap, sym, subst, ◌∙◌, arith}
-use Rattle.std.specs.Prelude.{None, Result, Ok, Err, map, nat_lt, if◌then◌else◌}
+use Rattle.std.specs.Prelude.{None, Ok, Err, map, nat_lt, if◌then◌else◌}
 use Rattle.std.specs.List.{AllByRecursion, flat_map}
-use Rattle.std.specs.Result.{IsOk}
 use Rattle.verdict.specs.Image.{range}
 use Rattle.verdict.specs.Rules.{and_then, finding_or, first_failing, image_finding}
 use Rattle.verdict.specs.Trees.{is_node_size}
 use Rattle.verdict.specs.declared.finding.Family.TheVariants.{S}
-use Rattle.verdict.specs.declared.finding.Finding.{Finding}
 use Rattle.verdict.specs.declared.place.At.{At}
 use Rattle.verdict.specs.declared.place.Chunk.{Chunk}
 use Rattle.verdict.proofs.Tables.{finding_or-ok}
 use Rattle.super_reader.specs.declared.Super.{Super}
-use Rattle.super_reader.specs.Superblock.{IsReadable, array_place, superblock_fields, superblock_of, superblock_rules}
+use Rattle.super_reader.specs.Superblock.{array_place, superblock_fields, superblock_of, superblock_rules}
 use Rattle.super_reader.proofs.SuperLaws.{fields_readable}
 use Rattle.volume_items.specs.MapRules.{map_finding}
 use Rattle.volume_items.specs.SystemArray.{array_chunks}
@@ -21,7 +19,6 @@ use Rattle.node_reader.specs.Faults.{block_of}
 use Rattle.node_reader.specs.Stored.{Stored, block_in, found_by, stored_in}
 use Rattle.node_reader.specs.declared.expect.Expect.{Expect}
 use Rattle.records.specs.Contents.{all_records, chunk_map_in, chunk_records, chunk_tree_root, named_root, root_items_in, root_tree_root, superblock_in}
-use Rattle.records.specs.Seen.{Seen}
 use Rattle.records.specs.Takes.{held_after, with_chunk}
 use Rattle.records.specs.Walk.{then_records, walk_of}
 use Rattle.records.specs.WalkLaw.{StoredAlike, children_in, visited, visited_from}
@@ -178,7 +175,7 @@ trees_walk image whole trees has =
     subst (λ trees. AreApart trees × (walks whole.sup trees ≡ Ok whole.seen)) (sym has.trees_are) (
       all_apart whole.sup whole.chunks whole.chunks has.roots image (roots_are whole.sup whole.chunks image has.roots has.items),
       ap (λ w. then_records w rest) walk ∙ (all_walks whole.sup s.array whole.chunks has.roots image
-      ∙ subst (λ r. all_records whole.sup s.array whole.chunks r image ≡ Ok whole.seen) (same_roots s.roots has.roots s.items has.items) s.records),
+          ∙ subst (λ r. all_records whole.sup s.array whole.chunks r image ≡ Ok whole.seen) (same_roots s.roots has.roots s.items has.items) s.records),
     )
   where
     others : List RootItem → List Tree

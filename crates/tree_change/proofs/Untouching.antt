@@ -1,11 +1,9 @@
 -- Whether a pair is alike to a block of these records, neither at which nor below which a test passes, is told by the blocks that the
 -- walks come to.
-use Rattle.std.proofs.Common.{◌≡◌, ℕ, zero, suc, ◌==◌, Bool, true, false, not, ◌&&◌, ◌||◌, List, [], ◌∷◌, ◌++◌, refl, ap, sym, subst, ◌∙◌}
+use Rattle.std.proofs.Common.{◌≡◌, ℕ, zero, suc, Bool, true, false, not, ◌&&◌, ◌||◌, List, [], ◌∷◌, ◌++◌, refl, ap, sym, subst, ◌∙◌}
 use Rattle.std.proofs.lemmas.List.Folds.{list_any-append}
-use Rattle.std.specs.Prelude.{Ok, Err, Result}
-use Rattle.std.specs.List.{AllByRecursion, list_any}
-use Rattle.std.specs.Result.{IsOk}
-use Rattle.verdict.specs.declared.finding.Finding.{Finding}
+use Rattle.std.specs.Prelude.{Ok, Err}
+use Rattle.std.specs.List.{list_any}
 use Rattle.super_reader.specs.declared.Super.{Super}
 use Rattle.live_index.specs.declared.live.Live.{Live}
 use Rattle.node_reader.specs.Layout.{pointers_of}
@@ -21,10 +19,10 @@ use Rattle.tree_change.specs.Keeping.{comes_to, live_at}
 use Rattle.tree_change.specs.LivePairs.{live_of, records_in}
 use Rattle.tree_change.specs.Shared.{are_alike, at_or_below, is_block_where, stands_untouched}
 use Rattle.tree_change.specs.Skips.{own_of}
-use Rattle.tree_change.specs.TableLaw.{AreApart, Tree, is_other}
+use Rattle.tree_change.specs.TableLaw.{AreApart, Tree}
 use Rattle.tree_change.proofs.Accepted.{Accepts, accepts, visit_of, walk_accepted}
 use Rattle.tree_change.proofs.Forest.{others_after, stops_none, then_ok, walks}
-use Rattle.tree_change.proofs.Lives.{Inside, NoBlocks, Placed, PlacedAll, Stops, Told, Under, UnderAll, append_append, entries_none, inside_append, inside_none, live_is, ok_same, placed, placed_append, placed_none, records_until, stops_less, told, under_placed, walk_told}
+use Rattle.tree_change.proofs.Lives.{Inside, NoBlocks, Placed, PlacedAll, Stops, Under, append_append, entries_none, inside_append, inside_none, live_is, ok_same, placed, placed_append, placed_none, records_until, stops_less, under_placed, walk_told}
 use Rattle.tree_change.proofs.Rooted.{step_ok}
 use Rattle.tree_change.proofs.Tables.{Any, any_each}
 use Rattle.tree_change.proofs.Trails.{Matches, Tells, Trail, Visit, after, all_own, all_own_append, tells, then_trail, trail_and, trail_below, trail_of, trails}
