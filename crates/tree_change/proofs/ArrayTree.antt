@@ -45,7 +45,8 @@ chain_of before (c ∷ cs) end none =
       subst (λ last. Chain last cs) (get_last before c) (chain_of (before ++ c ∷ []) cs end both.1),
     )
 
-array_has : (chunks array : List Chunk) → first_failing (array_rows chunks array) ≡ None → AllByRecursion (λ c. list_any (same_chunk c) chunks ≡ true) array
+array_has : (chunks array : List Chunk) → first_failing (array_rows chunks array) ≡ None
+    → AllByRecursion (λ c. list_any (same_chunk c) chunks ≡ true) array
 array_has chunks [] none = tt
 array_has chunks (c ∷ array) none =
     let both = kept_first _ (array_rows chunks array) none in
@@ -60,11 +61,13 @@ put_each : (P : Chunk → Type 0) (c : Chunk) (sorted : List Chunk) → AllByRec
 put_each P c [] all = (all.0, tt)
 put_each P c (d ∷ sorted) all = by (nat_le d.start c.start) all (put_each P c sorted)
   where
-    by : (b : Bool) → AllByRecursion P (if b then d ∷ put_by_start c sorted else c ∷ d ∷ sorted) → (AllByRecursion P (put_by_start c sorted) → P c × AllByRecursion P sorted) → P c × AllByRecursion P (d ∷ sorted)
+    by : (b : Bool) → AllByRecursion P (if b then d ∷ put_by_start c sorted else c ∷ d ∷ sorted)
+        → (AllByRecursion P (put_by_start c sorted) → P c × AllByRecursion P sorted) → P c × AllByRecursion P (d ∷ sorted)
     by true all rest = let more = rest all.1 in (more.0, (all.0, more.1))
     by false all rest = (all.0, all.1)
 
-all_each : (P : Chunk → Type 0) (sorted chunks : List Chunk) → AllByRecursion P (all_by_start sorted chunks) → AllByRecursion P sorted × AllByRecursion P chunks
+all_each : (P : Chunk → Type 0) (sorted chunks : List Chunk) → AllByRecursion P (all_by_start sorted chunks)
+    → AllByRecursion P sorted × AllByRecursion P chunks
 unfolding all_by_start
 all_each P sorted [] all = (all, tt)
 all_each P sorted (c ∷ chunks) all =
@@ -72,11 +75,13 @@ all_each P sorted (c ∷ chunks) all =
     let both = put_each P c sorted rest.0 in
     (both.1, (both.0, rest.1))
 
-any_map : (test other : Chunk → Bool) (chunks : List Chunk) → ((c : Chunk) → test c ≡ true → other c ≡ true) → list_any test chunks ≡ true → list_any other chunks ≡ true
+any_map : (test other : Chunk → Bool) (chunks : List Chunk) → ((c : Chunk) → test c ≡ true → other c ≡ true) → list_any test chunks ≡ true
+    → list_any other chunks ≡ true
 any_map test other [] f some = some
 any_map test other (c ∷ chunks) f some = by (test c) (other c) (f c) some (any_map test other chunks f)
   where
-    by : (a b : Bool) → (a ≡ true → b ≡ true) → (a || list_any test chunks) ≡ true → (list_any test chunks ≡ true → list_any other chunks ≡ true) → (b || list_any other chunks) ≡ true
+    by : (a b : Bool) → (a ≡ true → b ≡ true) → (a || list_any test chunks) ≡ true → (list_any test chunks ≡ true → list_any other chunks ≡ true)
+        → (b || list_any other chunks) ≡ true
     by true b f some rest = rw (f refl) refl
     by false true f some rest = refl
     by false false f some rest = rest some
@@ -85,7 +90,8 @@ module _ (a n : ℕ) (wide : 0 < n) where
   abbrev pub holds : Chunk → Bool
   holds c = holds_range c a n
 
-  above : (low : ℕ) (last : Chunk) (chunks : List Chunk) → Chain (Some last) chunks → low ≤ last.start + last.length → AllByRecursion (λ c. low ≤ c.start) chunks
+  above : (low : ℕ) (last : Chunk) (chunks : List Chunk) → Chain (Some last) chunks → low ≤ last.start + last.length
+      → AllByRecursion (λ c. low ≤ c.start) chunks
   above low last [] chain is = tt
   above low last (c ∷ cs) chain is =
       let next : last.start + last.length ≤ c.start = no_less c.start (last.start + last.length) chain.0 in
@@ -99,7 +105,8 @@ module _ (a n : ℕ) (wide : 0 < n) where
   unique last [] chain = tt
   unique last (c ∷ cs) chain = ((λ is. rw is refl), by (holds c) refl (unique (Some c) cs chain.1))
     where
-      by : (b : Bool) → holds c ≡ b → AllByRecursion (λ d. holds d ≡ true → home cs a n ≡ Some d) cs → AllByRecursion (λ d. holds d ≡ true → (if b then Some c else home cs a n) ≡ Some d) cs
+      by : (b : Bool) → holds c ≡ b → AllByRecursion (λ d. holds d ≡ true → home cs a n ≡ Some d) cs
+          → AllByRecursion (λ d. holds d ≡ true → (if b then Some c else home cs a n) ≡ Some d) cs
       by true is rest =
           each_map (λ d. c.start + c.length ≤ d.start) (λ d. holds d ≡ true → Some c ≡ Some d) cs
           (λ d low has. absurd (apart c.start c.length d.start d.length is has low)) (above (c.start + c.length) c cs chain.1 (omega arith))
@@ -109,11 +116,13 @@ module _ (a n : ℕ) (wide : 0 < n) where
       by false is rest = rest
 
   -- the first of a list that holds it
-  found : (P : Chunk → Type 0) (chunks : List Chunk) → AllByRecursion P chunks → list_any holds chunks ≡ true → (d : Chunk) × P d × (holds d ≡ true) × (home chunks a n ≡ Some d)
+  found : (P : Chunk → Type 0) (chunks : List Chunk) → AllByRecursion P chunks → list_any holds chunks ≡ true
+      → (d : Chunk) × P d × (holds d ≡ true) × (home chunks a n ≡ Some d)
   found P [] all some = absurd (cc)
   found P (c ∷ cs) all some = by (holds c) refl some (found P cs all.1)
     where
-      by : (b : Bool) → holds c ≡ b → (b || list_any holds cs) ≡ true → (list_any holds cs ≡ true → (d : Chunk) × P d × (holds d ≡ true) × (home cs a n ≡ Some d))
+      by : (b : Bool) → holds c ≡ b → (b || list_any holds cs) ≡ true
+          → (list_any holds cs ≡ true → (d : Chunk) × P d × (holds d ≡ true) × (home cs a n ≡ Some d))
           → (d : Chunk) × P d × (holds d ≡ true) × ((if b then Some c else home cs a n) ≡ Some d)
       by true is some rest = (c, all.0, is, refl)
       by false is some rest = rest some
@@ -125,19 +134,23 @@ module _ (a n : ℕ) (wide : 0 < n) where
       some_chunk : (x y : Chunk) → Some x ≡ Some y → x ≡ y
       some_chunk x y is = cc
 
-      by : (t : Bool) → holds b ≡ t → (if t then Some b else home array a n) ≡ Some c → (home array a n ≡ Some c → P c × (holds c ≡ true)) → P c × (holds c ≡ true)
+      by : (t : Bool) → holds b ≡ t → (if t then Some b else home array a n) ≡ Some c → (home array a n ≡ Some c → P c × (holds c ≡ true))
+          → P c × (holds c ≡ true)
       by true has is rest = let same : b ≡ c = some_chunk b c is in (subst P same all.0, subst (λ x. holds x ≡ true) same has)
       by false has is rest = rest is
 
   -- a chunk of the array that holds the range is the same as the one of all chunks that does
-  same_home : (chunks array : List Chunk) (end : ℕ) (c : Chunk) → map_finding chunks array end ≡ None → home array a n ≡ Some c → (d : Chunk) × (home chunks a n ≡ Some d) × (same_chunk c d ≡ true)
+  same_home : (chunks array : List Chunk) (end : ℕ) (c : Chunk) → map_finding chunks array end ≡ None → home array a n ≡ Some c
+      → (d : Chunk) × (home chunks a n ≡ Some d) × (same_chunk c d ≡ true)
   same_home chunks array end c none is =
       let both = joined_none (array_rows chunks array) (rows_by_start [] (by_start chunks) end) none in
       let sorted = by_start chunks in
       let one = (all_each (λ d. holds d ≡ true → home sorted a n ≡ Some d) [] chunks (unique None sorted (chain_of [] sorted end both.1))).1 in
       let mine = found_of array (λ c. list_any (same_chunk c) chunks ≡ true) (array_has chunks array both.0) c is in
       let other = one_of (λ d. holds d ≡ true → home sorted a n ≡ Some d) (same_chunk c) chunks one mine.0 in
-      let first = found (λ d. holds d ≡ true → home sorted a n ≡ Some d) chunks one (any_map (same_chunk c) holds chunks (λ d same. held c d same mine.1) mine.0) in
+      let first =
+      found (λ d. holds d ≡ true → home sorted a n ≡ Some d) chunks one
+      (any_map (same_chunk c) holds chunks (λ d same. held c d same mine.1) mine.0) in
       let same : first.0 ≡ other.0 = some_chunk first.0 other.0 (sym (first.1 first.2) ∙ other.1 (held c other.0 other.2 mine.1)) in
       (other.0, first.3 ∙ ap (λ (d : Chunk). Some d) same, other.2)
     where
@@ -149,7 +162,8 @@ module _ (a n : ℕ) (wide : 0 < n) where
 
   same_placed : (c d : Chunk) (end : ℕ) → same_chunk c d ≡ true → place_in (Some d) a n end ≡ place_in (Some c) a n end
   same_placed c d end same =
-      let parts = five (c.start == d.start) (c.length == d.length) (c.class == d.class) (c.first == d.first) (option_eq nat_eq c.second d.second) same in
+      let parts =
+      five (c.start == d.start) (c.length == d.length) (c.class == d.class) (c.first == d.first) (option_eq nat_eq c.second d.second) same in
       rw (eqb-true c.start d.start parts.0, eqb-true c.first d.first parts.1, seconds c.second d.second parts.2) refl
     where
       five : (p q r s t : Bool) → (p && q && r && s && t) ≡ true → (p ≡ true) × (s ≡ true) × (t ≡ true)
@@ -167,7 +181,8 @@ module _ (a n : ℕ) (wide : 0 < n) where
       seconds (Some x) (Some y) is = ap (λ (k : ℕ). Some k) (eqb-true x y is)
 
 -- what is stored at an address by the array's chunks is stored there by all
-pub same_stored : (image : List ℕ) (chunks array : List Chunk) (n : ℕ) (bytes : List ℕ) (address : ℕ) → 0 < n → map_finding chunks array (length image) ≡ None
+pub same_stored : (image : List ℕ) (chunks array : List Chunk) (n : ℕ) (bytes : List ℕ) (address : ℕ) → 0 < n
+    → map_finding chunks array (length image) ≡ None
     → stored_in image array n address ≡ Ok bytes → stored_in image chunks n address ≡ stored_in image array n address
 unfolding stored_in
 same_stored image chunks array n bytes address wide none is = by (is_multiple address) is
@@ -180,6 +195,7 @@ same_stored image chunks array n bytes address wide none is = by (is_multiple ad
         ap (λ entry. place_in entry address n (length image)) other.1 ∙ same_placed address n wide c other.0 (length image) other.2
 
     by : (b : Bool) → (if b then bytes_at n image (place array address n (length image)) else Err NoPlace) ≡ Ok bytes
-        → (if b then bytes_at n image (place chunks address n (length image)) else Err NoPlace) ≡ (if b then bytes_at n image (place array address n (length image)) else Err NoPlace)
+        → (if b then bytes_at n image (place chunks address n (length image)) else Err NoPlace)
+        ≡ (if b then bytes_at n image (place array address n (length image)) else Err NoPlace)
     by true is = ap (bytes_at n image) (by_home (home array address n) refl is)
     by false is = absurd (cc)

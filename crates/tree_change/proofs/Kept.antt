@@ -41,28 +41,33 @@ abbrev pub IsBounded : Expect → Type 0
 IsBounded v = (is_some v.low || is_none v.high) ≡ true
 
 bounded_children : (P : Expect → Type 0) (of : Expect → Trail) → ((c : Expect) → IsBounded c → Visits P (of c) → Visits IsBounded (of c))
-    → (level : ℕ) (e : Expect) (pointers : List Pointer) → Visits P (trails of (children_of level e pointers)) → Visits IsBounded (trails of (children_of level e pointers))
+    → (level : ℕ) (e : Expect) (pointers : List Pointer) → Visits P (trails of (children_of level e pointers))
+    → Visits IsBounded (trails of (children_of level e pointers))
 bounded_children P of bounded level e [] all = tt
 bounded_children P of bounded level e (pointer ∷ pointers) all =
     let c = child_of level e pointer (high_of pointers e.high) in
     let rest = trails of (children_of level e pointers) in
-    visits_then IsBounded (of c) rest (bounded c refl (visits_then_first P (of c) rest all)) (bounded_children P of bounded level e pointers (visits_then_later P (of c) rest all))
+    visits_then IsBounded (of c) rest (bounded c refl (visits_then_first P (of c) rest all))
+    (bounded_children P of bounded level e pointers (visits_then_later P (of c) rest all))
 
 bounded_block : (P : Expect → Type 0) (below : Expect → List ℕ → Trail) (sup : Super) (stored : Stored) (e : Expect) → IsBounded e
-    → ((bytes : List ℕ) → Visits P (below e bytes) → Visits IsBounded (below e bytes)) → Visits P (trail_and below sup stored e) → Visits IsBounded (trail_and below sup stored e)
+    → ((bytes : List ℕ) → Visits P (below e bytes) → Visits IsBounded (below e bytes)) → Visits P (trail_and below sup stored e)
+    → Visits IsBounded (trail_and below sup stored e)
 bounded_block P below sup stored e here bounded all =
     let a = accepts P below sup stored e all in
     subst (Visits IsBounded) (sym (walk_accepted below sup stored e a))
     (visits_after IsBounded (visit_of e a.bytes a.entries ∷ []) (below e a.bytes) (here, tt) (bounded a.bytes (rest_of P below sup stored e a all)))
 
-bounded_below : (P : Expect → Type 0) (level : ℕ) (sup : Super) (stored : Stored) (e : Expect) (bytes : List ℕ) → Visits P (trail_below level sup stored e bytes) → Visits IsBounded (trail_below level sup stored e bytes)
+bounded_below : (P : Expect → Type 0) (level : ℕ) (sup : Super) (stored : Stored) (e : Expect) (bytes : List ℕ)
+    → Visits P (trail_below level sup stored e bytes) → Visits IsBounded (trail_below level sup stored e bytes)
 unfolding trail_below
 bounded_below P zero sup stored e bytes all = tt
 bounded_below P (suc level) sup stored e bytes all =
     bounded_children P (trail_and (trail_below level sup stored) sup stored)
     (λ c is. bounded_block P (trail_below level sup stored) sup stored c is (bounded_below P level sup stored c)) level e (pointers_of bytes) all
 
-bounded_of : (P : Expect → Type 0) (sup : Super) (stored : Stored) (e : Expect) → IsBounded e → Visits P (trail_of sup stored e) → Visits IsBounded (trail_of sup stored e)
+bounded_of : (P : Expect → Type 0) (sup : Super) (stored : Stored) (e : Expect) → IsBounded e → Visits P (trail_of sup stored e)
+    → Visits IsBounded (trail_of sup stored e)
 bounded_of P sup stored e is all = bounded_block P (trail_below e.level sup stored) sup stored e is (bounded_below P e.level sup stored e) all
 
 -- whether what a table has of a pair is alike to it and not marked
@@ -91,10 +96,12 @@ module _ (sup : Super) (touched : ℕ → Bool) (marked : Marks) (pairs : Pairs)
   abbrev pub OldTree : ℕ → Tree → Type 0
   OldTree id tree = AllByRecursion (OldBlock tree id) (visited sup tree.0 tree.1)
 
-  old_tree : (id : ℕ) (tree : Tree) → Stands pairs sup tree.0 tree.1 → (tree.1.tree ≡ id → AreMarked marked touched sup tree.0 tree.1) → OldTree id tree
+  old_tree : (id : ℕ) (tree : Tree) → Stands pairs sup tree.0 tree.1 → (tree.1.tree ≡ id → AreMarked marked touched sup tree.0 tree.1)
+      → OldTree id tree
   old_tree id tree stands marks =
       let es = visited sup tree.0 tree.1 in
-      let any : Visits (Any sup tree.0) (trail_of sup tree.0 tree.1) = visits_from (Any sup tree.0) sup tree.0 tree.1 (record { fine = stands.each.fine; each = any_each sup tree.0 es }) in
+      let any : Visits (Any sup tree.0) (trail_of sup tree.0 tree.1) =
+      visits_from (Any sup tree.0) sup tree.0 tree.1 (record { fine = stands.each.fine; each = any_each sup tree.0 es }) in
       let below = comes_from (Below (Any sup tree.0) sup tree.0) sup tree.0 tree.1 (within (Any sup tree.0) sup tree.0 tree.1 any) in
       let known = λ (w : Expect). pairs w.tree w.address ≡ Some (live_at sup tree.0 w) in
       let of = λ (w : Expect). w.tree ≡ tree.1.tree in
@@ -109,7 +116,8 @@ module _ (sup : Super) (touched : ℕ → Bool) (marked : Marks) (pairs : Pairs)
 
   -- a block that an old walk comes to is alike to a pair and free of touched ones just where the table's entry is, if it is that entry
   fresh_block : (live : Live) (tree : Tree) (w : Expect) → OldBlock tree live.tree w
-      → is_free touched live sup tree.0 w ≡ (is_at live.tree live.address w && is_fresh (marked live.tree live.address) live (pairs live.tree live.address))
+      → is_free touched live sup tree.0 w
+      ≡ (is_at live.tree live.address w && is_fresh (marked live.tree live.address) live (pairs live.tree live.address))
   fresh_block live tree w b = by (is_at live.tree live.address w) refl
     where
       by : (here : Bool) → is_at live.tree live.address w ≡ here
@@ -118,14 +126,18 @@ module _ (sup : Super) (touched : ℕ → Bool) (marked : Marks) (pairs : Pairs)
           let both = and_parts (w.tree == live.tree) (w.address == live.address) is in
           let same_tree : w.tree ≡ live.tree = eqb-true w.tree live.tree both.0 in
           let same_address : w.address ≡ live.address = eqb-true w.address live.address both.1 in
-          let entry : pairs live.tree live.address ≡ Some (live_at sup tree.0 w) = ap (λ t. pairs t live.address) (sym same_tree) ∙ (ap (pairs w.tree) (sym same_address) ∙ b.known) in
+          let entry : pairs live.tree live.address ≡ Some (live_at sup tree.0 w) =
+          ap (λ t. pairs t live.address) (sym same_tree) ∙ (ap (pairs w.tree) (sym same_address) ∙ b.known) in
           let mark : marked live.tree live.address ≡ comes_to touched sup tree.0 w =
           ap (λ t. marked t live.address) (sym same_tree) ∙ (ap (marked w.tree) (sym same_address) ∙ b.marks (sym b.of ∙ same_tree)) in
           ap (λ m. are_alike (live_at sup tree.0 w) live && not m) (sym mark) ∙ ap (is_fresh (marked live.tree live.address) live) (sym entry)
-      by false is = ap (λ here. (here && (w.level == live.level && (w.generation == live.generation && key_same (first_in (tree.0 w.address)) live.first))) && not (comes_to touched sup tree.0 w)) is
+      by false is =
+          ap (λ here. (here && (w.level == live.level &&
+          (w.generation == live.generation && key_same (first_in (tree.0 w.address)) live.first))) && not (comes_to touched sup tree.0 w)) is
 
   fresh_blocks : (live : Live) (tree : Tree) (es : List Expect) → AllByRecursion (OldBlock tree live.tree) es
-      → list_any (is_free touched live sup tree.0) es ≡ (list_any (is_at live.tree live.address) es && is_fresh (marked live.tree live.address) live (pairs live.tree live.address))
+      → list_any (is_free touched live sup tree.0) es
+      ≡ (list_any (is_at live.tree live.address) es && is_fresh (marked live.tree live.address) live (pairs live.tree live.address))
   fresh_blocks live tree [] all = refl
   fresh_blocks live tree (e ∷ es) all =
       let f = is_fresh (marked live.tree live.address) live (pairs live.tree live.address) in
@@ -159,13 +171,15 @@ table_alike (live ∷ lives) id address one is = by (is_there id address live) i
     some_live : (a b : Live) → Some a ≡ Some b → a ≡ b
     some_live a b is = cc
 
-    by : (b : Bool) → (if b then Some live else table_of lives id address) ≡ Some one → (table_of lives id address ≡ Some one → list_any (are_alike one) lives ≡ true)
+    by : (b : Bool) → (if b then Some live else table_of lives id address) ≡ Some one
+        → (table_of lives id address ≡ Some one → list_any (are_alike one) lives ≡ true)
         → (are_alike one live || list_any (are_alike one) lives) ≡ true
     by true is rest = ap (λ b. b || list_any (are_alike one) lives) (ap (λ x. are_alike one x) (some_live live one is) ∙ alike_itself one)
     by false is rest = or_right (are_alike one live) (list_any (are_alike one) lives) (rest is)
 
 -- where a table that is alike to no pair ..
-if_fresh : (there : Bool) (mark : Bool) (live : Live) (entry : Option Live) → ((one : Live) → entry ≡ Some one → there ≡ true) → (there && is_fresh mark live entry) ≡ is_fresh mark live entry
+if_fresh : (there : Bool) (mark : Bool) (live : Live) (entry : Option Live) → ((one : Live) → entry ≡ Some one → there ≡ true)
+    → (there && is_fresh mark live entry) ≡ is_fresh mark live entry
 if_fresh true mark live entry some = refl
 if_fresh false mark live None some = refl
 if_fresh false mark live (Some one) some = let never : false ≡ true = some one refl in absurd (cc)
@@ -214,9 +228,11 @@ only_if true f same = same refl
 only_if false f same = refl
 
 -- what is alike to the pair of a block that is stored as it was
-alike_there : (a b : Live) → a.tree ≡ b.tree → a.address ≡ b.address → a.first ≡ b.first → are_alike a b ≡ ((b.level == a.level && b.generation == a.generation) && true)
+alike_there : (a b : Live) → a.tree ≡ b.tree → a.address ≡ b.address → a.first ≡ b.first
+    → are_alike a b ≡ ((b.level == a.level && b.generation == a.generation) && true)
 alike_there a b tree address first =
-    let both : (a.tree == b.tree && a.address == b.address) ≡ true = rw (same_there a.tree b.tree tree, same_there a.address b.address address) refl in
+    let both : (a.tree == b.tree && a.address == b.address) ≡ true =
+    rw (same_there a.tree b.tree tree, same_there a.address b.address address) refl in
     ap (λ x. x && (a.level == b.level && (a.generation == b.generation && key_same a.first b.first))) both
     ∙ (ap (λ x. a.level == b.level && (a.generation == b.generation && x)) (ap (key_same a.first) (sym first) ∙ key_itself a.first)
     ∙ turn a.level b.level a.generation b.generation true)
@@ -241,9 +257,12 @@ module _ (old new : Walked) (written : Written) (end : ℕ) (pairs : Pairs) (mar
   new_blocks : Stands (table_of (live_in new.seen)) new.sup stored root → root.high ≡ None → AllByRecursion NewBlock (visited new.sup stored root)
   new_blocks stands high =
       let es = visited new.sup stored root in
-      let any : Visits (Any new.sup stored) (trail_of new.sup stored root) = visits_from (Any new.sup stored) new.sup stored root (record { fine = stands.each.fine; each = any_each new.sup stored es }) in
+      let any : Visits (Any new.sup stored) (trail_of new.sup stored root) =
+      visits_from (Any new.sup stored) new.sup stored root (record { fine = stands.each.fine; each = any_each new.sup stored es }) in
       let below = comes_from (Below (Any new.sup stored) new.sup stored) new.sup stored root (within (Any new.sup stored) new.sup stored root any) in
-      let bound = comes_from IsBounded new.sup stored root (bounded_of (Any new.sup stored) new.sup stored root (or_right (is_some root.low) (is_none root.high) (ap is_none high)) any) in
+      let bound =
+      comes_from IsBounded new.sup stored root
+      (bounded_of (Any new.sup stored) new.sup stored root (or_right (is_some root.low) (is_none root.high) (ap is_none high)) any) in
       let known = λ (v : Expect). table_of (live_in new.seen) v.tree v.address ≡ Some (live_at new.sup stored v) in
       let of = λ (v : Expect). v.tree ≡ root.tree in
       let deep = λ (v : Expect). Below (Any new.sup stored) new.sup stored v in
@@ -254,7 +273,8 @@ module _ (old new : Walked) (written : Written) (end : ℕ) (pairs : Pairs) (mar
       (each_both deep IsBounded es below.each bound.each))
 
   -- a block that is stored as it was is as it is expected where its level and generation are
-  same_block : (was : Stored) (v w : Expect) → NewBlock v → w.tree ≡ v.tree → w.address ≡ v.address → stored v.address ≡ was w.address → Visits (Any old.sup was) (trail_of old.sup was w)
+  same_block : (was : Stored) (v w : Expect) → NewBlock v → w.tree ≡ v.tree → w.address ≡ v.address → stored v.address ≡ was w.address
+      → Visits (Any old.sup was) (trail_of old.sup was w)
       → is_same v (live_at old.sup was w) ≡ are_alike (live_at old.sup was w) (live_at new.sup stored v)
   same_block was v w b tree address same below =
       only_if (v.level == w.level && v.generation == w.generation) (is_first (live_at old.sup was w) v.low v.high)
@@ -264,7 +284,8 @@ module _ (old new : Walked) (written : Written) (end : ℕ) (pairs : Pairs) (mar
       a : Accepts new.sup stored v
       a = accepts (Any new.sup stored) (trail_below v.level new.sup stored) new.sup stored v b.below
 
-      by : (v.level == w.level) ≡ true × (v.generation == w.generation) ≡ true → (low high : Option Key) → v.low ≡ low → v.high ≡ high → (is_some low || is_none high) ≡ true
+      by : (v.level == w.level) ≡ true × (v.generation == w.generation) ≡ true → (low high : Option Key) → v.low ≡ low → v.high ≡ high
+          → (is_some low || is_none high) ≡ true
           → is_first (live_at old.sup was w) low high ≡ true
       by both None None is_low is_high bound = refl
       by both None (Some high) is_low is_high bound = absurd (cc)
@@ -279,7 +300,8 @@ module _ (old new : Walked) (written : Written) (end : ℕ) (pairs : Pairs) (mar
           let first : is_first (live_at old.sup was w) v.low v.high ≡ true =
           (and_parts (v.level == w.level && v.generation == w.generation) (is_first (live_at old.sup was w) v.low v.high)
           (same_from (Any old.sup was) old.sup was v w is (ap is_some is_low) below)).1 in
-          subst (λ h. is_first (live_at old.sup was w) (Some low) h ≡ true) is_high (subst (λ l. is_first (live_at old.sup was w) l v.high ≡ true) is_low first)
+          subst (λ h. is_first (live_at old.sup was w) (Some low) h ≡ true) is_high
+          (subst (λ l. is_first (live_at old.sup was w) l v.high ≡ true) is_low first)
 
   abbrev pub Before : Tree → Type 0
   Before tree = tree.1.tree ≡ root.tree → IsBefore old new written end marked stored tree
@@ -305,12 +327,14 @@ module _ (old new : Walked) (written : Written) (end : ℕ) (pairs : Pairs) (mar
         ∙ (ap (list_any (is_there id address)) (sym (lives_all old.sup trees old.seen apart told)) ∙ table_some (live_in old.seen) id address one is)
 
     fresh : (v : Expect) → NewBlock v
-        → stands_untouched touched old.seen (live_at new.sup stored v) ≡ is_fresh (marked v.tree v.address) (live_at new.sup stored v) (pairs v.tree v.address)
+        → stands_untouched touched old.seen (live_at new.sup stored v)
+        ≡ is_fresh (marked v.tree v.address) (live_at new.sup stored v) (pairs v.tree v.address)
     fresh v b =
         let live = live_at new.sup stored v in
         free_all touched live old.sup trees old.seen apart told
         ∙ (fresh_trees old.sup touched marked table live trees (olds v.tree b.of)
-        ∙ (if_fresh (list_any (comes_there old.sup v.tree v.address) trees) (marked v.tree v.address) live (table v.tree v.address) (there_if v.tree v.address)
+        ∙ (if_fresh (list_any (comes_there old.sup v.tree v.address) trees) (marked v.tree v.address) live (table v.tree v.address)
+        (there_if v.tree v.address)
         ∙ ap (is_fresh (marked v.tree v.address) live) (sym (entry_is v b))))
 
     same_known : (v : Expect) → NewBlock v → (one : Live) → pairs v.tree v.address ≡ Some one → marked v.tree v.address ≡ false
@@ -320,7 +344,8 @@ module _ (old new : Walked) (written : Written) (end : ℕ) (pairs : Pairs) (mar
         let pick = one_of (λ tree. Was v.tree tree × Before tree) (comes_there old.sup v.tree v.address) trees
         (each_both (Was v.tree) Before trees (olds v.tree b.of) before) (there_if v.tree v.address one entry) in
         let tree = pick.0 in
-        let at = one_of (OldBlock old.sup touched marked table tree v.tree) (is_at v.tree v.address) (visited old.sup tree.0 tree.1) pick.1.0 pick.2 in
+        let at =
+        one_of (OldBlock old.sup touched marked table tree v.tree) (is_at v.tree v.address) (visited old.sup tree.0 tree.1) pick.1.0 pick.2 in
         let w = at.0 in
         let known : OldBlock old.sup touched marked table tree v.tree w = at.1 in
         let both = and_parts (w.tree == v.tree) (w.address == v.address) at.2 in
@@ -333,10 +358,13 @@ module _ (old new : Walked) (written : Written) (end : ℕ) (pairs : Pairs) (mar
         here_of (λ x. touched x.address ≡ false) (trail_below w.level old.sup tree.0) old.sup tree.0 w
         (visits_fail (Any old.sup tree.0) (λ x. touched x.address) (trail_of old.sup tree.0 w) known.below
         (sym (visits_any_from (Any old.sup tree.0) touched old.sup tree.0 w known.below) ∙ free)) in
-        let stored_is : stored v.address ≡ tree.0 w.address = ap stored (sym same_address) ∙ was.alike w.address none (ap moved same_address ∙ still) in
+        let stored_is : stored v.address ≡ tree.0 w.address =
+        ap stored (sym same_address) ∙ was.alike w.address none (ap moved same_address ∙ still) in
         let live_is : live_at old.sup tree.0 w ≡ one =
-        some_live (live_at old.sup tree.0 w) one (sym known.known ∙ (ap (λ t. table t w.address) same_tree ∙ (ap (table v.tree) same_address ∙ entry))) in
-        subst (λ l. is_same v l ≡ are_alike l (live_at new.sup stored v)) live_is (same_block tree.0 v w b same_tree same_address stored_is known.below)
+        some_live (live_at old.sup tree.0 w) one
+        (sym known.known ∙ (ap (λ t. table t w.address) same_tree ∙ (ap (table v.tree) same_address ∙ entry))) in
+        subst (λ l. is_same v l ≡ are_alike l (live_at new.sup stored v)) live_is
+        (same_block tree.0 v w b same_tree same_address stored_is known.below)
       where
         some_live : (a b : Live) → Some a ≡ Some b → a ≡ b
         some_live a b is = cc
@@ -346,12 +374,15 @@ module _ (old new : Walked) (written : Written) (end : ℕ) (pairs : Pairs) (mar
     keeps_one v b =
         let live = live_at new.sup stored v in
         let stays = stays_in_place old.chunks new.chunks old.sup.nodesize end v.address in
-        meets v live (under v.tree v.address) (marked v.tree v.address) stays (pairs v.tree v.address) (λ one is mark still. same_known v b one is mark (ap not still))
+        meets v live (under v.tree v.address) (marked v.tree v.address) stays (pairs v.tree v.address)
+        (λ one is mark still. same_known v b one is mark (ap not still))
         ∙ rw (alike, fresh v b, table_alike (live_in new.seen) v.tree v.address live b.known) refl
 
-    keeps_shared : Stands (table_of (live_in new.seen)) new.sup stored root → root.high ≡ None → KeepsShared old new written end pairs marked under stored root
+    keeps_shared : Stands (table_of (live_in new.seen)) new.sup stored root → root.high ≡ None
+        → KeepsShared old new written end pairs marked under stored root
     keeps_shared stands high =
-        each_map NewBlock (λ v. is_some (kept_of pairs marked moved under v) ≡ is_shared old new written end (live_at new.sup stored v)) (visited new.sup stored root)
+        each_map NewBlock (λ v. is_some (kept_of pairs marked moved under v) ≡ is_shared old new written end (live_at new.sup stored v))
+        (visited new.sup stored root)
         (λ v b. keeps_one v b) (new_blocks stands high)
 
 pub keeps_tree : KeptTreeLaw

@@ -102,9 +102,11 @@ named bytes fsid e none =
 abbrev pub IsNarrow : Expect → Type 0
 IsNarrow w = (w.tree < 2 ^ 64) × (w.address < 2 ^ 64)
 
-narrow_tree : (sup : Super) (stored : Stored) (root : Expect) → AreBytes stored → IsOk (walk_of sup stored root) → AllByRecursion IsNarrow (visited sup stored root)
+narrow_tree : (sup : Super) (stored : Stored) (root : Expect) → AreBytes stored → IsOk (walk_of sup stored root)
+    → AllByRecursion IsNarrow (visited sup stored root)
 narrow_tree sup stored root bytes fine =
-    let any : Visits (Any sup stored) (trail_of sup stored root) = visits_from (Any sup stored) sup stored root (record { fine = fine; each = any_each sup stored (visited sup stored root) }) in
+    let any : Visits (Any sup stored) (trail_of sup stored root) =
+    visits_from (Any sup stored) sup stored root (record { fine = fine; each = any_each sup stored (visited sup stored root) }) in
     each_map (Below (Any sup stored) sup stored) IsNarrow (visited sup stored root) (λ w below. block w below)
     (comes_from (Below (Any sup stored) sup stored) sup stored root (within (Any sup stored) sup stored root any)).each
   where
@@ -125,10 +127,12 @@ narrow_trees sup (tree ∷ trees) records bytes is =
     (narrow_tree sup tree.0 tree.1 bytes.0 (rw split.2 refl), narrow_trees sup trees split.1 bytes.1 split.3)
 
 -- the trees of an image of bytes
-trees_bytes : (sup : Super) (array chunks : List Chunk) (roots : List RootItem) (image : List ℕ) → IsBytes image → AllByRecursion (λ tree. AreBytes tree.0) (trees_in sup array chunks roots image)
+trees_bytes : (sup : Super) (array chunks : List Chunk) (roots : List RootItem) (image : List ℕ) → IsBytes image
+    → AllByRecursion (λ tree. AreBytes tree.0) (trees_in sup array chunks roots image)
 trees_bytes sup array chunks roots image h = (stored_bytes image array sup.nodesize h, (stored_bytes image chunks sup.nodesize h, by roots))
   where
-    by : (some : List RootItem) → AllByRecursion (λ (tree : Tree). AreBytes tree.0) (map (λ root. (stored_in image chunks sup.nodesize, named_root root)) some)
+    by : (some : List RootItem)
+        → AllByRecursion (λ (tree : Tree). AreBytes tree.0) (map (λ root. (stored_in image chunks sup.nodesize, named_root root)) some)
     by [] = tt
     by (root ∷ some) = (stored_bytes image chunks sup.nodesize h, by some)
 
@@ -142,7 +146,9 @@ narrow image trees bytes is tree address has = by (table_of (live_in trees.seen)
         let all = trees_in trees.sup trees.chunks trees.chunks s.roots image in
         let walk = trees_walk image trees all (has_trees image trees s is) in
         let there : list_any (comes_there trees.sup tree address) all ≡ true =
-        sym (there_trees trees.sup tree address all) ∙ (ap (list_any (is_there tree address)) (sym (lives_all trees.sup all trees.seen walk.0 walk.1)) ∙ table_some (live_in trees.seen) tree address one entry) in
+        sym (there_trees trees.sup tree address all)
+        ∙ (ap (list_any (is_there tree address)) (sym (lives_all trees.sup all trees.seen walk.0 walk.1))
+        ∙ table_some (live_in trees.seen) tree address one entry) in
         let pick = one_of (λ t. AllByRecursion IsNarrow (visited trees.sup t.0 t.1)) (comes_there trees.sup tree address) all
         (narrow_trees trees.sup all trees.seen (trees_bytes trees.sup trees.chunks trees.chunks s.roots image bytes) walk.1) there in
         let at = one_of IsNarrow (is_at tree address) (visited trees.sup pick.0.0 pick.0.1) pick.1 pick.2 in

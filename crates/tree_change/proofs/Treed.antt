@@ -24,7 +24,7 @@ use Rattle.records.specs.Walk.{then_records, walk_of}
 use Rattle.records.specs.WalkLaw.{StoredAlike, children_in, visited, visited_from}
 use Rattle.records.proofs.Alike.{walk_alike}
 use Rattle.tree_change.specs.LivePairs.{Walked, walked}
-use Rattle.tree_change.specs.SharedLaw.{ChunkTreeLaw, HasTrees, TreesLaw}
+use Rattle.tree_change.specs.SharedLaw.{ChunkTreeLaw, HasTrees, TreesLaw, WalksAlike}
 use Rattle.tree_change.specs.TableLaw.{AreApart, Tree, trees_in}
 use Rattle.tree_change.proofs.Accepted.{accepts}
 use Rattle.tree_change.proofs.ArrayTree.{same_stored}
@@ -69,7 +69,8 @@ nodesize_some image sup is = by (nat_lt (length image) 69632) is
     some zero is = absurd (cc)
     some (suc n) is = omega arith
 
-    by : (b : Bool) → (if b then Err (image_finding S 1 (length image)) else finding_or (first_failing (superblock_rules (range 65536 4096 image))) (superblock_fields (range 65536 4096 image))) ≡ Ok sup → 0 < sup.nodesize
+    by : (b : Bool) → (if b then Err (image_finding S 1 (length image)) else finding_or (first_failing (superblock_rules (range 65536 4096 image)))
+        (superblock_fields (range 65536 4096 image))) ≡ Ok sup → 0 < sup.nodesize
     by true is = absurd (cc)
     by false is =
         let bytes = range 65536 4096 image in
@@ -77,41 +78,50 @@ nodesize_some image sup is = by (nat_lt (length image) 69632) is
         some sup.nodesize (subst (λ (s : Super). is_node_size s.nodesize ≡ true) (sym fine.1) (fields_readable bytes fine.0).nodesize)
 
 -- the rules on its chunk map keep
-map_kept : (sup : Super) (array chunks : List Chunk) (image : List ℕ) → chunk_map_in sup array image ≡ Ok chunks → map_finding chunks array (length image) ≡ None
+map_kept : (sup : Super) (array chunks : List Chunk) (image : List ℕ) → chunk_map_in sup array image ≡ Ok chunks
+    → map_finding chunks array (length image) ≡ None
 unfolding chunk_map_in
 map_kept sup array chunks image is =
-    let held = step_ok (held_after with_chunk [] (chunk_records sup array image)) (λ chunks. and_then (finding_or (map_finding chunks array (length image)) (tt {0})) (λ _. Ok chunks)) chunks is in
+    let held =
+    step_ok (held_after with_chunk [] (chunk_records sup array image))
+    (λ chunks. and_then (finding_or (map_finding chunks array (length image)) (tt {0})) (λ _. Ok chunks)) chunks is in
     let fine = step_ok (finding_or (map_finding held.0 array (length image)) (tt {0})) (λ _. Ok held.0) chunks held.2 in
-    subst (λ cs. map_finding cs array (length image) ≡ None) (ok_chunks held.0 chunks fine.2) (finding_or-ok (map_finding held.0 array (length image)) (tt {0}) fine.0 fine.1).0
+    subst (λ cs. map_finding cs array (length image) ≡ None) (ok_chunks held.0 chunks fine.2)
+    (finding_or-ok (map_finding held.0 array (length image)) (tt {0}) fine.0 fine.1).0
   where
     ok_chunks : (a b : List Chunk) → finding_or {A = List Chunk} None a ≡ Ok b → a ≡ b
     ok_chunks a b is = cc
 
 -- where the same is stored at the address of each block, a walk comes to the same
-alike_split : (stored other : Stored) (first later : List Expect) → StoredAlike stored other (first ++ later) → StoredAlike stored other first × StoredAlike stored other later
+alike_split : (stored other : Stored) (first later : List Expect) → StoredAlike stored other (first ++ later)
+    → StoredAlike stored other first × StoredAlike stored other later
 alike_split stored other [] later alike = (tt, alike)
 alike_split stored other (e ∷ es) later alike =
     let rest = alike_split stored other es later alike.1 in
     ((alike.0, rest.0), rest.1)
 
-block_alike : (stored other : Stored) (fsid : List ℕ) (e : Expect) → other e.address ≡ stored e.address → block_in other fsid e ≡ block_in stored fsid e
+block_alike : (stored other : Stored) (fsid : List ℕ) (e : Expect) → other e.address ≡ stored e.address
+    → block_in other fsid e ≡ block_in stored fsid e
 unfolding block_in
 block_alike stored other fsid e alike = ap (λ found. and_then (found_by e found) (λ bytes. block_of bytes fsid e)) alike
 
-each_visited : (of by : Expect → List Expect) (stored other : Stored) (es : List Expect) → ((e : Expect) → StoredAlike stored other (by e) → of e ≡ by e) → StoredAlike stored other (flat_map by es)
+each_visited : (of by : Expect → List Expect) (stored other : Stored) (es : List Expect)
+    → ((e : Expect) → StoredAlike stored other (by e) → of e ≡ by e) → StoredAlike stored other (flat_map by es)
     → flat_map of es ≡ flat_map by es
 each_visited of by stored other [] same alike = refl
 each_visited of by stored other (e ∷ es) same alike =
     let both = alike_split stored other (by e) (flat_map by es) alike in
     rw (same e both.0, each_visited of by stored other es same both.1) refl
 
-visited_alike : (level : ℕ) (sup : Super) (stored other : Stored) (e : Expect) → StoredAlike stored other (visited_from level sup stored e) → visited_from level sup other e ≡ visited_from level sup stored e
+visited_alike : (level : ℕ) (sup : Super) (stored other : Stored) (e : Expect) → StoredAlike stored other (visited_from level sup stored e)
+    → visited_from level sup other e ≡ visited_from level sup stored e
 unfolding visited_from
 visited_alike zero sup stored other e alike = refl
 visited_alike (suc level) sup stored other e alike =
     ap (λ es. e ∷ es)
     (ap (λ block. flat_map (visited_from level sup other) (children_in level e block)) (block_alike stored other sup.fsid e alike.0)
-    ∙ each_visited (visited_from level sup other) (visited_from level sup stored) stored other (children_in level e (block_in stored sup.fsid e)) (visited_alike level sup stored other) alike.1)
+    ∙ each_visited (visited_from level sup other) (visited_from level sup stored) stored other (children_in level e (block_in stored sup.fsid e))
+    (visited_alike level sup stored other) alike.1)
 
 alike_all : (stored other : Stored) (es : List Expect) → AllByRecursion (λ w. other w.address ≡ stored w.address) es → StoredAlike stored other es
 alike_all stored other [] all = tt
@@ -119,12 +129,15 @@ alike_all stored other (e ∷ es) all = (all.0, alike_all stored other es all.1)
 
 -- the chunk tree of an image, by the array's chunks and by all
 chunk_tree_alike : (image : List ℕ) (whole : Walked) (s : Steps image whole)
-    → StoredAlike (stored_in image s.array whole.sup.nodesize) (stored_in image whole.chunks whole.sup.nodesize) (visited whole.sup (stored_in image s.array whole.sup.nodesize) (chunk_tree_root whole.sup))
+    → StoredAlike (stored_in image s.array whole.sup.nodesize) (stored_in image whole.chunks whole.sup.nodesize)
+    (visited whole.sup (stored_in image s.array whole.sup.nodesize) (chunk_tree_root whole.sup))
 chunk_tree_alike image whole s =
     let sup = whole.sup in
     let root = chunk_tree_root sup in
-    let split = then_ok (walk_of sup stored root) (walks sup (others s.roots)) whole.seen (all_walks sup s.array whole.chunks s.roots image ∙ s.records) in
-    let any : Visits (Any sup stored) (trail_of sup stored root) = visits_from (Any sup stored) sup stored root (record { fine = rw split.2 refl; each = any_each sup stored (visited sup stored root) }) in
+    let split =
+    then_ok (walk_of sup stored root) (walks sup (others s.roots)) whole.seen (all_walks sup s.array whole.chunks s.roots image ∙ s.records) in
+    let any : Visits (Any sup stored) (trail_of sup stored root) =
+    visits_from (Any sup stored) sup stored root (record { fine = rw split.2 refl; each = any_each sup stored (visited sup stored root) }) in
     alike_all stored other (visited sup stored root)
     (each_map (Below (Any sup stored) sup stored) (λ w. other w.address ≡ stored w.address) (visited sup stored root) (λ w below. block w below)
     (comes_from (Below (Any sup stored) sup stored) sup stored root (within (Any sup stored) sup stored root any)).each)
@@ -141,7 +154,8 @@ chunk_tree_alike image whole s =
     block : (w : Expect) → Below (Any whole.sup stored) whole.sup stored w → other w.address ≡ stored w.address
     block w below =
         let a = accepts (Any whole.sup stored) (trail_below w.level whole.sup stored) whole.sup stored w below in
-        same_stored image whole.chunks s.array whole.sup.nodesize a.bytes w.address (nodesize_some image whole.sup s.sup_is) (map_kept whole.sup s.array whole.chunks image s.chunks_are) a.is
+        same_stored image whole.chunks s.array whole.sup.nodesize a.bytes w.address (nodesize_some image whole.sup s.sup_is)
+        (map_kept whole.sup s.array whole.chunks image s.chunks_are) a.is
 
 same_chunks : (place : At) (array : List ℕ) (n : ℕ) (a b : List Chunk) → array_chunks place array n ≡ Ok a → array_chunks place array n ≡ Ok b → a ≡ b
 same_chunks place array n a b x y = cc
@@ -152,15 +166,16 @@ chunk_tree image whole array is arrays =
     let n = whole.sup.nodesize in
     let root = chunk_tree_root whole.sup in
     let alike = chunk_tree_alike image whole s in
-    subst (λ a. (walk_of whole.sup (stored_in image whole.chunks n) root ≡ walk_of whole.sup (stored_in image a n) root)
-    × (visited whole.sup (stored_in image whole.chunks n) root ≡ visited whole.sup (stored_in image a n) root))
-    (same_chunks (array_place whole.sup) whole.sup.array whole.sup.array_size s.array array s.arrays arrays) (
-      walk_alike root.level whole.sup (stored_in image s.array n) (stored_in image whole.chunks n) root alike,
-      visited_alike root.level whole.sup (stored_in image s.array n) (stored_in image whole.chunks n) root alike,
-    )
+    subst (λ a. WalksAlike whole.sup (stored_in image a n) (stored_in image whole.chunks n) root)
+    (same_chunks (array_place whole.sup) whole.sup.array whole.sup.array_size s.array array s.arrays arrays)
+    (record {
+      walk = walk_alike root.level whole.sup (stored_in image s.array n) (stored_in image whole.chunks n) root alike;
+      blocks = visited_alike root.level whole.sup (stored_in image s.array n) (stored_in image whole.chunks n) root alike;
+    })
 
 -- the trees of an image
-pub has_trees : (image : List ℕ) (whole : Walked) (s : Steps image whole) → walked image ≡ Ok whole → HasTrees image whole (trees_in whole.sup whole.chunks whole.chunks s.roots image)
+pub has_trees : (image : List ℕ) (whole : Walked) (s : Steps image whole) → walked image ≡ Ok whole
+    → HasTrees image whole (trees_in whole.sup whole.chunks whole.chunks s.roots image)
 has_trees image whole s is = record { walks = is; roots = s.roots; items = s.items; trees_are = refl }
 
 -- have different ids, and their walks give its records
@@ -175,11 +190,14 @@ trees_walk image whole trees has =
     subst (λ trees. AreApart trees × (walks whole.sup trees ≡ Ok whole.seen)) (sym has.trees_are) (
       all_apart whole.sup whole.chunks whole.chunks has.roots image (roots_are whole.sup whole.chunks image has.roots has.items),
       ap (λ w. then_records w rest) walk ∙ (all_walks whole.sup s.array whole.chunks has.roots image
-          ∙ subst (λ r. all_records whole.sup s.array whole.chunks r image ≡ Ok whole.seen) (same_roots s.roots has.roots s.items has.items) s.records),
+          ∙ subst (λ r. all_records whole.sup s.array whole.chunks r image ≡ Ok whole.seen)
+          (same_roots s.roots has.roots s.items has.items) s.records),
     )
   where
     others : List RootItem → List Tree
-    others roots = (stored_in image whole.chunks whole.sup.nodesize, root_tree_root whole.sup) ∷ map (λ root. (stored_in image whole.chunks whole.sup.nodesize, named_root root)) roots
+    others roots =
+        (stored_in image whole.chunks whole.sup.nodesize, root_tree_root whole.sup) ∷ map
+        (λ root. (stored_in image whole.chunks whole.sup.nodesize, named_root root)) roots
 
     same_roots : (a b : List RootItem) → root_items_in whole.sup whole.chunks image ≡ Ok a → root_items_in whole.sup whole.chunks image ≡ Ok b → a ≡ b
     same_roots a b x y = cc

@@ -54,7 +54,8 @@ where_behind test block (Ok entries) own none is =
     or_nil true = refl
     or_nil false = refl
 
-where_own : (test : ℕ → Bool) (sup : Super) (stored : Stored) (e : Expect) (own : List Seen) → own_of sup stored e ≡ Ok own → list_any (is_block_where test) own ≡ test e.address
+where_own : (test : ℕ → Bool) (sup : Super) (stored : Stored) (e : Expect) (own : List Seen) → own_of sup stored e ≡ Ok own
+    → list_any (is_block_where test) own ≡ test e.address
 unfolding own_records
 where_own test sup stored e own is =
     let read = step_ok (block_in stored sup.fsid e) (own_records sup e) own is in
@@ -75,10 +76,12 @@ where_walk : (test : ℕ → Bool) (sup : Super) (stored : Stored) (e : Expect) 
     → list_any (is_block_where test) records ≡ comes_to test sup stored e
 where_walk test sup stored e records is = by (trail_of sup stored e) (tells sup stored e)
   where
-    by : (trail : Trail) → Tells sup stored trail (walk_of sup stored e) (visited sup stored e) → list_any (is_block_where test) records ≡ comes_to test sup stored e
+    by : (trail : Trail) → Tells sup stored trail (walk_of sup stored e) (visited sup stored e)
+        → list_any (is_block_where test) records ≡ comes_to test sup stored e
     by (Err finding) t = let never : walk_of sup stored e ≡ Err finding = t.0 in absurd (cc)
     by (Ok visits) t =
-        ap (list_any (is_block_where test)) (ok_same records (all_own visits) (sym is ∙ t.0)) ∙ where_all test sup stored visits (visited sup stored e) t.1
+        ap (list_any (is_block_where test)) (ok_same records (all_own visits) (sym is ∙ t.0))
+        ∙ where_all test sup stored visits (visited sup stored e) t.1
 
 module _ (touched : ℕ → Bool) (live : Live) (sup : Super) (stored : Stored) where
   -- whether a block has an alike pair, and neither it nor one below it passes the test
@@ -129,12 +132,14 @@ module _ (touched : ℕ → Bool) (live : Live) (sup : Super) (stored : Stored) 
             ∙ ap (λ x. x || stands rest) (sym (list_any-append (λ (v : Visit). is_free v.e) first later)))));
       }
 
-  free_after : (tree level : ℕ) (visits : List Visit) (later : Trail) → Free tree level visits → FreeAll tree level later → FreeAll tree level (after visits later)
+  free_after : (tree level : ℕ) (visits : List Visit) (later : Trail) → Free tree level visits → FreeAll tree level later
+      → FreeAll tree level (after visits later)
   unfolding after
   free_after tree level visits (Err finding) a b = b
   free_after tree level visits (Ok others) a b = free_append tree level visits others a b
 
-  free_then : (tree level : ℕ) (first later : Trail) → FreeAll tree level first → FreeAll tree level later → FreeAll tree level (then_trail first later)
+  free_then : (tree level : ℕ) (first later : Trail) → FreeAll tree level first → FreeAll tree level later
+      → FreeAll tree level (then_trail first later)
   free_then tree level (Err finding) later a b = a
   free_then tree level (Ok visits) later a b = free_after tree level visits later a b
 
@@ -144,8 +149,10 @@ module _ (touched : ℕ → Bool) (live : Live) (sup : Super) (stored : Stored) 
   abbrev pub from : ℕ → Expect → Trail
   from level = trail_and (trail_below level sup stored) sup stored
 
-  free_children : (tree level : ℕ) → ((c : Expect) → c.tree ≡ tree → c.level ≡ level → Visits (Any sup stored) (from level c) → FreeAll tree level (from level c))
-      → (e : Expect) → e.tree ≡ tree → (pointers : List Pointer) → Visits (Any sup stored) (trails (from level) (children_of level e pointers)) → FreeAll tree level (trails (from level) (children_of level e pointers))
+  free_children : (tree level : ℕ)
+      → ((c : Expect) → c.tree ≡ tree → c.level ≡ level → Visits (Any sup stored) (from level c) → FreeAll tree level (from level c))
+      → (e : Expect) → e.tree ≡ tree → (pointers : List Pointer) → Visits (Any sup stored)
+      (trails (from level) (children_of level e pointers)) → FreeAll tree level (trails (from level) (children_of level e pointers))
   free_children tree level free e at [] all = free_none tree level
   free_children tree level free e at (pointer ∷ pointers) all =
       let c = child_of level e pointer (high_of pointers e.high) in
@@ -155,11 +162,13 @@ module _ (touched : ℕ → Bool) (live : Live) (sup : Super) (stored : Stored) 
 
   free_under : (tree level : ℕ) (trail : Trail) → FreeAll tree level trail → FreeUnderAll tree (suc level) trail
   free_under tree level (Err finding) a = a
-  free_under tree level (Ok visits) a = record { at = under_placed sup stored tree level (Ok visits) a.at; gives = λ rest stops. a.gives rest (stops_less tree level rest stops) }
+  free_under tree level (Ok visits) a =
+      record { at = under_placed sup stored tree level (Ok visits) a.at; gives = λ rest stops. a.gives rest (stops_less tree level rest stops) }
 
   -- a block before what is below it
   free_block : (tree level : ℕ) (e : Expect) → e.tree ≡ tree → e.level ≡ level
-      → ((bytes : List ℕ) → Visits (Any sup stored) (trail_below level sup stored e bytes) → FreeUnderAll tree level (trail_below level sup stored e bytes))
+      → ((bytes : List ℕ) → Visits (Any sup stored) (trail_below level sup stored e bytes) → FreeUnderAll tree level
+      (trail_below level sup stored e bytes))
       → Visits (Any sup stored) (from level e) → FreeAll tree level (from level e)
   unfolding after stands_untouched
   free_block tree level e of_tree at under all =
@@ -170,7 +179,8 @@ module _ (touched : ℕ → Bool) (live : Live) (sup : Super) (stored : Stored) 
       let here : PlacedAll sup stored tree level (from level e) =
       subst (λ n. PlacedAll sup stored tree level (from n e)) at
       (subst (λ n. PlacedAll sup stored tree n (trail_of sup stored e)) at
-      (subst (λ t. PlacedAll sup stored t e.level (trail_of sup stored e)) of_tree (placed sup stored e (subst (λ n. Visits (Any sup stored) (from n e)) (sym at) all)))) in
+      (subst (λ t. PlacedAll sup stored t e.level (trail_of sup stored e)) of_tree
+      (placed sup stored e (subst (λ n. Visits (Any sup stored) (from n e)) (sym at) all)))) in
       subst (FreeAll tree level) (sym walk)
       (by a (trail_below level sup stored e a.bytes) whole (subst (PlacedAll sup stored tree level) walk here)
       (under a.bytes (rest_of (Any sup stored) (trail_below level sup stored) sup stored e a all)))
@@ -183,8 +193,10 @@ module _ (touched : ℕ → Bool) (live : Live) (sup : Super) (stored : Stored) 
           let block = block_at e a.bytes in
           let more = a.entries ++ all_own visits in
           let none : NoBlocks a.entries = entries_none sup e a.bytes a.entries a.has in
-          let inside : Inside tree level more = inside_append tree level a.entries (all_own visits) (inside_none tree level a.entries none) u.at.inside in
-          let inside_e : Inside e.tree e.level more = subst (λ n. Inside e.tree n more) (sym at) (subst (λ t. Inside t level more) (sym of_tree) inside) in
+          let inside : Inside tree level more =
+          inside_append tree level a.entries (all_own visits) (inside_none tree level a.entries none) u.at.inside in
+          let inside_e : Inside e.tree e.level more =
+          subst (λ n. Inside e.tree n more) (sym at) (subst (λ t. Inside t level more) (sym of_tree) inside) in
           let walk : walk_of sup stored e ≡ Ok (BlockSeen block ∷ more) = walk_told sup stored e (visit_of e a.bytes a.entries ∷ visits) is in
           let stop : (rest : List Seen) → Stops tree level rest → Stops e.tree e.level rest =
           λ rest stops. subst (λ n. Stops e.tree n rest) (sym at) (subst (λ t. Stops t level rest) (sym of_tree) stops) in
@@ -194,16 +206,19 @@ module _ (touched : ℕ → Bool) (live : Live) (sup : Super) (stored : Stored) 
                 let has : records_in block (more ++ rest) ≡ more = records_until block more rest inside_e (stop rest stops) in
                 let alike : live_of block (more ++ rest) ≡ live_at sup stored e = live_is sup stored e a visits rest walk has in
                 let meets : at_or_below touched block (more ++ rest) ≡ comes_to touched sup stored e =
-                ap (λ records. touched e.address || list_any (is_block_where touched) records) has ∙ where_walk touched sup stored e (BlockSeen block ∷ more) walk in
+                ap (λ records. touched e.address || list_any (is_block_where touched) records) has
+                ∙ where_walk touched sup stored e (BlockSeen block ∷ more) walk in
                 let behind_is : stands (more ++ rest) ≡ (any_free visits || stands rest) =
-                ap stands (append_append a.entries (all_own visits) rest) ∙ (stands_none a.entries (all_own visits ++ rest) none ∙ u.gives rest stops) in
+                ap stands (append_append a.entries (all_own visits) rest)
+                ∙ (stands_none a.entries (all_own visits ++ rest) none ∙ u.gives rest stops) in
                 ap (λ one. (are_alike one live && not (at_or_below touched block (more ++ rest))) || stands (more ++ rest)) alike
                 ∙ (ap (λ b. (are_alike (live_at sup stored e) live && not b) || stands (more ++ rest)) meets
                 ∙ (ap (λ b. is_free e || b) behind_is
                 ∙ sym (or_assoc (is_free e) (any_free visits) (stands rest))));
           }
 
-  free_below : (tree level : ℕ) (e : Expect) → e.tree ≡ tree → (bytes : List ℕ) → Visits (Any sup stored) (trail_below level sup stored e bytes) → FreeUnderAll tree level (trail_below level sup stored e bytes)
+  free_below : (tree level : ℕ) (e : Expect) → e.tree ≡ tree → (bytes : List ℕ) → Visits (Any sup stored) (trail_below level sup stored e bytes)
+      → FreeUnderAll tree level (trail_below level sup stored e bytes)
   unfolding trail_below
   free_below tree zero e of_tree bytes all = record { at = record { inside = tt; gives = λ rest stops. refl }; gives = λ rest stops. refl }
   free_below tree (suc level) e of_tree bytes all =
@@ -221,7 +236,8 @@ module _ (touched : ℕ → Bool) (live : Live) (sup : Super) (stored : Stored) 
       → stands (records ++ rest) ≡ (list_any is_free (visited sup stored root) || stands rest)
   free_told root records rest is stops =
       let any = visits_from (Any sup stored) sup stored root (record { fine = rw is refl; each = any_each sup stored (visited sup stored root) }) in
-      by (trail_of sup stored root) (tells sup stored root) (free_block root.tree root.level root refl refl (free_below root.tree root.level root refl) any)
+      by (trail_of sup stored root) (tells sup stored root)
+      (free_block root.tree root.level root refl refl (free_below root.tree root.level root refl) any)
     where
       by : (trail : Trail) → Tells sup stored trail (walk_of sup stored root) (visited sup stored root) → FreeAll root.tree root.level trail
           → stands (records ++ rest) ≡ (list_any is_free (visited sup stored root) || stands rest)
@@ -231,12 +247,14 @@ module _ (touched : ℕ → Bool) (live : Live) (sup : Super) (stored : Stored) 
           ∙ (p.gives rest stops ∙ ap (λ b. b || stands rest) (free_matched visits (visited sup stored root) t.1))
 
 -- the records of several trees
-pub free_all : (touched : ℕ → Bool) (live : Live) (sup : Super) (trees : List Tree) (records : List Seen) → AreApart trees → walks sup trees ≡ Ok records
+pub free_all : (touched : ℕ → Bool) (live : Live) (sup : Super) (trees : List Tree) (records : List Seen) → AreApart trees
+    → walks sup trees ≡ Ok records
     → stands_untouched touched records live ≡ list_any (λ tree. list_any (is_free touched live sup tree.0) (visited sup tree.0 tree.1)) trees
 unfolding stands_untouched
 free_all touched live sup [] records apart is = let h : [] ≡ records = cc in sym (ap (λ rs. stands_untouched touched rs live) h)
 free_all touched live sup (tree ∷ trees) records apart is =
     let split = then_ok (walk_of sup tree.0 tree.1) (walks sup trees) records is in
     ap (λ rs. stands_untouched touched rs live) split.4
-    ∙ (free_told touched live sup tree.0 tree.1 split.0 split.1 split.2 (stops_none sup trees split.1 tree.1.tree tree.1.level split.3 (others_after sup tree trees apart.0))
+    ∙ (free_told touched live sup tree.0 tree.1 split.0 split.1 split.2
+    (stops_none sup trees split.1 tree.1.tree tree.1.level split.3 (others_after sup tree trees apart.0))
     ∙ ap (λ b. list_any (is_free touched live sup tree.0) (visited sup tree.0 tree.1) || b) (free_all touched live sup trees split.1 apart.1 split.3))
