@@ -46,7 +46,7 @@ table_first (live ∷ a) b tree address others =
     ap (λ (entry : Option Live). if live.tree == tree && live.address == address then Some live else entry) (table_first a b tree address others)
 
 -- the records of two, where neither has a finding
-then_ok : (first later : Records) (records : List Seen) → then_records first later ≡ Ok records → (a b : List Seen) × (first ≡ Ok a) × (later ≡ Ok b) × (records ≡ a ++ b)
+pub then_ok : (first later : Records) (records : List Seen) → then_records first later ≡ Ok records → (a b : List Seen) × (first ≡ Ok a) × (later ≡ Ok b) × (records ≡ a ++ b)
 unfolding behind
 then_ok (Err finding) later records is = absurd (cc)
 then_ok (Ok a) (Err finding) records is = absurd (cc)
@@ -73,7 +73,7 @@ module _ (sup : Super) where
       comes_from (λ v. v.tree ≡ tree.1.tree) sup tree.0 tree.1
       (of_tree (Any sup tree.0) sup tree.0 tree.1 (visits_from (Any sup tree.0) sup tree.0 tree.1 (record { fine = fine; each = any_each sup tree.0 (visited sup tree.0 tree.1) })))
 
-  of_other : (tree : Tree) (id : ℕ) → IsOk (walk_of sup tree.0 tree.1) → (tree.1.tree == id) ≡ false → OfOthers id (lives_of tree)
+  pub of_other : (tree : Tree) (id : ℕ) → IsOk (walk_of sup tree.0 tree.1) → (tree.1.tree == id) ≡ false → OfOthers id (lives_of tree)
   of_other tree id fine other = by (visited sup tree.0 tree.1) (of_root tree fine).each
     where
       by : (es : List Expect) → AllByRecursion (λ v. v.tree ≡ tree.1.tree) es → OfOthers id (map (live_at sup tree.0) es)
@@ -87,7 +87,7 @@ module _ (sup : Super) where
   other_stops tree (PointerSeen one ∷ records) rest id level t other stops = elim (t.heads [] tt) [ ]
   other_stops tree (ItemSeen one ∷ records) rest id level t other stops = elim (t.heads [] tt) [ ]
 
-  stops_none : (trees : List Tree) (records : List Seen) (id level : ℕ) → walks trees ≡ Ok records → NoneOf id trees → Stops id level records
+  pub stops_none : (trees : List Tree) (records : List Seen) (id level : ℕ) → walks trees ≡ Ok records → NoneOf id trees → Stops id level records
   stops_none [] records id level is none = let h : [] ≡ records = cc in subst (Stops id level) h tt
   stops_none (tree ∷ trees) records id level is none =
       let split = then_ok (walk_of sup tree.0 tree.1) (walks trees) records is in
@@ -95,14 +95,14 @@ module _ (sup : Super) where
       (other_stops tree split.0 split.1 id level (told sup tree.0 tree.1 split.0 split.2) none.0 (stops_none trees split.1 id level split.3 none.1))
 
   -- trees of other ids than a tree
-  others_after : (tree : Tree) (trees : List Tree) → AllByRecursion (λ b. is_other tree b ≡ true) trees → NoneOf tree.1.tree trees
+  pub others_after : (tree : Tree) (trees : List Tree) → AllByRecursion (λ b. is_other tree b ≡ true) trees → NoneOf tree.1.tree trees
   others_after tree [] all = tt
   others_after tree (b ∷ trees) all = (swap tree.1.tree b.1.tree all.0, others_after tree trees all.1)
     where
       swap : (m n : ℕ) → not (m == n) ≡ true → (n == m) ≡ false
       swap m n is = grind (arith, nat_tests)
 
-  lives_all : (trees : List Tree) (records : List Seen) → AreApart trees → walks trees ≡ Ok records → live_in records ≡ all_lives trees
+  pub lives_all : (trees : List Tree) (records : List Seen) → AreApart trees → walks trees ≡ Ok records → live_in records ≡ all_lives trees
   unfolding live_in
   lives_all [] records apart is = let h : [] ≡ records = cc in sym (ap live_in h)
   lives_all (tree ∷ trees) records apart is =
@@ -118,7 +118,7 @@ module _ (sup : Super) where
       others_append id (lives_of tree) (all_lives trees) (of_other tree id (rw split.2 refl) none.0) (others_all trees split.1 id split.3 none.1)
 
   -- a table that is the same for a tree stands for it too
-  stands_as : (tree : Tree) (pairs others : Pairs) → ((address : ℕ) → others tree.1.tree address ≡ pairs tree.1.tree address) → Stands pairs sup tree.0 tree.1 → Stands others sup tree.0 tree.1
+  pub stands_as : (tree : Tree) (pairs others : Pairs) → ((address : ℕ) → others tree.1.tree address ≡ pairs tree.1.tree address) → Stands pairs sup tree.0 tree.1 → Stands others sup tree.0 tree.1
   stands_as tree pairs others same stands = record {
     each = record { fine = stands.each.fine; each = by (visited sup tree.0 tree.1) (of_root tree stands.each.fine).each stands.each.each };
     only = λ address. subst (λ (entry : Option Live). IfSome entry (λ live. OneOf (IsKnown sup tree.0 tree.1.tree address live) (visited sup tree.0 tree.1))) (sym (same address)) (stands.only address);
@@ -129,7 +129,7 @@ module _ (sup : Super) where
       by [] of all = tt
       by (e ∷ es) of all = (ap (λ t. others t e.address) of.0 ∙ (same e.address ∙ (ap (λ t. pairs t e.address) (sym of.0) ∙ all.0)), by es of.1 all.1)
 
-  stand_all : (trees : List Tree) (records : List Seen) → AreApart trees → walks trees ≡ Ok records
+  pub stand_all : (trees : List Tree) (records : List Seen) → AreApart trees → walks trees ≡ Ok records
       → AllByRecursion (λ tree. Stands (table_of (all_lives trees)) sup tree.0 tree.1) trees
   stand_all [] records apart is = tt
   stand_all (tree ∷ trees) records apart is =

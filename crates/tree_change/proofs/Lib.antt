@@ -22,3 +22,10 @@ pub mod Listed
 pub mod Separating
 pub mod Nexting
 pub mod Listing
+pub mod Untouching
+pub mod Picking
+pub mod Treed
+pub mod Narrow
+pub mod Kept
+pub mod KeptImage
+pub mod ArrayTree

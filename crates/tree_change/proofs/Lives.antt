@@ -46,13 +46,13 @@ Stops tree level (BlockSeen one ∷ more) = (not (one.tree == tree) || nat_le le
 Stops tree level (PointerSeen one ∷ more) = ⊥
 Stops tree level (ItemSeen one ∷ more) = ⊥
 
-inside_none : (tree n : ℕ) (records : List Seen) → NoBlocks records → Inside tree n records
+pub inside_none : (tree n : ℕ) (records : List Seen) → NoBlocks records → Inside tree n records
 inside_none tree n [] none = tt
 inside_none tree n (BlockSeen one ∷ more) none = elim none [ ]
 inside_none tree n (PointerSeen one ∷ more) none = inside_none tree n more none
 inside_none tree n (ItemSeen one ∷ more) none = inside_none tree n more none
 
-inside_append : (tree n : ℕ) (first later : List Seen) → Inside tree n first → Inside tree n later → Inside tree n (first ++ later)
+pub inside_append : (tree n : ℕ) (first later : List Seen) → Inside tree n first → Inside tree n later → Inside tree n (first ++ later)
 inside_append tree n [] later a b = b
 inside_append tree n (BlockSeen one ∷ more) later a b = (a.0, inside_append tree n more later a.1 b)
 inside_append tree n (PointerSeen one ∷ more) later a b = inside_append tree n more later a b
@@ -67,7 +67,7 @@ inside_more tree n (BlockSeen one ∷ more) all = ((all.0.0, up one.level all.0.
 inside_more tree n (PointerSeen one ∷ more) all = inside_more tree n more all
 inside_more tree n (ItemSeen one ∷ more) all = inside_more tree n more all
 
-stops_less : (tree level : ℕ) (rest : List Seen) → Stops tree (suc level) rest → Stops tree level rest
+pub stops_less : (tree level : ℕ) (rest : List Seen) → Stops tree (suc level) rest → Stops tree level rest
 stops_less tree level [] stops = tt
 stops_less tree level (BlockSeen one ∷ more) stops = down (one.tree == tree) one.level stops
   where
@@ -78,7 +78,7 @@ stops_less tree level (PointerSeen one ∷ more) stops = elim stops [ ]
 stops_less tree level (ItemSeen one ∷ more) stops = elim stops [ ]
 
 -- what is below a block ends before a block that is not
-records_until : (block : BlockAt) (records rest : List Seen) → Inside block.tree block.level records → Stops block.tree block.level rest → records_in block (records ++ rest) ≡ records
+pub records_until : (block : BlockAt) (records rest : List Seen) → Inside block.tree block.level records → Stops block.tree block.level rest → records_in block (records ++ rest) ≡ records
 unfolding records_in
 records_until block [] [] inside stops = refl
 records_until block [] (BlockSeen one ∷ more) inside stops = rw stops refl
@@ -94,7 +94,7 @@ records_until block (PointerSeen one ∷ records) rest inside stops = ap (λ mor
 records_until block (ItemSeen one ∷ records) rest inside stops = ap (λ more. ItemSeen one ∷ more) (records_until block records rest inside stops)
 
 -- records that are no blocks give no live pairs
-lives_none : (records rest : List Seen) → NoBlocks records → live_in (records ++ rest) ≡ live_in rest
+pub lives_none : (records rest : List Seen) → NoBlocks records → live_in (records ++ rest) ≡ live_in rest
 unfolding live_in
 lives_none [] rest none = refl
 lives_none (BlockSeen one ∷ more) rest none = elim none [ ]
@@ -112,7 +112,7 @@ node_none : (e : Expect) (pointers : List Pointer) → NoBlocks (pointer_records
 node_none e [] = tt
 node_none e (pointer ∷ pointers) = node_none e pointers
 
-entries_none : (sup : Super) (e : Expect) (bytes : List ℕ) (entries : List Seen) → entry_records sup e bytes ≡ Ok entries → NoBlocks entries
+pub entries_none : (sup : Super) (e : Expect) (bytes : List ℕ) (entries : List Seen) → entry_records sup e bytes ≡ Ok entries → NoBlocks entries
 unfolding leaf_records
 entries_none sup e bytes entries is = by (e.level == 0) is
   where
@@ -121,7 +121,7 @@ entries_none sup e bytes entries is = by (e.level == 0) is
     by true is = leaf_none (item_place sup e.tree e.address e.generation) (items_of bytes) entries is
     by false is = let same : pointer_records e (pointers_of bytes) ≡ entries = cc in subst NoBlocks same (node_none e (pointers_of bytes))
 
-append_append : {A : Type 0} (a b c : List A) → (a ++ b) ++ c ≡ a ++ (b ++ c)
+pub append_append : {A : Type 0} (a b c : List A) → (a ++ b) ++ c ≡ a ++ (b ++ c)
 append_append [] b c = refl
 append_append (x ∷ a) b c = ap (λ more. x ∷ more) (append_append a b c)
 
@@ -163,7 +163,7 @@ module _ (sup : Super) (stored : Stored) where
   lives_append [] later = refl
   lives_append (one ∷ first) later = ap (λ more. live_at sup stored one.e ∷ more) (lives_append first later)
 
-  placed_append : (tree level : ℕ) (first later : List Visit) → Placed tree level first → Placed tree level later → Placed tree level (first ++ later)
+  pub placed_append : (tree level : ℕ) (first later : List Visit) → Placed tree level first → Placed tree level later → Placed tree level (first ++ later)
   placed_append tree level first later a b =
       let own : all_own (first ++ later) ≡ all_own first ++ all_own later = all_own_append first later in
       let joined : (rest : List Seen) → all_own (first ++ later) ++ rest ≡ all_own first ++ (all_own later ++ rest) =
@@ -187,7 +187,7 @@ module _ (sup : Super) (stored : Stored) where
   placed_then tree level (Err finding) later a b = a
   placed_then tree level (Ok visits) later a b = placed_after tree level visits later a b
 
-  placed_none : (tree level : ℕ) → Placed tree level []
+  pub placed_none : (tree level : ℕ) → Placed tree level []
   placed_none tree level = record { inside = tt; gives = λ rest stops. refl; heads = λ rest stops. stops }
 
   abbrev pub from : ℕ → Expect → Trail
@@ -202,16 +202,16 @@ module _ (sup : Super) (stored : Stored) where
       placed_then tree level (from level c) rest (placed c at refl (visits_then_first (Any sup stored) (from level c) rest all))
       (placed_children tree level placed e at pointers (visits_then_later (Any sup stored) (from level c) rest all))
 
-  under_placed : (tree level : ℕ) (trail : Trail) → PlacedAll tree level trail → UnderAll tree (suc level) trail
+  pub under_placed : (tree level : ℕ) (trail : Trail) → PlacedAll tree level trail → UnderAll tree (suc level) trail
   under_placed tree level (Err finding) a = a
   under_placed tree level (Ok visits) a = record { inside = a.inside; gives = λ rest stops. a.gives rest (stops_less tree level rest stops) }
 
   -- the walk of a trail
-  walk_told : (e : Expect) (visits : List Visit) → trail_of sup stored e ≡ Ok visits → walk_of sup stored e ≡ Ok (all_own visits)
+  pub walk_told : (e : Expect) (visits : List Visit) → trail_of sup stored e ≡ Ok visits → walk_of sup stored e ≡ Ok (all_own visits)
   walk_told e visits is = (subst (λ trail. Tells sup stored trail (walk_of sup stored e) (visited sup stored e)) is (tells sup stored e)).0
 
   -- the live pair of a block that is accepted
-  live_is : (e : Expect) (a : Accepts sup stored e) (visits : List Visit) (rest : List Seen)
+  pub live_is : (e : Expect) (a : Accepts sup stored e) (visits : List Visit) (rest : List Seen)
       → walk_of sup stored e ≡ Ok (BlockSeen (block_at e a.bytes) ∷ (a.entries ++ all_own visits))
       → records_in (block_at e a.bytes) ((a.entries ++ all_own visits) ++ rest) ≡ a.entries ++ all_own visits
       → live_of (block_at e a.bytes) ((a.entries ++ all_own visits) ++ rest) ≡ live_at sup stored e

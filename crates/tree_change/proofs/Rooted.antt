@@ -40,7 +40,7 @@ use Rattle.tree_change.proofs.Forest.{of_root, tables_stand, walks}
 use Rattle.tree_change.proofs.Lives.{ok_same}
 use Rattle.tree_change.proofs.Trails.{Matches, Tells, Trail, Visit, all_own, tells, trail_of}
 
-step_ok : {A B : Type 0} (step : Result A Finding) (next : A → Result B Finding) (value : B) → and_then step next ≡ Ok value → (a : A) × (step ≡ Ok a) × (next a ≡ Ok value)
+pub step_ok : {A B : Type 0} (step : Result A Finding) (next : A → Result B Finding) (value : B) → and_then step next ≡ Ok value → (a : A) × (step ≡ Ok a) × (next a ≡ Ok value)
 step_ok (Err finding) next value is = absurd (cc)
 step_ok (Ok a) next value is = (a, refl, is)
 
@@ -158,7 +158,7 @@ fold_fits (PointerSeen one ∷ records) held all has = fold_fits records held al
 fold_fits (ItemSeen one ∷ records) held all has = fold_fits records (with_root held (ItemSeen one)) all.1 (part_fits held one one.part all.0 has)
 
 -- an id that no root item has is that of none
-other_id : (n id : ℕ) → ((features : ℕ) → is_root_id features n ≡ false) → ((features : ℕ) × (is_root_id features id ≡ true)) → not (n == id) ≡ true
+pub other_id : (n id : ℕ) → ((features : ℕ) → is_root_id features n ≡ false) → ((features : ℕ) × (is_root_id features id ≡ true)) → not (n == id) ≡ true
 other_id n id none is = by (n == id) refl
   where
     by : (b : Bool) → (n == id) ≡ b → not b ≡ true
@@ -231,7 +231,7 @@ ok_of : (a b : List RootItem) → finding_or {A = List RootItem} None a ≡ Ok b
 ok_of a b is = cc
 
 -- root items have ids that one may have, and no two the same
-roots_are : (sup : Super) (chunks : List Chunk) (image : List ℕ) (roots : List RootItem) → root_items_in sup chunks image ≡ Ok roots → (repeated_after [] roots ≡ None) × AllByRecursion HasRootId roots
+pub roots_are : (sup : Super) (chunks : List Chunk) (image : List ℕ) (roots : List RootItem) → root_items_in sup chunks image ≡ Ok roots → (repeated_after [] roots ≡ None) × AllByRecursion HasRootId roots
 unfolding root_items_in roots_fault walk_in
 roots_are sup chunks image roots is =
     let held = step_ok (held_after with_root [] (root_records sup chunks image)) (λ roots. and_then (finding_or (roots_fault sup.compat_ro roots) (tt {0})) (λ _. Ok roots)) roots is in
@@ -254,12 +254,12 @@ roots_are sup chunks image roots is =
 ok_lists : (a b : List Chunk) → finding_or {A = List Chunk} None a ≡ Ok b → a ≡ b
 ok_lists a b is = cc
 
-all_walks : (sup : Super) (array chunks : List Chunk) (roots : List RootItem) (image : List ℕ) → walks sup (trees_in sup array chunks roots image) ≡ all_records sup array chunks roots image
+pub all_walks : (sup : Super) (array chunks : List Chunk) (roots : List RootItem) (image : List ℕ) → walks sup (trees_in sup array chunks roots image) ≡ all_records sup array chunks roots image
 unfolding all_records walk_in
 all_walks sup array chunks roots image = rw (named_walks (stored_in image chunks sup.nodesize) sup chunks image refl roots) refl
 
 -- of the trees of an image no two have one id
-all_apart : (sup : Super) (array chunks : List Chunk) (roots : List RootItem) (image : List ℕ) → (repeated_after [] roots ≡ None) × AllByRecursion HasRootId roots → AreApart (trees_in sup array chunks roots image)
+pub all_apart : (sup : Super) (array chunks : List Chunk) (roots : List RootItem) (image : List ℕ) → (repeated_after [] roots ≡ None) × AllByRecursion HasRootId roots → AreApart (trees_in sup array chunks roots image)
 all_apart sup array chunks roots image are =
     let stored = stored_in image chunks sup.nodesize in (
       (refl, named_other stored (stored_in image array sup.nodesize, chunk_tree_root sup) (λ features. refl) roots are.1),

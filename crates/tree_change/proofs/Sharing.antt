@@ -84,7 +84,7 @@ neither true b is = absurd (cc)
 neither false b is = (refl, is)
 
 -- the first key of a block that is accepted
-header_kept : (bytes fsid : List ℕ) (e : Expect) → block_fault bytes fsid e ≡ None → first_failing (header_rules bytes fsid e) ≡ None
+pub header_kept : (bytes fsid : List ℕ) (e : Expect) → block_fault bytes fsid e ≡ None → first_failing (header_rules bytes fsid e) ≡ None
 unfolding block_fault
 header_kept bytes fsid e none = (joined_none (header_rules bytes fsid e) _ none).0
 
@@ -98,7 +98,7 @@ same_sym : (a b : Key) → key_same a b ≡ true → key_same b a ≡ true
 same_sym a b same = grind (arith, common_steps)
 
 -- what is expected is what was visited where the test says so
-same_from : (P : Expect → Type 0) (sup : Super) (old : Stored) (e v : Expect) → IsSame old e v → is_some e.low ≡ true → Visits P (trail_of sup old v) → is_same e (live_at sup old v) ≡ true
+pub same_from : (P : Expect → Type 0) (sup : Super) (old : Stored) (e v : Expect) → IsSame old e v → is_some e.low ≡ true → Visits P (trail_of sup old v) → is_same e (live_at sup old v) ≡ true
 same_from P sup old e v same child all =
     and_true (e.level == v.level && e.generation == v.generation) (is_first (live_at sup old v) e.low e.high)
     (and_true (e.level == v.level) (e.generation == v.generation) (rw same.block.level (itself v.level)) (rw same.block.generation (itself v.generation)))

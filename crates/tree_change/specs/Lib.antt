@@ -12,3 +12,5 @@ pub mod ImageLaw
 pub mod Listed
 pub mod Listing
 pub mod TableLaw
+pub mod SharedLaw
+pub mod NarrowLaw

@@ -4,6 +4,8 @@ ghost use Rattle.tree_change.specs.ImageLaw.{ReadAlikeLaw, StoredAlikeLaw};
 ghost use Rattle.tree_change.specs.Keeping.{KeepingLaw};
 ghost use Rattle.tree_change.specs.Listed.{ListingLaw};
 ghost use Rattle.tree_change.specs.Marking.{MarkingLaw};
+ghost use Rattle.tree_change.specs.NarrowLaw.{NarrowLaw};
+ghost use Rattle.tree_change.specs.SharedLaw.{ChunkTreeLaw, KeptLaw, KeptTreeLaw, TreesLaw};
 ghost use Rattle.tree_change.specs.SkipLaw.{SkippingLaw, WalkIsOwn};
 ghost use Rattle.tree_change.specs.TableLaw.{LivesLaw, TableLaw, TablesLaw, TreeTableLaw};
 
@@ -71,4 +73,32 @@ pub fn tables_law()
 /// tree comes to an address twice, and no two trees have one id. No account is needed.
 pub fn table_law()
     ensures { TableLaw }
+{}
+
+/// Of the blocks that a new tree's walk comes to, just those are kept whose pair is shared, where the table is that of the
+/// old pairs, and just those of the old tree's blocks are marked that writes touch or that are above a touched one.
+pub fn kept_tree_law()
+    ensures { KeptTreeLaw }
+{}
+
+/// The same of each tree of the image that pending writes make of another: the marks alone have to be right.
+pub fn kept_law()
+    ensures { KeptLaw }
+{}
+
+/// The chunk tree of an image, which is read by the chunks of the system array, is the same where it is read by all
+/// chunks.
+pub fn chunk_tree_law()
+    ensures { ChunkTreeLaw }
+{}
+
+/// The trees of an image, all read by its chunks, have different ids, and their walks give the image's records.
+pub fn trees_law()
+    ensures { TreesLaw }
+{}
+
+/// The ids of trees and the addresses of an image's live pairs have 64 bits, where its walks have no finding: the headers
+/// of the blocks name them.
+pub fn narrow_law()
+    ensures { NarrowLaw }
 {}
