@@ -5,6 +5,7 @@
 mod cursor;
 mod files;
 mod index;
+mod judge;
 mod kept;
 mod meeting;
 mod places;
