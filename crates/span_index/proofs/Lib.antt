@@ -10,3 +10,5 @@ pub mod SumLaws
 pub mod ListLaws
 pub mod WalkLaws
 pub mod SectorLaws
+pub mod JudgeLaws
+pub mod RunLaws

@@ -7,3 +7,4 @@ pub mod Table
 pub mod Reach
 pub mod Sweep
 pub mod Walks
+pub mod Judging

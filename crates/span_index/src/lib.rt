@@ -5,6 +5,9 @@
 mod cursor;
 mod files;
 mod index;
+mod judge;
+#[cfg(test)]
+mod judge_tests;
 mod kept;
 mod meeting;
 mod places;
