@@ -225,13 +225,13 @@ fault_here rs rest f k fresh few (inr h) =
     in_front rs rest h.0 [] (Fault f k) fresh h.1 (records_end rs.limit rs.whole h.0 (Fault f k) h.2 few)
 
 pub meets : (rs new : ReaderState) (rest : List ℕ) (f : TraceFault) (after : Option (List ℕ)) → IsOfBytes f → Tells rs rest (Err f) new after → MeetsEnding rs rest (Fault f new.number)
-meets rs new rest BadHeader after h told = told
-meets rs new rest BadTag after h told = told
-meets rs new rest BadLength after h told = told
-meets rs new rest Truncated after h told = told
+meets rs new rest BadHeader after h told = told.of_all
+meets rs new rest BadTag after h told = told.of_all
+meets rs new rest BadLength after h told = told.of_all
+meets rs new rest Truncated after h told = told.of_all
 meets rs new rest ReadFault after h told = absurd h
 meets rs new rest NoMemory after h told = absurd h
-meets rs new rest TooMany after h told = told
+meets rs new rest TooMany after h told = told.of_all
 
 -- at a fault of the trace's bytes
 pub going_fault : (w : Style) (first : MachineState) (bytes kept : List ℕ) (rs new : ReaderState) (t : Counts) (checker : Checker) (disk left left' sink sink' : Option (List ℕ)) (status place : ℕ) (f : TraceFault)

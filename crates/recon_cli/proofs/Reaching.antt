@@ -14,7 +14,7 @@ use Rattle.trace_reader.specs.declared.fault.TraceFault.{TraceFault}
 use Rattle.trace_reader.specs.declared.fault.TraceFault.TheVariants.{BadHeader, BadTag, BadLength, Truncated, ReadFault, NoMemory, TooMany}
 use Rattle.trace_reader.specs.declared.reader.Item.TheVariants.{Event as an_event, End as the_end}
 use Rattle.trace_reader.specs.Reader.{ReaderState}
-use Rattle.trace_reader.specs.Reading.{first_state as reader_start, after_event, MeetsEnding, TakesEvent, TakesEnd, TakesLess, Tells}
+use Rattle.trace_reader.specs.Reading.{first_state as reader_start, after_event, MeetsEnding, TakesEvent, TakesEnd, TakesLess, TakesWith, Tells, front_of}
 use Rattle.trace_reader.specs.Trace.{EndsAs, Ending, End, Fault, HeaderEnds, IsSpelled, IsTrace, header_bytes, spelling_of, spelling_of_all}
 use Rattle.recon_cli.specs.declared.lines.Style.{Style}
 use Rattle.recon_cli.specs.declared.counts.Counts.{Counts}
@@ -24,7 +24,7 @@ use Rattle.recon_cli.specs.Outcome.{answer_text, counts_after, ended, is_settle,
 use Rattle.recon_cli.specs.Run.{GoesOn, IsOfBytes, record_limit}
 use Rattle.recon_cli.specs.Stopped.{HasFront, HasTaken, HoldsAfter, StopsBetween, StopsFrom, judged_in, lines_of, state_after}
 use Rattle.recon_cli.specs.Stopping.{FaultStops, IsCutPrint, TurnStops}
-use Rattle.recon_cli.proofs.Going.{meets, told_at}
+use Rattle.recon_cli.proofs.Going.{told_at}
 
 -- one event more
 
@@ -197,6 +197,18 @@ far_less w first bytes kept rs t checker disk left left' sink k far less = recor
   device = far.image;
 }
 
+-- no record more, and how the trace ends
+far_ended : (w : Style) (first : MachineState) (bytes kept : List ℕ) (rs : ReaderState) (t : Counts) (checker : Checker) (disk left left' sink : Option (List ℕ)) (ending : Ending)
+    → (far : Far w first bytes kept rs t checker disk left sink) → TakesWith (λ b. MeetsEnding rs b ending) far.rest left' → HasTaken bytes left' far.done
+far_ended w first bytes kept rs t checker disk left left' sink ending far takes = record {
+  taken = gone_of rs.at_header far.done ++ takes.taken;
+  rest = takes.rest;
+  parts = far.parts ∙ ap (λ x. gone_of rs.at_header far.done ++ x) takes.parts ∙ sym (append_assoc (gone_of rs.at_header far.done) takes.taken takes.rest);
+  left_is = takes.left;
+  ending = ending;
+  spelled = far_trace w first bytes kept rs t checker disk left sink takes.taken ending far takes.of_taken;
+}
+
 -- one record more, whole
 far_taken : (w : Style) (first : MachineState) (bytes kept : List ℕ) (rs : ReaderState) (t : Counts) (checker : Checker) (disk left left' sink : Option (List ℕ)) (e : Event)
     → (far : Far w first bytes kept rs t checker disk left sink) → TakesEvent rs far.rest e left' → HasTaken bytes left' (far.done ++ e ∷ [])
@@ -257,29 +269,31 @@ far_turn w first bytes kept rs new t checker disk disk' left left' sink sink' pl
 
 -- the last line was not printed
 last_stops : (w : Style) (first : MachineState) (bytes kept : List ℕ) (done : List Event) (ending : Ending) (cause : RunFault) (disk left sink sink' : Option (List ℕ))
-    → IsTrace record_limit bytes done ending → HoldsAfter first done disk → sink ≡ Some (kept ++ lines_of w first no_counts done)
+    → HasTaken bytes left done → IsTrace record_limit bytes done ending → HoldsAfter first done disk → sink ≡ Some (kept ++ lines_of w first no_counts done)
     → IsCutPrint sink (ended w (state_after first done) (judged_in first no_counts done) ending).text cause sink'
     → StopsFrom w first bytes kept cause disk left sink'
-last_stops w first bytes kept done ending Device disk left sink sink' spelled device printed cut = absurd cut
-last_stops w first bytes kept done ending Trace disk left sink sink' spelled device printed cut = absurd cut
-last_stops w first bytes kept done ending Lines disk left sink sink' spelled device printed cut =
+last_stops w first bytes kept done ending Device disk left sink sink' taken spelled device printed cut = absurd cut
+last_stops w first bytes kept done ending Trace disk left sink sink' taken spelled device printed cut = absurd cut
+last_stops w first bytes kept done ending Lines disk left sink sink' taken spelled device printed cut =
     inr (record {
       events = done;
       ending = ending;
+      taken = taken;
       spelled = spelled;
       device = device;
       line = subst (λ o. MayBeAppended o (ended w (state_after first done) (judged_in first no_counts done) ending).text sink') printed cut;
     })
-last_stops w first bytes kept done ending Memory disk left sink sink' spelled device printed cut =
-    inr (inr (record { events = done; ending = ending; spelled = spelled; lines = cut ∙ printed; device = device }))
+last_stops w first bytes kept done ending Memory disk left sink sink' taken spelled device printed cut =
+    inr (inr (record { events = done; ending = ending; taken = taken; spelled = spelled; lines = cut ∙ printed; device = device }))
 
 far_last : (w : Style) (first : MachineState) (bytes kept : List ℕ) (rs : ReaderState) (t : Counts) (checker : Checker) (disk left left' sink sink' : Option (List ℕ)) (ending : Ending) (cause : RunFault)
-    → (far : Far w first bytes kept rs t checker disk left sink) → MeetsEnding rs far.rest ending
+    → (far : Far w first bytes kept rs t checker disk left sink) → TakesWith (λ b. MeetsEnding rs b ending) far.rest left'
     → IsCutPrint sink (ended w (state_after first far.done) t ending).text cause sink'
     → StopsFrom w first bytes kept cause disk left' sink'
-far_last w first bytes kept rs t checker disk left left' sink sink' ending cause far meets_it cut =
+far_last w first bytes kept rs t checker disk left left' sink sink' ending cause far takes cut =
     last_stops w first bytes kept far.done ending cause disk left' sink sink'
-    (subst (λ b. IsTrace record_limit b far.done ending) (sym far.parts) (far_trace w first bytes kept rs t checker disk left sink far.rest ending far meets_it))
+    (far_ended w first bytes kept rs t checker disk left left' sink ending far takes)
+    (subst (λ b. IsTrace record_limit b far.done ending) (sym far.parts) (far_trace w first bytes kept rs t checker disk left sink far.rest ending far takes.of_all))
     far.image far.printed (subst (λ u. IsCutPrint sink (ended w (state_after first far.done) u ending).text cause sink') far.counts cut)
 
 -- at the end tag
@@ -290,7 +304,17 @@ pub far_end : (w : Style) (first : MachineState) (bytes kept : List ℕ) (rs new
     → StopsFrom w first bytes kept cause disk left' sink'
 far_end w first bytes kept rs new t checker disk left left' sink sink' cause far told cut =
     let takes : TakesEnd rs far.rest left' = told_at rs new left left' far.rest (Ok the_end) far.left_is told in
-    far_last w first bytes kept rs t checker disk left left' sink sink' End cause far (inr (255 ∷ takes.rest, takes.taken, refl)) cut
+    far_last w first bytes kept rs t checker disk left left' sink sink' End cause far (tag_taken takes) cut
+  where
+    tag_taken : TakesEnd rs far.rest left' → TakesWith (λ b. MeetsEnding rs b End) far.rest left'
+    tag_taken takes = record {
+      taken = front_of rs ++ 255 ∷ [];
+      rest = takes.rest;
+      parts = takes.taken ∙ sym (append_assoc (front_of rs) (255 ∷ []) takes.rest);
+      left = takes.left;
+      of_all = inr (255 ∷ takes.rest, takes.taken, refl);
+      of_taken = inr (255 ∷ [], refl, refl);
+    }
 
 -- at a fault of the trace
 pub far_fault : (w : Style) (first : MachineState) (bytes kept : List ℕ) (rs new : ReaderState) (t : Counts) (checker : Checker) (disk left left' sink sink' : Option (List ℕ)) (place : ℕ) (f : TraceFault) (cause : RunFault)
@@ -303,19 +327,19 @@ far_fault w first bytes kept rs new t checker disk left left' sink sink' place f
     between : (sink' ≡ sink) → TakesLess rs far.rest new.number left' → StopsBetween w first bytes kept disk left' sink'
     between same less = subst (StopsBetween w first bytes kept disk left') (sym same) (far_less w first bytes kept rs t checker disk left left' sink new.number far less)
 
-    bytes_fault : (g : TraceFault) → IsOfBytes g → Tells rs far.rest (Err g) new left' → IsCutPrint sink (ended w (state_after first far.done) t (Fault g place)).text cause sink'
+    bytes_fault : (g : TraceFault) → TakesWith (λ b. MeetsEnding rs b (Fault g new.number)) far.rest left' → IsCutPrint sink (ended w (state_after first far.done) t (Fault g place)).text cause sink'
         → StopsFrom w first bytes kept cause disk left' sink'
-    bytes_fault g ofbytes said cut =
+    bytes_fault g said cut =
         far_last w first bytes kept rs t checker disk left left' sink sink' (Fault g place) cause far
-        (subst (λ k. MeetsEnding rs far.rest (Fault g k)) (sym at) (meets rs new far.rest g left' ofbytes said)) cut
+        (subst (λ k. TakesWith (λ b. MeetsEnding rs b (Fault g k)) far.rest left') (sym at) said) cut
 
     by : (g : TraceFault) → Tells rs far.rest (Err g) new left' → FaultStops g sink (ended w (state_after first far.done) t (Fault g place)).text cause sink'
         → StopsFrom w first bytes kept cause disk left' sink'
-    by BadHeader said h = bytes_fault BadHeader tt said h
-    by BadTag said h = bytes_fault BadTag tt said h
-    by BadLength said h = bytes_fault BadLength tt said h
-    by Truncated said h = bytes_fault Truncated tt said h
-    by TooMany said h = bytes_fault TooMany tt said h
+    by BadHeader said h = bytes_fault BadHeader said h
+    by BadTag said h = bytes_fault BadTag said h
+    by BadLength said h = bytes_fault BadLength said h
+    by Truncated said h = bytes_fault Truncated said h
+    by TooMany said h = bytes_fault TooMany said h
     by ReadFault said h = subst (λ c. StopsFrom w first bytes kept c disk left' sink') (sym h.0) (between h.1 said)
     by NoMemory said h = subst (λ c. StopsFrom w first bytes kept c disk left' sink') (sym h.0) (inl (between h.1 said.0))
 

@@ -66,10 +66,12 @@ pub record StopsAtLine (style : Style) (first : MachineState) (trace kept : List
       (HoldsAfter first (before ++ event ∷ []) disk
       × HasFront text (answer_text style t (begin_of event) (is_settle event) (machine_step s event).answer) sink)
 
--- the last line was not printed whole: the summary, or the line of the trace's fault. The events are all that the trace holds.
-pub record StopsAtLast (style : Style) (first : MachineState) (trace kept : List ℕ) (disk sink : Option (List ℕ)) : Type 0 where
+-- the last line was not printed whole: the summary, or the line of the trace's fault. The events are all that the trace holds, and all
+-- of them were taken.
+pub record StopsAtLast (style : Style) (first : MachineState) (trace kept : List ℕ) (disk left sink : Option (List ℕ)) : Type 0 where
   pub events : List Event
   pub ending : Ending
+  pub taken : HasTaken trace left events
   pub spelled : IsTrace record_limit trace events ending
   pub device : HoldsAfter first events disk
   pub line : HasFront (kept ++ lines_of style first no_counts events) (ended style (state_after first events) (judged_in first no_counts events) ending).text sink
@@ -90,9 +92,10 @@ pub record StopsBetween (style : Style) (first : MachineState) (trace kept : Lis
   pub device : HoldsAfter first events disk
 
 -- all that the trace holds was taken, and memory was out for the last line
-pub record StopsBeforeLast (style : Style) (first : MachineState) (trace kept : List ℕ) (disk sink : Option (List ℕ)) : Type 0 where
+pub record StopsBeforeLast (style : Style) (first : MachineState) (trace kept : List ℕ) (disk left sink : Option (List ℕ)) : Type 0 where
   pub events : List Event
   pub ending : Ending
+  pub taken : HasTaken trace left events
   pub spelled : IsTrace record_limit trace events ending
   pub lines : sink ≡ Some (kept ++ lines_of style first no_counts events)
   pub device : HoldsAfter first events disk
@@ -104,11 +107,11 @@ StopsFrom style first trace kept Device disk left sink =
     StopsInEvent style first trace kept (λ before event. IsSomeAnd disk (IsStopImage (state_after first before) event)) left sink
 StopsFrom style first trace kept Trace disk left sink = StopsBetween style first trace kept disk left sink
 StopsFrom style first trace kept Lines disk left sink =
-    StopsAtLine style first trace kept disk left sink ⊎ StopsAtLast style first trace kept disk sink
+    StopsAtLine style first trace kept disk left sink ⊎ StopsAtLast style first trace kept disk left sink
 StopsFrom style first trace kept Memory disk left sink =
     StopsBetween style first trace kept disk left sink
     ⊎ StopsInEvent style first trace kept (λ before event. HoldsAfter first before disk ⊎ HoldsAfter first (before ++ event ∷ []) disk) left sink
-    ⊎ StopsBeforeLast style first trace kept disk sink
+    ⊎ StopsBeforeLast style first trace kept disk left sink
 
 -- the line of an image that the full check accepts or not
 abbrev pub image_line : Style → Verdict → List ℕ

@@ -1,6 +1,6 @@
 -- One more call of a source, while a piece is filled.
 use Rattle.std.proofs.Common.{◌≡◌, ℕ, ◌+◌, ◌-◌, ◌≤◌, ◌<◌, List, ◌++◌, length, get_or, take, drop, Option, Some, None, IfSome, refl, sym, ap, ◌∙◌, subst, false, true, inr, length-append, append_assoc, arith}
-use Rattle.std.proofs.lemmas.List.{take-append-drop, take-append-le, length-take-le}
+use Rattle.std.proofs.lemmas.List.{take-append-drop, take-append-le, length-take-le, take_all}
 use Rattle.std.proofs.Math.Seq.{take-append-add, take-append_seam}
 use borrow.Rule.Slice.PartMut.{put_mid, post_of}
 use Rattle.std.proofs.lemmas.Slice.Eq.{slice_eq-Decides}
@@ -11,6 +11,7 @@ use Rattle.recon_disk.specs.Outside.{Gives}
 use Rattle.std.proofs.lemmas.List.Elements.{All-from_get_or}
 use Rattle.trace_reader.specs.declared.fault.TraceFault.TheVariants.{BadHeader}
 use Rattle.trace_reader.specs.Trace.{IsBytes, HeaderEnds, header_bytes, Fault}
+use Rattle.trace_reader.specs.Reading.{TakesWith}
 use Rattle.trace_reader.specs.Pieces.{Takes, TakesBytes}
 
 take-seam : (a b : List ℕ) (m n : ℕ) → length a ≡ m → take (m + n) (a ++ b) ≡ a ++ take n b
@@ -70,16 +71,24 @@ bytes_read (Some bytes) after len n piece items held e k size lawful t =
     subst P (sym same) (record { takes = t; size = size; lawful = lawful })
 
 other_front : (piece bytes : List ℕ) (after : Option (List ℕ)) → length piece ≡ 16 → false ≡ pointwise eqb piece header_bytes
-    → Takes piece bytes after → HeaderEnds bytes (Fault BadHeader 0)
+    → Takes piece bytes after → TakesWith (λ b. HeaderEnds b (Fault BadHeader 0)) bytes after
 other_front piece bytes after size differs t =
     let d = slice_eq-Decides {E = eqb} Decides-eqb piece header_bytes false differs in
     let first : take 16 bytes ≡ piece =
     ap (take 16) t.parts ∙ ap (λ (m : ℕ). take m (piece ++ t.rest)) (sym size) ∙ take-append_seam piece t.rest in
     let all : length bytes ≡ length piece + length t.rest = ap length t.parts ∙ length-append piece t.rest in
-    inr (omega arith, λ e. let q : false ≡ true = d.1 (sym first ∙ e) in cc, refl)
+    let alone : take 16 piece ≡ piece = take_all 16 piece (omega arith) in
+    record {
+      taken = piece;
+      rest = t.rest;
+      parts = t.parts;
+      left = t.left;
+      of_all = inr (omega arith, λ e. let q : false ≡ true = d.1 (sym first ∙ e) in cc, refl);
+      of_taken = inr (omega arith, λ e. let q : false ≡ true = d.1 (sym alone ∙ e) in cc, refl);
+    }
 
 -- another header was taken
 pub other_header : (start after : Option (List ℕ)) (piece : List ℕ) → length piece ≡ 16 → false ≡ pointwise eqb piece header_bytes
-    → IfSome start (λ bytes. Takes piece bytes after) → IfSome start (λ bytes. HeaderEnds bytes (Fault BadHeader 0))
+    → IfSome start (λ bytes. Takes piece bytes after) → IfSome start (λ bytes. TakesWith (λ b. HeaderEnds b (Fault BadHeader 0)) bytes after)
 other_header None after piece size differs t = tt
 other_header (Some bytes) after piece size differs t = other_front piece bytes after size differs t

@@ -7,8 +7,20 @@ use Rattle.verdict.specs.declared.machine.Event.TheVariants.{Write, Fetch}
 use Rattle.trace_reader.specs.declared.fault.TraceFault.{TraceFault}
 use Rattle.trace_reader.specs.declared.fault.TraceFault.TheVariants.{BadHeader, BadTag, BadLength, Truncated, ReadFault, NoMemory, TooMany}
 use Rattle.trace_reader.specs.Trace.{IsBytes, IsWriteLength, IsFetchLength, write_length, fetch_length, IsCut, HasBadLength, spelling_of}
+use Rattle.trace_reader.specs.Reading.{TakesWith}
 use Rattle.trace_reader.specs.Pieces.{Takes, TakesBytes, TakesRecord, Fills, ReadsBytes, ReadsEvent}
 use Rattle.trace_reader.proofs.Spelling.{field-append, write_spelled, write_lawful, fetch_spelled, fetch_lawful}
+
+-- all of the bytes were taken
+pub all_taken : (Holds : List ℕ → Type 0) (bytes : List ℕ) (after : Option (List ℕ)) → after ≡ Some [] → Holds bytes → TakesWith Holds bytes after
+all_taken Holds bytes after left holds = record {
+  taken = bytes;
+  rest = [];
+  parts = sym (append-nil bytes);
+  left = left;
+  of_all = holds;
+  of_taken = holds;
+}
 
 -- The bytes behind the tag, so many, were not whole.
 front_failed : (T : Type 0) (tag n : ℕ) (start after : Option (List ℕ)) (piece : List ℕ) (f : TraceFault) → length piece ≡ n
@@ -18,7 +30,10 @@ front_failed T tag n None after piece f size cut told = tt
 front_failed T tag n (Some bytes) after piece BadHeader size cut told = absurd told
 front_failed T tag n (Some bytes) after piece BadTag size cut told = absurd told
 front_failed T tag n (Some bytes) after piece BadLength size cut told = absurd told
-front_failed T tag n (Some bytes) after piece Truncated size cut told = cut bytes (omega arith)
+front_failed T tag n (Some bytes) after piece Truncated size cut told =
+    let few = told.few in
+    let short : IsCut (tag ∷ bytes) = cut bytes (omega arith) in
+    all_taken IsCut (tag ∷ bytes) after told.left short
 front_failed T tag n (Some bytes) after piece ReadFault size cut told =
     let few = told.few in
     record {
@@ -57,13 +72,21 @@ not_good most len (inr many) good = let high = good.1 in let more = many.1 in ab
 -- The length is one that no write may have.
 pub length_bad : (start after : Option (List ℕ)) (piece : List ℕ) (len : ℕ) → length piece ≡ 14 → len ≡ field 4 (1 ∷ piece) 11
     → (len ≡ 0) ⊎ ((¬ (len ≡ 0)) × (1048576 < len))
-    → IfSome start (λ b. Takes piece b after) → IfSome start (λ b. HasBadLength (1 ∷ b))
+    → IfSome start (λ b. Takes piece b after) → IfSome start (λ b. TakesWith HasBadLength (1 ∷ b) after)
 length_bad None after piece len size e bad told = tt
 length_bad (Some bytes) after piece len size e bad told =
     let all : length bytes ≡ length piece + length told.rest = ap length told.parts ∙ length-append piece told.rest in
     let same : len ≡ write_length (1 ∷ bytes) = e ∙ sym (length_of piece told.rest bytes size told.parts) in
     let P : ℕ → Type 0 = λ n. ¬ IsWriteLength n in
-    inl (refl, omega arith, subst P same (not_good 1048576 len bad))
+    let alone : len ≡ write_length (1 ∷ piece) = e in
+    record {
+      taken = 1 ∷ piece;
+      rest = told.rest;
+      parts = ap (λ (r : List ℕ). 1 ∷ r) told.parts;
+      left = told.left;
+      of_all = inl (refl, omega arith, subst P same (not_good 1048576 len bad));
+      of_taken = inl (refl, omega arith, subst P alone (not_good 1048576 len bad));
+    }
 
 cut_more : (piece more : List ℕ) (len : ℕ) → length piece ≡ 14 → len ≡ field 4 (1 ∷ piece) 11 → IsWriteLength len
     → length more < len → IsCut (1 ∷ (piece ++ more))
@@ -81,7 +104,7 @@ failed_after bytes piece rest after len BadTag size e good parts told = absurd t
 failed_after bytes piece rest after len BadLength size e good parts told = absurd told
 failed_after bytes piece rest after len Truncated size e good parts told =
     let P : List ℕ → Type 0 = λ b. IsCut (1 ∷ b) in
-    subst P (sym parts) (cut_more piece rest len size e good told)
+    all_taken IsCut (1 ∷ bytes) after told.left (subst P (sym parts) (cut_more piece rest len size e good told.few))
 failed_after bytes piece rest after len ReadFault size e good parts told = record {
   taken = 1 ∷ (piece ++ told.taken);
   takes = record {
@@ -159,14 +182,22 @@ field_read r tag n at v piece P read e =
 -- The length is one that no fetch may ask for.
 pub fetch_length_bad : (start after : Option (List ℕ)) (piece : List ℕ) (len : ℕ) → length piece ≡ 12 → len ≡ field 4 (3 ∷ piece) 9
     → (len ≡ 0) ⊎ ((¬ (len ≡ 0)) × (65536 < len))
-    → IfSome start (λ b. Takes piece b after) → IfSome start (λ b. HasBadLength (3 ∷ b))
+    → IfSome start (λ b. Takes piece b after) → IfSome start (λ b. TakesWith HasBadLength (3 ∷ b) after)
 fetch_length_bad None after piece len size e bad told = tt
 fetch_length_bad (Some bytes) after piece len size e bad told =
     let all : length bytes ≡ length piece + length told.rest = ap length told.parts ∙ length-append piece told.rest in
     let same : len ≡ fetch_length (3 ∷ bytes) =
     e ∙ sym (ap (λ (r : List ℕ). field 4 (3 ∷ r) 9) told.parts ∙ field-append 4 (3 ∷ piece) told.rest 9 (omega arith)) in
     let P : ℕ → Type 0 = λ n. ¬ IsFetchLength n in
-    inr (refl, omega arith, subst P same (not_good 65536 len bad))
+    let alone : len ≡ fetch_length (3 ∷ piece) = e in
+    record {
+      taken = 3 ∷ piece;
+      rest = told.rest;
+      parts = ap (λ (r : List ℕ). 3 ∷ r) told.parts;
+      left = told.left;
+      of_all = inr (refl, omega arith, subst P same (not_good 65536 len bad));
+      of_taken = inr (refl, omega arith, subst P alone (not_good 65536 len bad));
+    }
 
 fetch_after : (bytes piece : List ℕ) (after : Option (List ℕ)) (at len : ℕ) → length piece ≡ 12 → IsBytes piece
     → at ≡ field 8 (3 ∷ piece) 1 → len ≡ field 4 (3 ∷ piece) 9 → IsFetchLength len

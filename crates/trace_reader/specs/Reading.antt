@@ -83,14 +83,24 @@ pub record TakesLength (s : ReaderState) (bytes : List ℕ) : Type 0 where
   pub tag : HasTag 1 record_front
   pub good : IsWriteLength (write_length record_front)
 
+-- What was taken is a front of the bytes, and this holds of it as of all of them.
+pub record TakesWith (Holds : List ℕ → Type 0) (bytes : List ℕ) (after : Option (List ℕ)) : Type 0 where
+  pub taken : List ℕ
+  pub rest : List ℕ
+  pub parts : bytes ≡ taken ++ rest
+  pub left : after ≡ Some rest
+  pub of_all : Holds bytes
+  pub of_taken : Holds taken
+
 -- What a call answers at a source that has these bytes left, and how many it leaves. A fault of the
--- bytes is that with which they end, at the record of the reader's number.
+-- bytes is that with which they end, at the record of the reader's number, and so do those of them
+-- that were taken.
 abbrev pub Tells : ReaderState → List ℕ → Result Item TraceFault → ReaderState → Option (List ℕ) → Type 0
 Tells s bytes (Ok (an_event e)) new after = TakesEvent s bytes e after
 Tells s bytes (Ok the_end) new after = TakesEnd s bytes after
 Tells s bytes (Err ReadFault) new after = TakesLess s bytes new.number after
 Tells s bytes (Err NoMemory) new after = TakesLess s bytes new.number after × TakesLength s bytes
-Tells s bytes (Err f) new after = MeetsEnding s bytes (Fault f new.number)
+Tells s bytes (Err f) new after = TakesWith (λ b. MeetsEnding s b (Fault f new.number)) bytes after
 
 -- a read fault comes only where the source's count of faults rose or stands at its greatest value, and
 -- with every other answer the count stays

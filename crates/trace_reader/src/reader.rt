@@ -87,7 +87,8 @@ impl TraceReader {
     ///
     /// `ReadFault` comes only where a call of the source failed, and `NoMemory` only where a write's
     /// bytes are to be held, after its length was found good. Every other fault is one of the bytes,
-    /// at the record of `record_number`.
+    /// at the record of `record_number`. What was taken then ends with that fault too: no whole record
+    /// was taken behind those before it.
     pub fn next<S: Source>(&mut self, alloc: Global, source: &mut S) -> Result<Item, TraceFault>
         requires { self.old.live ≡ true }
         ensures told { IfSome (S.left source.old)
