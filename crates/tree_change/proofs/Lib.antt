@@ -22,3 +22,8 @@ pub mod Listed
 pub mod Separating
 pub mod Nexting
 pub mod Listing
+pub mod OldPlaces
+pub mod OldHidden
+pub mod OldStops
+pub mod OldWalk
+pub mod OldSide

@@ -12,3 +12,4 @@ pub mod ImageLaw
 pub mod Listed
 pub mod Listing
 pub mod TableLaw
+pub mod OldSide

@@ -4,6 +4,7 @@ ghost use Rattle.tree_change.specs.ImageLaw.{ReadAlikeLaw, StoredAlikeLaw};
 ghost use Rattle.tree_change.specs.Keeping.{KeepingLaw};
 ghost use Rattle.tree_change.specs.Listed.{ListingLaw};
 ghost use Rattle.tree_change.specs.Marking.{MarkingLaw};
+ghost use Rattle.tree_change.specs.OldSide.{OldSideLaw};
 ghost use Rattle.tree_change.specs.SkipLaw.{SkippingLaw, WalkIsOwn};
 ghost use Rattle.tree_change.specs.TableLaw.{LivesLaw, TableLaw, TablesLaw, TreeTableLaw};
 
@@ -23,6 +24,12 @@ pub fn skipping_law()
 /// those that writes touch and of all above them, and the children that moved or are above a block that moved.
 pub fn keeping_law()
     ensures { KeepingLaw }
+{}
+
+/// The walk of a tree as it was, which keeps the blocks that the walk of the tree as it is kept and came to, reads just the blocks that
+/// are not shared, and gives their own records, each once.
+pub fn old_side_law()
+    ensures { OldSideLaw }
 {}
 
 /// Blocks that are marked from some on up, by the nodes above that a table of live pairs names, are just those that are
