@@ -18,7 +18,7 @@ use Rattle.records.specs.Walk.{child_of, children_of, high_of}
 use Rattle.records.specs.WalkLaw.{visited}
 use Rattle.touched_pairs.specs.Marking.{if_above}
 use Rattle.tree_change.specs.Keeping.{AreMarked, AreUntouched, IsKnown, Marks, OneOf, Under, anew_of, comes_to, first_in, is_first, is_same, kept_of, live_at, starts_at}
-use Rattle.tree_change.specs.OldSide.{IsRoot, OldSideLaw, TellsShared, is_stop, kept_where, stops_of}
+use Rattle.tree_change.specs.OldSide.{OldSideLaw, is_stop, kept_where, stops_of}
 use Rattle.tree_change.specs.Shared.{are_alike}
 use Rattle.tree_change.specs.Skips.{Kept, nothing}
 use Rattle.tree_change.proofs.Accepted.{IsAs, accepts}
@@ -218,7 +218,6 @@ module _ (pairs : Pairs) (marked moving : Marks) (touched moved : ℕ → Bool) 
       quiet_children congruent stopped level s o same (pointers_of bytes)
       (subst (λ n. Visits Free (trail_below n sup old o bytes)) at (subst (λ x. Visits Free (trail_below o.level sup old o x)) first (rest_of Free (trail_below o.level sup old) sup old o a all)))
       (subst (λ n. Visits IsNew (trail_below n sup new s bytes)) low (subst (λ x. Visits IsNew (trail_below s.level sup new s x)) second (rest_of IsNew (trail_below s.level sup new) sup new s b more)))
-
 
   -- the stops of the new walk, and what holds of each
   abbrev pub stopped : Expect → List Expect

@@ -1,11 +1,10 @@
 -- The stops of the walk of a tree as it is: each kept block that the whole walk comes to is at a stop, or is passed over.
 use Rattle.std.proofs.Common.{◌≡◌, ℕ, zero, suc, ◌-◌, Bool, true, false, List, [], ◌∷◌, ◌++◌, ◌⊎◌, inl, inr, refl, ap, sym, subst, ◌∙◌, arith}
-use Rattle.std.specs.Prelude.{Option, Some, None, is_some, Ok, Err, if◌then◌else◌}
+use Rattle.std.specs.Prelude.{Option, Some, None, is_some, Ok, if◌then◌else◌}
 use Rattle.std.specs.List.{AllByRecursion, flat_map}
 use Rattle.verdict.specs.declared.key.Key.{Key}
 use Rattle.super_reader.specs.declared.Super.{Super}
 use Rattle.live_index.specs.Pairs.{Pairs}
-use Rattle.live_index.specs.declared.live.Live.{Live}
 use Rattle.node_reader.specs.Layout.{pointers_of}
 use Rattle.node_reader.specs.Stored.{Stored, block_in}
 use Rattle.node_reader.specs.declared.expect.Expect.{Expect}
@@ -13,9 +12,9 @@ use Rattle.node_reader.specs.declared.expect.Pointer.{Pointer}
 use Rattle.records.specs.Walk.{child_of, children_of, high_of}
 use Rattle.records.specs.WalkLaw.{children_in}
 use Rattle.tree_change.specs.declared.starts.Start.{Start}
-use Rattle.tree_change.specs.Keeping.{Marks, Under, anew_of, kept_of, live_at, or_high, starts_at, starts_in, starts_of}
+use Rattle.tree_change.specs.Keeping.{Marks, Under, anew_of, kept_of, live_at, starts_at, starts_in, starts_of}
 use Rattle.tree_change.specs.OldSide.{stops_and, stops_below, stops_or}
-use Rattle.tree_change.specs.Skips.{Anew, Kept}
+use Rattle.tree_change.specs.Skips.{Kept}
 use Rattle.tree_change.proofs.Accepted.{Accepts, accepts, visit_of, walk_accepted}
 use Rattle.tree_change.proofs.Climbing.{of_tree as tree_is}
 use Rattle.tree_change.proofs.OldHidden.{IsHidden, IsTop, above_is, hides}

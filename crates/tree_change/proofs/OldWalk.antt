@@ -1,7 +1,6 @@
 -- The walk of a tree as it was, which keeps blocks at the stops, gives the own records of those that are not shared.
-use Rattle.std.proofs.Common.{◌≡◌, ℕ, zero, suc, ◌-◌, Bool, true, false, ◌&&◌, List, [], ◌∷◌, ◌++◌, ◌⊎◌, inl, inr, refl, ap, sym, subst, ◌∙◌, arith}
+use Rattle.std.proofs.Common.{◌≡◌, ℕ, zero, suc, ◌-◌, Bool, true, false, List, [], ◌∷◌, ◌++◌, ◌⊎◌, inl, inr, refl, ap, sym, subst, ◌∙◌, arith}
 use Rattle.std.specs.Prelude.{Option, Some, None, is_none, Ok, Err, if◌then◌else◌}
-use Rattle.std.specs.List.{flat_map}
 use Rattle.verdict.specs.declared.key.Key.{Key}
 use Rattle.verdict.specs.Rules.{no_key}
 use Rattle.super_reader.specs.declared.Super.{Super}
@@ -15,18 +14,18 @@ use Rattle.records.specs.Seen.{Seen}
 use Rattle.records.specs.Seen.Seen.{BlockSeen}
 use Rattle.records.specs.Walk.{Records, behind, block_and, block_at, child_of, children_of, each, high_of, own_records, then_records, walk_of}
 use Rattle.tree_change.specs.declared.starts.Start.{Start}
-use Rattle.tree_change.specs.Keeping.{Marks, Under, anew_of, bound_of, is_same, last_in, live_at, or_high, starts_at, starts_in, starts_of}
+use Rattle.tree_change.specs.Keeping.{Marks, Under, anew_of, bound_of, is_same, last_in, live_at, starts_at, starts_in, starts_of}
 use Rattle.tree_change.specs.OldSide.{is_stop, kept_at, kept_where}
-use Rattle.tree_change.specs.Skips.{Anew, Kept, is_below, next_of, nothing, skip_and, skip_below, skip_or}
+use Rattle.tree_change.specs.Skips.{Kept, is_below, next_of, nothing, skip_and, skip_below, skip_or}
 use Rattle.tree_change.proofs.Accepted.{Accepts, accepts, keys_at, visit_of, walk_accepted}
-use Rattle.tree_change.proofs.Bounds.{and_parts, keys_below, upto}
+use Rattle.tree_change.proofs.Bounds.{and_parts, keys_below}
 use Rattle.tree_change.proofs.Lasting.{low_fits}
 use Rattle.tree_change.proofs.OldHidden.{IsHidden, hidden_up}
 use Rattle.tree_change.proofs.Sharing.{last_fits, same_from}
 use Rattle.tree_change.proofs.Sifting.{IsSame, behind_none, fits, fits_is, or_high_is, unkept_all}
 use Rattle.tree_change.proofs.Skipping.{own_or, unkept_after, unkept_in, unkept_then}
-use Rattle.tree_change.proofs.Trails.{Trail, Visit, after, then_trail, trail_and, trail_below, trail_of, trails}
-use Rattle.tree_change.proofs.Visiting.{Each, Visits, visits_map, visits_then_first, visits_then_later}
+use Rattle.tree_change.proofs.Trails.{Trail, Visit, then_trail, trail_and, trail_below, trail_of, trails}
+use Rattle.tree_change.proofs.Visiting.{Visits, visits_map, visits_then_first, visits_then_later}
 use Rattle.tree_change.proofs.Within.{bounded, here_of, keys_fit, node_keys, pointer_keys, rest_of}
 
 -- a block is what it is

@@ -1,7 +1,6 @@
 -- The walk of a tree as it was, which stops at the blocks that the walk of the tree as it is keeps: it comes to the blocks that are not shared.
 use Rattle.std.specs.Prelude.{ℕ, zero, suc, ◌≡◌, ◌-◌, ◌==◌, Bool, true, is_some, List, [], ◌∷◌, Option, Some, None, if◌then◌else◌}
 use Rattle.std.specs.List.{flat_map, list_any}
-use Rattle.std.specs.Result.{IsOk}
 use Rattle.verdict.specs.Rules.{no_key}
 use Rattle.verdict.specs.declared.key.Key.{Key}
 use Rattle.super_reader.specs.declared.Super.{Super}
@@ -9,7 +8,6 @@ use Rattle.live_index.specs.Pairs.{Pairs}
 use Rattle.live_index.specs.declared.live.Live.{Live}
 use Rattle.node_reader.specs.Stored.{Stored, block_in}
 use Rattle.node_reader.specs.declared.expect.Expect.{Expect}
-use Rattle.records.specs.Walk.{walk_of}
 use Rattle.records.specs.WalkLaw.{children_in, visited}
 use Rattle.tree_change.specs.Keeping.{AreListed, AreMarked, AreUntouched, Comes, Marks, OneOf, Stands, Under, anew_of, kept_of, last_if_same, live_at}
 use Rattle.tree_change.specs.Shared.{are_alike}
