@@ -46,7 +46,7 @@ table_first (live ∷ a) b tree address others =
     ap (λ (entry : Option Live). if live.tree == tree && live.address == address then Some live else entry) (table_first a b tree address others)
 
 -- the records of two, where neither has a finding
-then_ok : (first later : Records) (records : List Seen) → then_records first later ≡ Ok records → (a b : List Seen) × (first ≡ Ok a) × (later ≡ Ok b) × (records ≡ a ++ b)
+pub then_ok : (first later : Records) (records : List Seen) → then_records first later ≡ Ok records → (a b : List Seen) × (first ≡ Ok a) × (later ≡ Ok b) × (records ≡ a ++ b)
 unfolding behind
 then_ok (Err finding) later records is = absurd (cc)
 then_ok (Ok a) (Err finding) records is = absurd (cc)
@@ -73,7 +73,7 @@ module _ (sup : Super) where
       comes_from (λ v. v.tree ≡ tree.1.tree) sup tree.0 tree.1
       (of_tree (Any sup tree.0) sup tree.0 tree.1 (visits_from (Any sup tree.0) sup tree.0 tree.1 (record { fine = fine; each = any_each sup tree.0 (visited sup tree.0 tree.1) })))
 
-  of_other : (tree : Tree) (id : ℕ) → IsOk (walk_of sup tree.0 tree.1) → (tree.1.tree == id) ≡ false → OfOthers id (lives_of tree)
+  pub of_other : (tree : Tree) (id : ℕ) → IsOk (walk_of sup tree.0 tree.1) → (tree.1.tree == id) ≡ false → OfOthers id (lives_of tree)
   of_other tree id fine other = by (visited sup tree.0 tree.1) (of_root tree fine).each
     where
       by : (es : List Expect) → AllByRecursion (λ v. v.tree ≡ tree.1.tree) es → OfOthers id (map (live_at sup tree.0) es)
@@ -95,14 +95,14 @@ module _ (sup : Super) where
       (other_stops tree split.0 split.1 id level (told sup tree.0 tree.1 split.0 split.2) none.0 (stops_none trees split.1 id level split.3 none.1))
 
   -- trees of other ids than a tree
-  others_after : (tree : Tree) (trees : List Tree) → AllByRecursion (λ b. is_other tree b ≡ true) trees → NoneOf tree.1.tree trees
+  pub others_after : (tree : Tree) (trees : List Tree) → AllByRecursion (λ b. is_other tree b ≡ true) trees → NoneOf tree.1.tree trees
   others_after tree [] all = tt
   others_after tree (b ∷ trees) all = (swap tree.1.tree b.1.tree all.0, others_after tree trees all.1)
     where
       swap : (m n : ℕ) → not (m == n) ≡ true → (n == m) ≡ false
       swap m n is = grind (arith, nat_tests)
 
-  lives_all : (trees : List Tree) (records : List Seen) → AreApart trees → walks trees ≡ Ok records → live_in records ≡ all_lives trees
+  pub lives_all : (trees : List Tree) (records : List Seen) → AreApart trees → walks trees ≡ Ok records → live_in records ≡ all_lives trees
   unfolding live_in
   lives_all [] records apart is = let h : [] ≡ records = cc in sym (ap live_in h)
   lives_all (tree ∷ trees) records apart is =
@@ -111,7 +111,7 @@ module _ (sup : Super) where
       ∙ ((told sup tree.0 tree.1 split.0 split.2).gives split.1 (stops_none trees split.1 tree.1.tree tree.1.level split.3 (others_after tree trees apart.0))
       ∙ ap (λ ls. lives_of tree ++ ls) (lives_all trees split.1 apart.1 split.3))
 
-  others_all : (trees : List Tree) (records : List Seen) (id : ℕ) → walks trees ≡ Ok records → NoneOf id trees → OfOthers id (all_lives trees)
+  pub others_all : (trees : List Tree) (records : List Seen) (id : ℕ) → walks trees ≡ Ok records → NoneOf id trees → OfOthers id (all_lives trees)
   others_all [] records id is none = tt
   others_all (tree ∷ trees) records id is none =
       let split = then_ok (walk_of sup tree.0 tree.1) (walks trees) records is in

@@ -27,3 +27,5 @@ pub mod OldHidden
 pub mod OldStops
 pub mod OldWalk
 pub mod OldSide
+pub mod OldBlocks
+pub mod OldTells

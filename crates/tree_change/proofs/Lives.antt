@@ -112,7 +112,7 @@ node_none : (e : Expect) (pointers : List Pointer) → NoBlocks (pointer_records
 node_none e [] = tt
 node_none e (pointer ∷ pointers) = node_none e pointers
 
-entries_none : (sup : Super) (e : Expect) (bytes : List ℕ) (entries : List Seen) → entry_records sup e bytes ≡ Ok entries → NoBlocks entries
+pub entries_none : (sup : Super) (e : Expect) (bytes : List ℕ) (entries : List Seen) → entry_records sup e bytes ≡ Ok entries → NoBlocks entries
 unfolding leaf_records
 entries_none sup e bytes entries is = by (e.level == 0) is
   where

@@ -13,3 +13,4 @@ pub mod Listed
 pub mod Listing
 pub mod TableLaw
 pub mod OldSide
+pub mod Unshared

@@ -1,6 +1,6 @@
 -- The walk of a tree as it was, which stops at the blocks that the walk of the tree as it is keeps: it comes to the blocks that are not shared.
-use Rattle.std.specs.Prelude.{ℕ, zero, suc, ◌≡◌, ◌-◌, ◌==◌, Bool, true, is_some, List, [], ◌∷◌, Option, Some, None, if◌then◌else◌}
-use Rattle.std.specs.List.{flat_map, list_any}
+use Rattle.std.specs.Prelude.{ℕ, zero, suc, ◌≡◌, ◌-◌, ◌==◌, Bool, true, is_some, List, [], ◌∷◌, Option, Some, None, Ok, if◌then◌else◌}
+use Rattle.std.specs.List.{AllByRecursion, flat_map, list_any}
 use Rattle.verdict.specs.Rules.{no_key}
 use Rattle.verdict.specs.declared.key.Key.{Key}
 use Rattle.super_reader.specs.declared.Super.{Super}
@@ -8,10 +8,14 @@ use Rattle.live_index.specs.Pairs.{Pairs}
 use Rattle.live_index.specs.declared.live.Live.{Live}
 use Rattle.node_reader.specs.Stored.{Stored, block_in}
 use Rattle.node_reader.specs.declared.expect.Expect.{Expect}
+use Rattle.records.specs.Walk.{each, walk_of}
 use Rattle.records.specs.WalkLaw.{children_in, visited}
 use Rattle.tree_change.specs.Keeping.{AreListed, AreMarked, AreUntouched, Comes, Marks, OneOf, Stands, Under, anew_of, kept_of, last_if_same, live_at}
-use Rattle.tree_change.specs.Shared.{are_alike}
+use Rattle.touched_pairs.specs.Touched.{Written}
+use Rattle.tree_change.specs.LivePairs.{Walked}
+use Rattle.tree_change.specs.Shared.{are_alike, is_shared}
 use Rattle.tree_change.specs.Skips.{Anew, Kept, nothing, skip_of, unkept}
+use Rattle.tree_change.specs.TableLaw.{AreApart, Tree}
 
 -- a block that is kept, before those below it
 abbrev pub stops_or : Expect → List Expect → List Expect → Option Key → List Expect
@@ -26,7 +30,8 @@ stops_and kept anew below sup stored e =
 -- the same of the blocks on the level below this one
 unfoldable pub stops_below : Kept → Anew → ℕ → Super → Stored → List Expect → List Expect
 stops_below kept anew zero sup stored next = []
-stops_below kept anew (suc level) sup stored next = flat_map (stops_and kept anew (stops_below kept anew level sup stored) sup stored) next
+stops_below kept anew (suc level) sup stored next =
+    flat_map (stops_and kept anew (stops_below kept anew level sup stored) sup stored) next
 
 -- the kept blocks that the walk which keeps blocks comes to
 abbrev pub stops_of : Kept → Anew → Super → Stored → Expect → List Expect
@@ -50,7 +55,8 @@ kept_where test sup stored e = if test (live_at sup stored e) then Some no_key e
 pub record TellsShared (shared : Live → Bool) (kept : Kept) (sup : Super) (new : Stored) (root : Expect) : Type 0 where
   pub kept_is : Comes (λ v. is_some (kept v) ≡ shared (live_at sup new v)) sup new root
   pub alike : (a b : Live) → are_alike a b ≡ true → shared a ≡ shared b
-  pub both : (live : Live) → live.tree ≡ root.tree → shared live ≡ true → OneOf (λ v. are_alike live (live_at sup new v) ≡ true) (visited sup new root)
+  pub both : (live : Live) → live.tree ≡ root.tree → shared live ≡ true
+      → OneOf (λ v. are_alike live (live_at sup new v) ≡ true) (visited sup new root)
 
 -- the root of a tree: it has no low key and no high key
 abbrev pub IsRoot : Expect → Type 0
@@ -61,9 +67,19 @@ IsRoot e = (e.low ≡ None) × (e.high ≡ None)
 -- it was, which keeps the blocks at the stops of that walk and goes on to what is listed below them, gives the own records of just the
 -- blocks that are not shared, each once.
 abbrev pub OldSideLaw : Type 0
-OldSideLaw = (pairs : Pairs) (marked moving : Marks) (touched moved : ℕ → Bool) (under : Under) (shared : Live → Bool) (sup : Super) (old new : Stored) (before root : Expect)
+OldSideLaw = (pairs : Pairs) (marked moving : Marks) (touched moved : ℕ → Bool) (under : Under) (shared : Live → Bool)
+    (sup : Super) (old new : Stored) (before root : Expect)
     → IsRoot before → root.tree ≡ before.tree
-    → Stands pairs sup old before → AreMarked marked touched sup old before → AreMarked moving moved sup old before → AreListed under moving sup old before
+    → Stands pairs sup old before → AreMarked marked touched sup old before
+    → AreMarked moving moved sup old before → AreListed under moving sup old before
     → AreUntouched touched moved old new → TellsShared shared (kept_of pairs marked moved under) sup new root
     → skip_of (kept_at pairs (stops_of (kept_of pairs marked moved under) (anew_of under) sup new root) under) nothing (anew_of under) sup old before
     ≡ unkept (kept_where shared sup old) nothing sup old before
+
+-- Of trees of different ids whose walks have no finding: where the new image has the records of these walks, and in one tree just those
+-- blocks are kept of which the pairs are shared by the two images, that tells which pairs of it are shared.
+abbrev pub TellsLaw : Type 0
+TellsLaw = (old new : Walked) (written : Written) (end : ℕ) (kept : Kept) (sup : Super) (trees : List Tree)
+    → AreApart trees → each (λ tree. walk_of sup tree.0 tree.1) trees ≡ Ok new.seen
+    → AllByRecursion (λ tree. Comes (λ v. is_some (kept v) ≡ is_shared old new written end (live_at sup tree.0 v)) sup tree.0 tree.1
+    → TellsShared (is_shared old new written end) kept sup tree.0 tree.1) trees

@@ -4,9 +4,10 @@ ghost use Rattle.tree_change.specs.ImageLaw.{ReadAlikeLaw, StoredAlikeLaw};
 ghost use Rattle.tree_change.specs.Keeping.{KeepingLaw};
 ghost use Rattle.tree_change.specs.Listed.{ListingLaw};
 ghost use Rattle.tree_change.specs.Marking.{MarkingLaw};
-ghost use Rattle.tree_change.specs.OldSide.{OldSideLaw};
+ghost use Rattle.tree_change.specs.OldSide.{OldSideLaw, TellsLaw};
 ghost use Rattle.tree_change.specs.SkipLaw.{SkippingLaw, WalkIsOwn};
 ghost use Rattle.tree_change.specs.TableLaw.{LivesLaw, TableLaw, TablesLaw, TreeTableLaw};
+ghost use Rattle.tree_change.specs.Unshared.{UnsharedLaw};
 
 /// A walk is the own records of the blocks that it comes to, one after the other, or their first finding.
 pub fn walk_is_own()
@@ -30,6 +31,17 @@ pub fn keeping_law()
 /// are not shared, and gives their own records, each once.
 pub fn old_side_law()
     ensures { OldSideLaw }
+{}
+
+/// Whether a pair is shared by two images tells which blocks of each tree of the new image are shared, where just these are kept.
+pub fn tells_law()
+    ensures { TellsLaw }
+{}
+
+/// The whole walk without the records of kept blocks has the blocks of the pairs that are not shared, each once, and the items that
+/// stand in their leaves, where just the blocks are kept of which the pairs are shared.
+pub fn unshared_law()
+    ensures { UnsharedLaw }
 {}
 
 /// Blocks that are marked from some on up, by the nodes above that a table of live pairs names, are just those that are

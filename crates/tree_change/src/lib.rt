@@ -17,7 +17,7 @@ pub use keeps::Keeps;
 pub use known::KnownTree;
 pub use laws::{
     keeping_law, listing_law, lives_law, marking_law, old_side_law, read_alike_law, skipping_law,
-    stored_alike_law, table_law, tables_law, tree_table_law, walk_is_own,
+    stored_alike_law, table_law, tables_law, tells_law, tree_table_law, unshared_law, walk_is_own,
 };
 pub use path::{Path, PathStep};
 pub use starts::{Start, Starts};
