@@ -29,3 +29,4 @@ pub mod OldWalk
 pub mod OldSide
 pub mod OldBlocks
 pub mod OldTells
+pub mod OldSupers

@@ -1,7 +1,8 @@
 -- The records of the walk that keeps the shared blocks are those of the pairs that are not shared.
-use Rattle.std.proofs.Common.{◌≡◌, ℕ, suc, ◌==◌, Bool, true, false, not, ◌&&◌, ◌||◌, List, [], ◌∷◌, ◌++◌, ◌⊎◌, inl, inr, refl, ap, sym, subst, ◌∙◌, arith}
+use Rattle.std.proofs.Common.{◌≡◌, ℕ, suc, ◌+◌, ◌-◌, ◌*◌, ◌^◌, ◌≤◌, ◌==◌, Bool, true, false, not, ◌&&◌, ◌||◌, List, [], ◌∷◌, ◌++◌, ◌⊎◌, inl, inr, refl, ap, sym, subst, ◌∙◌, arith}
 use Rattle.std.specs.Prelude.{Option, Some, None, is_some, Result, Ok, Err, length, map, if◌then◌else◌}
-use Rattle.std.specs.List.{AllByRecursion, cons_option, filter, filter_map, flat_map, list_any}
+use Rattle.std.specs.List.{AllByRecursion, cons_option, filter, filter_map, flat_map, fold, list_any}
+use Rattle.std.proofs.Math.Nat.{min-le_left}
 use Rattle.std.proofs.lemmas.Bool.{eqb-true}
 use Rattle.std.proofs.lemmas.Bool.Decides.{nat_tests}
 use Rattle.std.proofs.lemmas.List.Elements.{filter-append, filter_map-append}
@@ -9,6 +10,9 @@ use Rattle.verdict.specs.Rules.{and_then, no_key}
 use Rattle.verdict.specs.declared.finding.Finding.{Finding}
 use Rattle.verdict.specs.declared.key.Key.{Key}
 use Rattle.verdict.specs.declared.place.At.{At}
+use Rattle.verdict.specs.declared.place.Place.{Place}
+use Rattle.verdict.specs.declared.place.Place.TheVariants.{Nowhere, One, Two}
+use Rattle.recon_disk.specs.Outside.{counted}
 use Rattle.super_reader.specs.Superblock.{item_place}
 use Rattle.super_reader.specs.declared.Super.{Super}
 use Rattle.live_index.specs.Pairs.{Pairs}
@@ -23,11 +27,12 @@ use Rattle.records.specs.Seen.{Seen}
 use Rattle.records.specs.Seen.Seen.{BlockSeen, ItemSeen, PointerSeen}
 use Rattle.records.specs.Walk.{Records, behind, block_at, each, entry_records, just, leaf_record, leaf_records, own_records, pointer_records, walk_of}
 use Rattle.records.specs.WalkLaw.{visited}
+use Rattle.block_source.specs.Counts.{after_copies, copies_of, with_read}
 use Rattle.tree_change.specs.Change.{item_of_pairs, items_in}
 use Rattle.tree_change.specs.Keeping.{OneOf, live_at}
 use Rattle.tree_change.specs.LivePairs.{live_in}
 use Rattle.tree_change.specs.Skips.{Kept, nothing, own_of, unkept}
-use Rattle.tree_change.specs.Unshared.{AreOfPairs, UnsharedLaw, is_block_seen, item_seen, pair_seen}
+use Rattle.tree_change.specs.Unshared.{AreOfPairs, ReadsTwiceLaw, UnsharedLaw, is_block_seen, item_seen, pair_seen}
 use Rattle.tree_change.proofs.Bounds.{and_parts}
 use Rattle.tree_change.proofs.Lives.{NoBlocks, entries_none, lives_are, ok_same}
 use Rattle.tree_change.proofs.Skipping.{own_or, pick, unkept_in, unkept_is}
@@ -281,3 +286,23 @@ unshared_are pairs shared kept sup stored root whole records stands kept_is walk
               ∙ (items_are pairs shared kept sup stored es stands.each.each visits es t.1 stands.each.each kept_is.each (λ w h. h)
               ∙ (ap (items_in (fresh pairs shared kept sup stored es)) all ∙ ap (λ ls. items_in ls whole) (sym lives)));
         }
+
+-- a block is read at most twice
+counted_one : (n : ℕ) → counted n ≤ n + 1
+counted_one n = min-le_left (n + 1) (2 ^ 64 - 1)
+
+copies_two : (at : Place) (n : ℕ) → after_copies at n ≤ n + 2
+copies_two Nowhere n = omega arith
+copies_two (One first) n = let one = counted_one n in omega (arith, one)
+copies_two (Two first second) n = let one = counted_one n in let two = counted_one (counted n) in omega (arith, one, two)
+
+more_two : (m n k l : ℕ) → m ≤ n + 2 → k ≤ m + 2 * l → k ≤ n + 2 * suc l
+more_two m n k l first rest = omega (arith, first, rest)
+
+pub reads_twice : ReadsTwiceLaw
+reads_twice source reads [] = omega arith
+reads_twice source reads (BlockSeen block ∷ more) =
+    let next = after_copies (copies_of source block.address) reads in
+    more_two next reads (fold (with_read source) next more) (length (filter is_block_seen more)) (copies_two (copies_of source block.address) reads) (reads_twice source next more)
+reads_twice source reads (PointerSeen one ∷ more) = reads_twice source reads more
+reads_twice source reads (ItemSeen one ∷ more) = reads_twice source reads more

@@ -14,3 +14,4 @@ pub mod Listing
 pub mod TableLaw
 pub mod OldSide
 pub mod Unshared
+pub mod SupersLaw

@@ -1,6 +1,6 @@
 -- What the walk that keeps the shared blocks of a tree gives: the blocks and the items of the pairs that are not shared.
-use Rattle.std.specs.Prelude.{◌≡◌, Bool, true, false, not, is_some, List, length, Option, Some, None, Ok}
-use Rattle.std.specs.List.{filter, filter_map}
+use Rattle.std.specs.Prelude.{◌≡◌, Bool, true, false, not, is_some, List, length, Option, Some, None, Ok, ℕ, ◌≤◌, ◌+◌, ◌*◌}
+use Rattle.std.specs.List.{filter, filter_map, fold}
 use Rattle.super_reader.specs.declared.Super.{Super}
 use Rattle.live_index.specs.Pairs.{Pairs}
 use Rattle.live_index.specs.declared.live.Live.{Live}
@@ -10,6 +10,8 @@ use Rattle.records.specs.Part.{Located}
 use Rattle.records.specs.Seen.{Seen}
 use Rattle.records.specs.Seen.Seen.{BlockSeen, ItemSeen}
 use Rattle.records.specs.Walk.{walk_of}
+use Rattle.block_source.specs.Counts.{with_read}
+use Rattle.block_source.specs.declared.read.BlockSource.{BlockSource}
 use Rattle.tree_change.specs.Change.{items_in}
 use Rattle.tree_change.specs.Keeping.{Comes, Stands, live_at}
 use Rattle.tree_change.specs.LivePairs.{live_in}
@@ -44,3 +46,8 @@ UnsharedLaw = (pairs : Pairs) (shared : Live → Bool) (kept : Kept) (sup : Supe
     → Stands pairs sup stored root → Comes (λ v. is_some (kept v) ≡ shared (live_at sup stored v)) sup stored root
     → walk_of sup stored root ≡ Ok whole → unkept kept nothing sup stored root ≡ Ok records
     → AreOfPairs pairs (filter (λ live. not (shared live)) (live_in whole)) whole records
+
+-- to read each copy of each block among records takes at most two reads for each
+abbrev pub ReadsTwiceLaw : Type 0
+ReadsTwiceLaw = (source : BlockSource) (reads : ℕ) (records : List Seen)
+    → fold (with_read source) reads records ≤ reads + 2 * length (filter is_block_seen records)

@@ -6,8 +6,9 @@ ghost use Rattle.tree_change.specs.Listed.{ListingLaw};
 ghost use Rattle.tree_change.specs.Marking.{MarkingLaw};
 ghost use Rattle.tree_change.specs.OldSide.{OldSideLaw, TellsLaw};
 ghost use Rattle.tree_change.specs.SkipLaw.{SkippingLaw, WalkIsOwn};
+ghost use Rattle.tree_change.specs.SupersLaw.{SupersLaw};
 ghost use Rattle.tree_change.specs.TableLaw.{LivesLaw, TableLaw, TablesLaw, TreeTableLaw};
-ghost use Rattle.tree_change.specs.Unshared.{UnsharedLaw};
+ghost use Rattle.tree_change.specs.Unshared.{ReadsTwiceLaw, UnsharedLaw};
 
 /// A walk is the own records of the blocks that it comes to, one after the other, or their first finding.
 pub fn walk_is_own()
@@ -42,6 +43,16 @@ pub fn tells_law()
 /// stand in their leaves, where just the blocks are kept of which the pairs are shared.
 pub fn unshared_law()
     ensures { UnsharedLaw }
+{}
+
+/// Each copy of each block among records is read in at most two reads for each block.
+pub fn reads_twice_law()
+    ensures { ReadsTwiceLaw }
+{}
+
+/// Superblocks by which blocks are read alike give walks that come to the same blocks, the same live pairs, and the same stops.
+pub fn supers_law()
+    ensures { SupersLaw }
 {}
 
 /// Blocks that are marked from some on up, by the nodes above that a table of live pairs names, are just those that are
