@@ -17,7 +17,7 @@ use Rattle.records.specs.WalkLaw.{visited}
 use Rattle.touched_pairs.specs.Touched.{Written, stays_in_place, touches_block}
 use Rattle.tree_change.specs.Keeping.{Comes, OneOf, live_at}
 use Rattle.tree_change.specs.LivePairs.{Walked, live_in, live_of}
-use Rattle.tree_change.specs.OldSide.{TellsLaw, TellsShared}
+use Rattle.tree_change.specs.OldSide.{GoneLaw, TellsLaw, TellsShared}
 use Rattle.tree_change.specs.Shared.{are_alike, are_read_alike, at_or_below, is_shared, stands_untouched}
 use Rattle.tree_change.specs.TableLaw.{AreApart, Tree, is_other}
 use Rattle.tree_change.proofs.Bounds.{and_parts}
@@ -173,3 +173,19 @@ tells_shared old new written end kept sup trees apart walks_are =
         → AllByRecursion (λ t. is_shared old new written end live ≡ true → live.tree ≡ t.1.tree → list_any (are_alike live) (lives_of sup t) ≡ true) some
     spread live [] all = tt
     spread live (t ∷ some) all = ((λ is. (all is).0), spread live some (λ is. (all is).1))
+
+pub gone : GoneLaw
+unfolding is_shared
+gone old new written end sup trees live apart walks_are none =
+    let touched = touches_block written old.chunks old.sup.nodesize end in
+    let others : OfOthers live.tree (all_lives sup trees) = others_all sup trees new.seen live.tree walks_are none in
+    let any : list_any (are_alike live) (live_in new.seen) ≡ false =
+    ap (list_any (are_alike live)) (lives_all sup trees new.seen apart walks_are) ∙ none_alike live (all_lives sup trees) others in
+    last_fails (are_read_alike old.sup new.sup) (stays_in_place old.chunks new.chunks old.sup.nodesize end live.address) (stands_untouched touched old.seen live)
+    (list_any (are_alike live) (live_in new.seen)) any
+  where
+    last_fails : (a b c d : Bool) → d ≡ false → (a && (b && (c && d))) ≡ false
+    last_fails true true true d is = is
+    last_fails true true false d is = refl
+    last_fails true false c d is = refl
+    last_fails false b c d is = refl

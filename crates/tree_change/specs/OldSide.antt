@@ -1,5 +1,5 @@
 -- The walk of a tree as it was, which stops at the blocks that the walk of the tree as it is keeps: it comes to the blocks that are not shared.
-use Rattle.std.specs.Prelude.{ℕ, zero, suc, ◌≡◌, ◌-◌, ◌==◌, Bool, true, is_some, List, [], ◌∷◌, Option, Some, None, Ok, if◌then◌else◌}
+use Rattle.std.specs.Prelude.{ℕ, zero, suc, ◌≡◌, ◌-◌, ◌==◌, Bool, true, false, is_some, List, [], ◌∷◌, Option, Some, None, Ok, if◌then◌else◌}
 use Rattle.std.specs.List.{AllByRecursion, flat_map, list_any}
 use Rattle.verdict.specs.Rules.{no_key}
 use Rattle.verdict.specs.declared.key.Key.{Key}
@@ -83,3 +83,9 @@ TellsLaw = (old new : Walked) (written : Written) (end : ℕ) (kept : Kept) (sup
     → AreApart trees → each (λ tree. walk_of sup tree.0 tree.1) trees ≡ Ok new.seen
     → AllByRecursion (λ tree. Comes (λ v. is_some (kept v) ≡ is_shared old new written end (live_at sup tree.0 v)) sup tree.0 tree.1
     → TellsShared (is_shared old new written end) kept sup tree.0 tree.1) trees
+
+-- where the new image has the records of trees of different ids, no pair of another tree is shared
+abbrev pub GoneLaw : Type 0
+GoneLaw = (old new : Walked) (written : Written) (end : ℕ) (sup : Super) (trees : List Tree) (live : Live)
+    → AreApart trees → each (λ tree. walk_of sup tree.0 tree.1) trees ≡ Ok new.seen
+    → AllByRecursion (λ tree. (tree.1.tree == live.tree) ≡ false) trees → is_shared old new written end live ≡ false

@@ -4,7 +4,7 @@ ghost use Rattle.tree_change.specs.ImageLaw.{ReadAlikeLaw, StoredAlikeLaw};
 ghost use Rattle.tree_change.specs.Keeping.{KeepingLaw};
 ghost use Rattle.tree_change.specs.Listed.{ListingLaw};
 ghost use Rattle.tree_change.specs.Marking.{MarkingLaw};
-ghost use Rattle.tree_change.specs.OldSide.{OldSideLaw, TellsLaw};
+ghost use Rattle.tree_change.specs.OldSide.{GoneLaw, OldSideLaw, TellsLaw};
 ghost use Rattle.tree_change.specs.SkipLaw.{SkippingLaw, WalkIsOwn};
 ghost use Rattle.tree_change.specs.SupersLaw.{SupersLaw};
 ghost use Rattle.tree_change.specs.TableLaw.{LivesLaw, TableLaw, TablesLaw, TreeTableLaw};
@@ -37,6 +37,11 @@ pub fn old_side_law()
 /// Whether a pair is shared by two images tells which blocks of each tree of the new image are shared, where just these are kept.
 pub fn tells_law()
     ensures { TellsLaw }
+{}
+
+/// No pair of a tree that the new image has not is shared.
+pub fn gone_law()
+    ensures { GoneLaw }
 {}
 
 /// The whole walk without the records of kept blocks has the blocks of the pairs that are not shared, each once, and the items that

@@ -16,8 +16,9 @@ pub use changed::walk_changed;
 pub use keeps::Keeps;
 pub use known::KnownTree;
 pub use laws::{
-    keeping_law, listing_law, lives_law, marking_law, old_side_law, read_alike_law, reads_twice_law, skipping_law,
-    stored_alike_law, supers_law, table_law, tables_law, tells_law, tree_table_law, unshared_law, walk_is_own,
+    gone_law, keeping_law, listing_law, lives_law, marking_law, old_side_law, read_alike_law,
+    reads_twice_law, skipping_law, stored_alike_law, supers_law, table_law, tables_law, tells_law,
+    tree_table_law, unshared_law, walk_is_own,
 };
 pub use path::{Path, PathStep};
 pub use starts::{Start, Starts};
