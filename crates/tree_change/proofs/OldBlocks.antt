@@ -34,6 +34,7 @@ use Rattle.tree_change.specs.LivePairs.{live_in}
 use Rattle.tree_change.specs.Skips.{Kept, nothing, own_of, unkept}
 use Rattle.tree_change.specs.Unshared.{AreOfPairs, ReadsTwiceLaw, UnsharedLaw, is_block_seen, item_seen, pair_seen}
 use Rattle.tree_change.proofs.Bounds.{and_parts}
+use Rattle.tree_change.proofs.Climbing.{some_live}
 use Rattle.tree_change.proofs.Lives.{NoBlocks, entries_none, lives_are, ok_same}
 use Rattle.tree_change.proofs.Skipping.{own_or, pick, unkept_in, unkept_is}
 use Rattle.tree_change.proofs.Trails.{Matches, Tells, Trail, Visit, all_own, tells, trail_of}
@@ -131,9 +132,6 @@ items_own lives tree address (ItemSeen one ∷ more) all none =
         → cons_option (if b then Some one else None) (filter_map (item_of_pairs lives) more) ≡ (if b then one ∷ filter_map item_seen more else [])
     by true rest = ap (λ items. one ∷ items) rest
     by false rest = rest
-
-some_live : (a b : Live) → Some a ≡ Some b → a ≡ b
-some_live a b is = cc
 
 module _ (pairs : Pairs) (shared : Live → Bool) (kept : Kept) (sup : Super) (stored : Stored) where
   abbrev pub Known : Expect → Type 0

@@ -14,12 +14,10 @@ use Rattle.touched_pairs.specs.Marking.{ClimbsTo, if_above, parent_of}
 use Rattle.touched_pairs.specs.Marking.ClimbsTo.{Here as IsHere, Up as OneUp}
 use Rattle.tree_change.specs.Keeping.{Marks, live_at}
 use Rattle.tree_change.proofs.Accepted.{accepts, visit_of, walk_accepted}
+use Rattle.tree_change.proofs.Climbing.{some_live}
 use Rattle.tree_change.proofs.Trails.{Trail, trail_and, trail_below, trails}
 use Rattle.tree_change.proofs.Visiting.{Visits, visits_after, visits_then, visits_then_first, visits_then_later}
 use Rattle.tree_change.proofs.Within.{here_of, rest_of}
-
-some_live : (a b : Live) → Some a ≡ Some b → a ≡ b
-some_live a b is = cc
 
 less_one : (n : ℕ) → nat_lt n (suc n) ≡ true
 less_one n = grind (arith, nat_tests)

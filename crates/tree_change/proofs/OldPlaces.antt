@@ -8,13 +8,10 @@ use Rattle.node_reader.specs.declared.expect.Expect.{Expect}
 use Rattle.node_reader.specs.declared.expect.Pointer.{Pointer}
 use Rattle.records.specs.Walk.{child_of, children_of, high_of}
 use Rattle.tree_change.proofs.Accepted.{accepts, visit_of, walk_accepted}
+use Rattle.tree_change.proofs.Tables.{copied_same}
 use Rattle.tree_change.proofs.Trails.{Trail, trail_and, trail_below, trails}
 use Rattle.tree_change.proofs.Visiting.{Visits, visits_after, visits_then, visits_then_first, visits_then_later}
 use Rattle.tree_change.proofs.Within.{here_of, rest_of}
-
--- bytes that are stored at one address
-pub copied_same : (stored : Stored) (a b : ℕ) (p q : List ℕ) → stored a ≡ Ok p → stored b ≡ Ok q → a ≡ b → p ≡ q
-copied_same stored a b p q x y is = let h : stored a ≡ stored b = ap stored is in cc
 
 module _ (A : ℕ → Type 0) (Q : Expect → Type 0) (sup : Super) (first second : Stored) where
   -- this holds of the address of a block, and both have the same there
@@ -50,7 +47,7 @@ module _ (A : ℕ → Type 0) (Q : Expect → Type 0) (sup : Super) (first secon
       let a = accepts Alike (trail_below level sup first) sup first e all in
       let b = accepts Q (trail_below level sup second) sup second f more in
       let here : Alike e = here_of Alike (trail_below level sup first) sup first e all in
-      let same : a.bytes ≡ b.bytes = copied_same second e.address f.address a.bytes b.bytes (here.1 ∙ a.is) b.is at in
+      let same : a.bytes ≡ b.bytes = copied_same second e.address f.address a.bytes b.bytes (here.1 ∙ a.is) b.is (sym at) in
       let later : Visits Alike (trail_below level sup first e b.bytes) = subst (λ bytes. Visits Alike (trail_below level sup first e bytes)) same (rest_of Alike (trail_below level sup first) sup first e a all) in
       subst (Visits At) (sym (walk_accepted (trail_below level sup second) sup second f b))
       (visits_after At (visit_of f b.bytes b.entries ∷ []) (trail_below level sup second f b.bytes) (subst A at here.0, tt)

@@ -23,16 +23,19 @@ use Rattle.tree_change.specs.Shared.{are_alike}
 use Rattle.tree_change.specs.Skips.{Kept, nothing}
 use Rattle.tree_change.proofs.Accepted.{IsAs, accepts}
 use Rattle.tree_change.proofs.Bounds.{and_parts, and_true, upto}
-use Rattle.tree_change.proofs.Climbing.{of_tree}
+use Rattle.tree_change.proofs.Climbing.{of_tree, some_live}
 use Rattle.tree_change.proofs.Lasting.{low_fits}
+use Rattle.tree_change.proofs.Listing.{above_is, if_some_map}
 use Rattle.tree_change.proofs.OldHidden.{IsHidden, hidden_up}
-use Rattle.tree_change.proofs.OldPlaces.{copied_same, places}
+use Rattle.tree_change.proofs.OldPlaces.{places}
 use Rattle.tree_change.proofs.OldStops.{Found, IsTold, gives}
 use Rattle.tree_change.proofs.OldWalk.{AllQuiet, Fact, Quiet, alike}
+use Rattle.tree_change.proofs.Ordering.{same_itself}
 use Rattle.tree_change.proofs.Separating.{IsFrom, nodes}
-use Rattle.tree_change.proofs.Sharing.{Carries, IsFree, IsKept, IsRight, Known, Moves, Stays, all_free, carries_below, carries_block, found, neither, same_to, still_kept, was_visited}
+use Rattle.tree_change.proofs.Sharing.{Carries, IsFree, IsKept, IsRight, Known, Moves, Stays, all_free, carries_below, carries_block, found, itself, neither, same_to, still_kept, was_visited}
 use Rattle.tree_change.proofs.Sifting.{IsSame}
 use Rattle.tree_change.proofs.Skipping.{unkept_is}
+use Rattle.tree_change.proofs.Tables.{copied_same}
 use Rattle.tree_change.proofs.Trails.{Trail, trail_and, trail_below, trail_of, trails}
 use Rattle.tree_change.proofs.Visiting.{Visits, VisitsOne, visits_any_from, visits_both, visits_from, visits_map, visits_one, visits_one_from, visits_then_first, visits_then_later}
 use Rattle.tree_change.proofs.Within.{Below, here_of, rest_of, within}
@@ -50,9 +53,6 @@ are_stops : (es : List Expect) → AllByRecursion (λ s. is_stop es s.address �
 are_stops [] = tt
 are_stops (e ∷ es) = (by (e.address == e.address) (is_stop es e.address) (itself e.address), stop_more e es es (are_stops es))
   where
-    itself : (n : ℕ) → (n == n) ≡ true
-    itself n = grind (arith, nat_tests)
-
     by : (a b : Bool) → a ≡ true → (a || b) ≡ true
     by true b is = refl
     by false b is = absurd (cc)
@@ -70,28 +70,6 @@ carried : (P Q : Expect → Type 0) (b : Bool) (trail : Trail) → Carries P b t
 carried P Q true trail carries all = carries
 carried P Q false (Err finding) carries all = all
 carried P Q false (Ok visits) carries all = elim carries [ ]
-
-some_live : (a b : Live) → Some a ≡ Some b → a ≡ b
-some_live a b is = cc
-
-same_number : (n : ℕ) → (n == n) ≡ true
-same_number n = grind (arith, nat_tests)
-
-same_self : (k : Key) → key_same k k ≡ true
-same_self k = grind (arith, common_steps)
-
--- the pair above another
-above_is : (live up : Live) (entry : Option Live) → if_above live entry ≡ Some up → (entry ≡ Some up) × (nat_lt live.level up.level ≡ true)
-above_is live up None is = absurd (cc)
-above_is live up (Some over) is = by (nat_lt live.level over.level) refl is
-  where
-    by : (b : Bool) → nat_lt live.level over.level ≡ b → cond b (Some over) None ≡ Some up → (Some over ≡ Some up) × (nat_lt live.level up.level ≡ true)
-    by true less same = (same, subst (λ (l : Live). nat_lt live.level l.level ≡ true) (some_live over up same) less)
-    by false less same = absurd (cc)
-
-if_some_map : (entry : Option Live) (P Q : Live → Type 0) → ((live : Live) → P live → Q live) → IfSome entry P → IfSome entry Q
-if_some_map None P Q f is = tt
-if_some_map (Some live) P Q f is = f live is
 
 module _ (pairs : Pairs) (marked moving : Marks) (touched moved : ℕ → Bool) (under : Under) (shared : Live → Bool) (sup : Super) (old new : Stored) (tree : ℕ) where
   abbrev pub K : Kept
@@ -146,9 +124,9 @@ module _ (pairs : Pairs) (marked moving : Marks) (touched moved : ℕ → Bool) 
       let parts = and_parts (w.level == x.level && w.generation == x.generation) (is_first (live_at sup old x) w.low w.high) was.same in
       let two = and_parts (w.level == x.level) (w.generation == x.generation) parts.0 in
       let first : first_in (new w.address) ≡ first_in (old x.address) = ap first_in (ap new at ∙ alike) in
-      let keys : key_same (first_in (new w.address)) (first_in (old x.address)) ≡ true = rw first (same_self (first_in (old x.address))) in
+      let keys : key_same (first_in (new w.address)) (first_in (old x.address)) ≡ true = rw first (same_itself (first_in (old x.address))) in
       let places : (w.tree == x.tree && w.address == x.address) ≡ true =
-      and_true (w.tree == x.tree) (w.address == x.address) (rw (is_new.1, of_tree) (same_number tree)) (rw at (same_number x.address)) in
+      and_true (w.tree == x.tree) (w.address == x.address) (rw (is_new.1, of_tree) (itself tree)) (rw at (itself x.address)) in
       let rest : (w.generation == x.generation && key_same (first_in (new w.address)) (first_in (old x.address))) ≡ true =
       and_true (w.generation == x.generation) (key_same (first_in (new w.address)) (first_in (old x.address))) two.1 keys in
       let are : are_alike (live_at sup new w) (live_at sup old x) ≡ true =
@@ -320,7 +298,7 @@ clear_root pairs moving stops sup old before knows only hidden =
 
 -- a root is expected as it is
 root_self : (sup : Super) (old : Stored) (e : Expect) → e.low ≡ None → e.high ≡ None → is_same e (live_at sup old e) ≡ true
-root_self sup old e low high = rw (low, high, same_number e.level, same_number e.generation) refl
+root_self sup old e low high = rw (low, high, itself e.level, itself e.generation) refl
 
 -- the walk of the old tree
 pub old_side : OldSideLaw

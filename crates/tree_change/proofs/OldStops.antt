@@ -18,9 +18,10 @@ use Rattle.tree_change.specs.Skips.{Kept}
 use Rattle.tree_change.proofs.Accepted.{Accepts, accepts, visit_of, walk_accepted}
 use Rattle.tree_change.proofs.Climbing.{of_tree as tree_is}
 use Rattle.tree_change.proofs.OldHidden.{IsHidden, IsTop, above_is, hides}
-use Rattle.tree_change.proofs.OldPlaces.{copied_same, places}
+use Rattle.tree_change.proofs.OldPlaces.{places}
 use Rattle.tree_change.proofs.Sharing.{IsFree, IsKept, WasVisited, still_kept}
 use Rattle.tree_change.proofs.Sifting.{IsSame, or_high_is}
+use Rattle.tree_change.proofs.Tables.{copied_same}
 use Rattle.tree_change.proofs.Trails.{Trail, after, then_trail, trail_and, trail_below, trail_of, trails}
 use Rattle.tree_change.proofs.Visiting.{Visits, visits_after, visits_both, visits_map, visits_then, visits_then_first, visits_then_later}
 use Rattle.tree_change.proofs.Within.{here_of, rest_of}

@@ -20,9 +20,10 @@ use Rattle.tree_change.specs.Skips.{Kept, is_below, next_of, nothing, skip_and, 
 use Rattle.tree_change.proofs.Accepted.{Accepts, accepts, keys_at, visit_of, walk_accepted}
 use Rattle.tree_change.proofs.Bounds.{and_parts, keys_below}
 use Rattle.tree_change.proofs.Lasting.{low_fits}
+use Rattle.tree_change.proofs.Listing.{never}
 use Rattle.tree_change.proofs.OldHidden.{IsHidden, hidden_up}
 use Rattle.tree_change.proofs.Sharing.{last_fits, same_from}
-use Rattle.tree_change.proofs.Sifting.{IsSame, behind_none, fits, fits_is, or_high_is, unkept_all}
+use Rattle.tree_change.proofs.Sifting.{IsSame, behind_none, fits, fits_is, nil, or_high_is, unkept_all}
 use Rattle.tree_change.proofs.Skipping.{own_or, unkept_after, unkept_in, unkept_then}
 use Rattle.tree_change.proofs.Trails.{Trail, Visit, then_trail, trail_and, trail_below, trail_of, trails}
 use Rattle.tree_change.proofs.Visiting.{Visits, visits_map, visits_then_first, visits_then_later}
@@ -101,9 +102,6 @@ module _ (pairs : Pairs) (moving : Marks) (under : Under) (shared : Live → Boo
   -- what is expected of a block is what it is
   abbrev pub IsSelf : Expect → Type 0
   IsSelf e = is_same e (live_at sup old e) ≡ true
-
-  never : (b : Bool) → b ≡ true → b ≡ false → ⊥
-  never b is other = cc
 
   -- a child of a block that is not passed over
   clear_child : (e c : Expect) → c.parent ≡ e.address → Fact c → Clear e → ((stops e.address ≡ true) → moving tree c.address ≡ false → ⊥) → Clear c
@@ -199,10 +197,6 @@ module _ (pairs : Pairs) (moving : Marks) (under : Under) (shared : Live → Boo
   block_read : (below : Expect → List ℕ → Records) (e : Expect) (a : Accepts sup old e) → block_and below sup old e ≡ behind (BlockSeen (block_at e a.bytes) ∷ a.entries) (below e a.bytes)
   unfolding block_in own_records behind
   block_read below e a = rw (a.is, a.passes, a.has) refl
-
-  nil : (records : List Seen) → records ++ [] ≡ records
-  nil [] = refl
-  nil (one ∷ records) = ap (λ more. one ∷ more) (nil records)
 
   -- what is sure to stand in a block is below its bound
   fits_here : (e : Expect) → IsSelf e → Fact e → (all : Visits Fact (trail_of sup old e)) → is_below (bound_of (under e.tree e.address) (last_in (walk_of sup old e))) e.high ≡ true

@@ -50,7 +50,7 @@ carries_then P true b (Ok visits) later all more = carries_after P b visits late
 carries_then P false b (Err finding) later all more = tt
 carries_then P false b (Ok visits) later all more = elim all [ ]
 
-itself : (n : ℕ) → (n == n) ≡ true
+pub itself : (n : ℕ) → (n == n) ≡ true
 itself n = grind (arith, nat_tests)
 
 -- the bound of a child or of its node, where what is below the child is below the next key

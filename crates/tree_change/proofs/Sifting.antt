@@ -79,7 +79,7 @@ pub not_new : (k : Option Key) (own others : List Seen) → is_none k ≡ false 
 not_new None own others is = absurd (cc)
 not_new (Some last) own others is = refl
 
-nil : (records : List Seen) → records ++ [] ≡ records
+pub nil : (records : List Seen) → records ++ [] ≡ records
 nil [] = refl
 nil (one ∷ records) = ap (λ more. one ∷ more) (nil records)
 

@@ -73,7 +73,8 @@ OldSideLaw = (pairs : Pairs) (marked moving : Marks) (touched moved : ℕ → Bo
     → Stands pairs sup old before → AreMarked marked touched sup old before
     → AreMarked moving moved sup old before → AreListed under moving sup old before
     → AreUntouched touched moved old new → TellsShared shared (kept_of pairs marked moved under) sup new root
-    → skip_of (kept_at pairs (stops_of (kept_of pairs marked moved under) (anew_of under) sup new root) under) nothing (anew_of under) sup old before
+    → skip_of (kept_at pairs (stops_of (kept_of pairs marked moved under) (anew_of under) sup new root) under) nothing (anew_of under)
+    sup old before
     ≡ unkept (kept_where shared sup old) nothing sup old before
 
 -- Of trees of different ids whose walks have no finding: where the new image has the records of these walks, and in one tree just those
