@@ -1,12 +1,12 @@
 -- The records of the walk that keeps the shared blocks are those of the pairs that are not shared.
-use Rattle.std.proofs.Common.{◌≡◌, ℕ, suc, ◌+◌, ◌-◌, ◌*◌, ◌^◌, ◌≤◌, ◌==◌, Bool, true, false, not, ◌&&◌, ◌||◌, List, [], ◌∷◌, ◌++◌, ◌⊎◌, inl, inr, refl, ap, sym, subst, ◌∙◌, arith}
+use Rattle.std.proofs.Common.{◌≡◌, ℕ, suc, ◌+◌, ◌-◌, ◌*◌, ◌^◌, ◌≤◌, ◌==◌, Bool, true, false, not, ◌&&◌, ◌||◌, List, [], ◌∷◌, ◌++◌, inl, inr, refl, ap, sym, subst, ◌∙◌, arith}
 use Rattle.std.specs.Prelude.{Option, Some, None, is_some, Result, Ok, Err, length, map, if◌then◌else◌}
 use Rattle.std.specs.List.{AllByRecursion, cons_option, filter, filter_map, flat_map, fold, list_any}
 use Rattle.std.proofs.Math.Nat.{min-le_left}
 use Rattle.std.proofs.lemmas.Bool.{eqb-true}
 use Rattle.std.proofs.lemmas.Bool.Decides.{nat_tests}
 use Rattle.std.proofs.lemmas.List.Elements.{filter-append, filter_map-append}
-use Rattle.verdict.specs.Rules.{and_then, no_key}
+use Rattle.verdict.specs.Rules.{and_then}
 use Rattle.verdict.specs.declared.finding.Finding.{Finding}
 use Rattle.verdict.specs.declared.key.Key.{Key}
 use Rattle.verdict.specs.declared.place.At.{At}
@@ -31,9 +31,8 @@ use Rattle.block_source.specs.Counts.{after_copies, copies_of, with_read}
 use Rattle.tree_change.specs.Change.{item_of_pairs, items_in}
 use Rattle.tree_change.specs.Keeping.{OneOf, live_at}
 use Rattle.tree_change.specs.LivePairs.{live_in}
-use Rattle.tree_change.specs.Skips.{Kept, nothing, own_of, unkept}
+use Rattle.tree_change.specs.Skips.{Kept, nothing, own_of}
 use Rattle.tree_change.specs.Unshared.{AreOfPairs, ReadsTwiceLaw, UnsharedLaw, is_block_seen, item_seen, pair_seen}
-use Rattle.tree_change.proofs.Bounds.{and_parts}
 use Rattle.tree_change.proofs.Climbing.{some_live}
 use Rattle.tree_change.proofs.Lives.{NoBlocks, entries_none, lives_are, ok_same}
 use Rattle.tree_change.proofs.Skipping.{own_or, pick, unkept_in, unkept_is}

@@ -1,6 +1,5 @@
 -- Two walks from blocks at one address, where the same is stored at each address that the first comes to, come to the same addresses.
-use Rattle.std.proofs.Common.{◌≡◌, ℕ, zero, suc, List, [], ◌∷◌, refl, ap, sym, subst, ◌∙◌}
-use Rattle.std.specs.Prelude.{Ok}
+use Rattle.std.proofs.Common.{◌≡◌, ℕ, zero, suc, List, [], ◌∷◌, refl, sym, subst, ◌∙◌}
 use Rattle.super_reader.specs.declared.Super.{Super}
 use Rattle.node_reader.specs.Layout.{pointers_of}
 use Rattle.node_reader.specs.Stored.{Stored}
