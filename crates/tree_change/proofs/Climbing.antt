@@ -111,7 +111,7 @@ or_cases : (a b : Bool) → (a || b) ≡ true → (a ≡ true) ⊎ (b ≡ true)
 or_cases true b is = inl refl
 or_cases false b is = inr is
 
-some_live : (a b : Live) → Some a ≡ Some b → a ≡ b
+pub some_live : (a b : Live) → Some a ≡ Some b → a ≡ b
 some_live a b is = cc
 
 abbrev pub copied : List ℕ → Result (List ℕ) CopyFault

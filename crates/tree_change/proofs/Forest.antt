@@ -111,7 +111,7 @@ module _ (sup : Super) where
       ∙ ((told sup tree.0 tree.1 split.0 split.2).gives split.1 (stops_none trees split.1 tree.1.tree tree.1.level split.3 (others_after tree trees apart.0))
       ∙ ap (λ ls. lives_of tree ++ ls) (lives_all trees split.1 apart.1 split.3))
 
-  others_all : (trees : List Tree) (records : List Seen) (id : ℕ) → walks trees ≡ Ok records → NoneOf id trees → OfOthers id (all_lives trees)
+  pub others_all : (trees : List Tree) (records : List Seen) (id : ℕ) → walks trees ≡ Ok records → NoneOf id trees → OfOthers id (all_lives trees)
   others_all [] records id is none = tt
   others_all (tree ∷ trees) records id is none =
       let split = then_ok (walk_of sup tree.0 tree.1) (walks trees) records is in

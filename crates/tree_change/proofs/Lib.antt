@@ -29,3 +29,11 @@ pub mod Narrow
 pub mod Kept
 pub mod KeptImage
 pub mod ArrayTree
+pub mod OldPlaces
+pub mod OldHidden
+pub mod OldStops
+pub mod OldWalk
+pub mod OldSide
+pub mod OldBlocks
+pub mod OldTells
+pub mod OldSupers

@@ -31,7 +31,7 @@ use Rattle.tree_change.proofs.Trails.{Trail, trail_below, trail_of, trails}
 use Rattle.tree_change.proofs.Visiting.{Visits, VisitsOne, comes_from, visits_both, visits_from, visits_map, visits_one, visits_one_from, visits_then_first, visits_then_later}
 use Rattle.tree_change.proofs.Within.{Below, here_of, node_keys, pointer_keys, rest_of, within}
 
-never : (b : Bool) → b ≡ true → b ≡ false → ⊥
+pub never : (b : Bool) → b ≡ true → b ≡ false → ⊥
 never b is other = cc
 
 -- a pointer as a child that is walked
@@ -128,12 +128,12 @@ unique test (pointer ∷ pointers) starts ascend each pass all order = by (test 
 some_live : (a b : Live) → Some a ≡ Some b → a ≡ b
 some_live a b is = cc
 
-if_some_map : (entry : Option Live) (P Q : Live → Type 0) → ((live : Live) → P live → Q live) → IfSome entry P → IfSome entry Q
+pub if_some_map : (entry : Option Live) (P Q : Live → Type 0) → ((live : Live) → P live → Q live) → IfSome entry P → IfSome entry Q
 if_some_map None P Q f is = tt
 if_some_map (Some live) P Q f is = f live is
 
 -- the pair above another
-above_is : (live up : Live) (entry : Option Live) → if_above live entry ≡ Some up → (entry ≡ Some up) × (nat_lt live.level up.level ≡ true)
+pub above_is : (live up : Live) (entry : Option Live) → if_above live entry ≡ Some up → (entry ≡ Some up) × (nat_lt live.level up.level ≡ true)
 above_is live up None is = absurd (cc)
 above_is live up (Some over) is = by (nat_lt live.level over.level) refl is
   where

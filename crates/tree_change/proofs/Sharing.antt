@@ -50,7 +50,7 @@ carries_then P true b (Ok visits) later all more = carries_after P b visits late
 carries_then P false b (Err finding) later all more = tt
 carries_then P false b (Ok visits) later all more = elim all [ ]
 
-itself : (n : ℕ) → (n == n) ≡ true
+pub itself : (n : ℕ) → (n == n) ≡ true
 itself n = grind (arith, nat_tests)
 
 -- the bound of a child or of its node, where what is below the child is below the next key
@@ -70,7 +70,7 @@ pub record IsFound (e : Expect) (starts : List Start) (last : Key) (mark : Bool)
   pub same : is_same e live ≡ true
   pub last_is : bound_of starts live.last ≡ last
 
-found : (e : Expect) (starts : List Start) (last : Key) (mark : Bool) (entry : Option Live) → (if mark then None else last_if_same e starts entry) ≡ Some last → IsFound e starts last mark entry
+pub found : (e : Expect) (starts : List Start) (last : Key) (mark : Bool) (entry : Option Live) → (if mark then None else last_if_same e starts entry) ≡ Some last → IsFound e starts last mark entry
 found e starts last true entry is = absurd (cc)
 found e starts last false None is = absurd (cc)
 found e starts last false (Some live) is = by (is_same e live) refl is
@@ -79,7 +79,7 @@ found e starts last false (Some live) is = by (is_same e live) refl is
     by true same is = record { live = live; free = refl; known = refl; same = same; last_is = cc }
     by false same is = absurd (cc)
 
-neither : (a b : Bool) → (a || b) ≡ false → (a ≡ false) × (b ≡ false)
+pub neither : (a b : Bool) → (a || b) ≡ false → (a ≡ false) × (b ≡ false)
 neither true b is = absurd (cc)
 neither false b is = (refl, is)
 
@@ -112,7 +112,7 @@ same_from P sup old e v same child all =
     by (Some low) child fits =
         rw (first_is sup old v a fits.0, same_sym low (entry_key a.bytes (entry_size v.level) 0) fits.1, last_from P sup old v a fits.0 all) refl
 
-same_to : (P : Expect → Type 0) (sup : Super) (old : Stored) (e v : Expect) → e.tree ≡ v.tree → e.address ≡ v.address → is_same e (live_at sup old v) ≡ true → Visits P (trail_of sup old v) → IsSame old e v
+pub same_to : (P : Expect → Type 0) (sup : Super) (old : Stored) (e v : Expect) → e.tree ≡ v.tree → e.address ≡ v.address → is_same e (live_at sup old v) ≡ true → Visits P (trail_of sup old v) → IsSame old e v
 same_to P sup old e v of_tree at is all =
     let parts = and_parts (e.level == v.level && e.generation == v.generation) (is_first (live_at sup old v) e.low e.high) is in
     let two = and_parts (e.level == v.level) (e.generation == v.generation) parts.0 in
@@ -143,7 +143,7 @@ same_to P sup old e v of_tree at is all =
     by (Some low) is = by_count low (count_of a.bytes == 0) refl is
 
 -- the bound of a kept block is below the high key just where all its keys are
-last_fits : (P : Expect → Type 0) (sup : Super) (old : Stored) (e v : Expect) → is_same e (live_at sup old v) ≡ true → IsSame old e v → Visits P (trail_of sup old v)
+pub last_fits : (P : Expect → Type 0) (sup : Super) (old : Stored) (e v : Expect) → is_same e (live_at sup old v) ≡ true → IsSame old e v → Visits P (trail_of sup old v)
     → is_below (last_in (walk_of sup old v)) e.high ≡ upto (trail_of sup old v) e.high
 last_fits P sup old e v is same all = by e.low e.high (subst (LowAt e.low v.level) a.is same.low) (and_parts (e.level == v.level && e.generation == v.generation) (is_first (live_at sup old v) e.low e.high) is).1
   where
@@ -208,7 +208,7 @@ module _ (pairs : Pairs) (marked : Marks) (moved : ℕ → Bool) (under : Under)
       (carries_children level carries e v of_tree pointers less (visits_then_later IsKept (of_old level d) rest_old all))))
 
   -- a block, where what is below it is carried
-  carries_block : (level : ℕ) (e v : Expect) → v.level ≡ level → IsSame old e v → is_some e.low ≡ true
+  pub carries_block : (level : ℕ) (e v : Expect) → v.level ≡ level → IsSame old e v → is_some e.low ≡ true
       → ((bytes : List ℕ) → keys_below (keys_at level bytes) e.high ≡ true → Visits IsKept (trail_below level sup old v bytes)
       → Carries Stays (upto (trail_below level sup old v bytes) e.high) (trail_below level sup new e bytes))
       → Visits IsKept (of_old level v) → Carries Stays (upto (of_old level v) e.high) (of_new level e)
@@ -231,7 +231,7 @@ module _ (pairs : Pairs) (marked : Marks) (moved : ℕ → Bool) (under : Under)
       by false own last rest bytes stays carries = tt
 
   -- what is below a block on a level
-  carries_below : (level : ℕ) (e v : Expect) → e.tree ≡ v.tree → (bytes : List ℕ) → keys_below (keys_at level bytes) e.high ≡ true → Visits IsKept (trail_below level sup old v bytes)
+  pub carries_below : (level : ℕ) (e v : Expect) → e.tree ≡ v.tree → (bytes : List ℕ) → keys_below (keys_at level bytes) e.high ≡ true → Visits IsKept (trail_below level sup old v bytes)
       → Carries Stays (upto (trail_below level sup old v bytes) e.high) (trail_below level sup new e bytes)
   unfolding trail_below
   carries_below zero e v of_tree bytes keys all = tt
@@ -283,7 +283,7 @@ module _ (pairs : Pairs) (marked : Marks) (moved : ℕ → Bool) (under : Under)
     pub all : Visits (IsFree moving) (trail_of sup old v)
 
   -- below a block that is not marked none is touched or marked
-  all_free : (moving : Marks) (touched : ℕ → Bool) → AreUntouched touched moved old new → (v : Expect)
+  pub all_free : (moving : Marks) (touched : ℕ → Bool) → AreUntouched touched moved old new → (v : Expect)
       → Visits Known (trail_of sup old v) → Visits (IsRight marked touched) (trail_of sup old v) → Visits (Moves moving) (trail_of sup old v)
       → comes touched v ≡ false → Visits (IsFree moving) (trail_of sup old v)
   all_free moving touched alike v known marks moves none =
@@ -296,7 +296,7 @@ module _ (pairs : Pairs) (marked : Marks) (moved : ℕ → Bool) (under : Under)
       (visits_both Known (IsRight marked touched) (trail_of sup old v) known marks)
       (visits_both (λ w. Free w × Below Free sup old w) (Moves moving) (trail_of sup old v) (visits_both Free (Below Free sup old) (trail_of sup old v) free deep) moves))
 
-  was_visited : (moving : Marks) (touched : ℕ → Bool) (root e : Expect) (last : Key) → e.tree ≡ root.tree
+  pub was_visited : (moving : Marks) (touched : ℕ → Bool) (root e : Expect) (last : Key) → e.tree ≡ root.tree
       → Visits Known (trail_of sup old root) → ((address : ℕ) → IfSome (pairs root.tree address) (λ live. VisitsOne (IsKnown sup old root.tree address live) (trail_of sup old root)))
       → Visits (IsRight marked touched) (trail_of sup old root) → Visits (Moves moving) (trail_of sup old root)
       → AreUntouched touched moved old new → K e ≡ Some last → WasVisited moving e last
@@ -327,7 +327,7 @@ module _ (pairs : Pairs) (marked : Marks) (moved : ℕ → Bool) (under : Under)
       }
 
   -- at and below a child at which and below which none moved all is kept
-  still_kept : (moving : Marks) (level : ℕ) (d : Expect) → d.level ≡ level → moving d.tree d.address ≡ false → Visits (IsFree moving) (of_old level d) → Visits IsKept (of_old level d)
+  pub still_kept : (moving : Marks) (level : ℕ) (d : Expect) → d.level ≡ level → moving d.tree d.address ≡ false → Visits (IsFree moving) (of_old level d) → Visits IsKept (of_old level d)
   still_kept moving level d at none all =
       let Still = λ (w : Expect). moved w.address ≡ false in
       let here : IsFree moving d = here_of (IsFree moving) (trail_below level sup old) sup old d all in

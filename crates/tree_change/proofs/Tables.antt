@@ -56,7 +56,7 @@ Same v w = w.address ≡ v.address → w ≡ v
 abbrev pub Alone : Trail → Type 0
 Alone trail = Visits (λ v. Visits (Same v) trail) trail
 
-copied_same : (stored : Stored) (a b : ℕ) (p q : List ℕ) → stored a ≡ Ok p → stored b ≡ Ok q → b ≡ a → p ≡ q
+pub copied_same : (stored : Stored) (a b : ℕ) (p q : List ℕ) → stored a ≡ Ok p → stored b ≡ Ok q → b ≡ a → p ≡ q
 copied_same stored a b p q x y is = let h : stored b ≡ stored a = ap stored is in cc
 
 -- a block and one below it

@@ -14,3 +14,6 @@ pub mod Listing
 pub mod TableLaw
 pub mod SharedLaw
 pub mod NarrowLaw
+pub mod OldSide
+pub mod Unshared
+pub mod SupersLaw

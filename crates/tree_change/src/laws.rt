@@ -6,8 +6,11 @@ ghost use Rattle.tree_change.specs.Listed.{ListingLaw};
 ghost use Rattle.tree_change.specs.Marking.{MarkingLaw};
 ghost use Rattle.tree_change.specs.NarrowLaw.{NarrowLaw};
 ghost use Rattle.tree_change.specs.SharedLaw.{ChunkTreeLaw, KeptLaw, KeptTreeLaw, TreesLaw};
+ghost use Rattle.tree_change.specs.OldSide.{GoneLaw, OldSideLaw, TellsLaw};
 ghost use Rattle.tree_change.specs.SkipLaw.{SkippingLaw, WalkIsOwn};
+ghost use Rattle.tree_change.specs.SupersLaw.{SupersLaw};
 ghost use Rattle.tree_change.specs.TableLaw.{LivesLaw, TableLaw, TablesLaw, TreeTableLaw};
+ghost use Rattle.tree_change.specs.Unshared.{ReadsTwiceLaw, UnsharedLaw};
 
 /// A walk is the own records of the blocks that it comes to, one after the other, or their first finding.
 pub fn walk_is_own()
@@ -25,6 +28,38 @@ pub fn skipping_law()
 /// those that writes touch and of all above them, and the children that moved or are above a block that moved.
 pub fn keeping_law()
     ensures { KeepingLaw }
+{}
+
+/// The walk of a tree as it was, which keeps the blocks that the walk of the tree as it is kept and came to, reads just the blocks that
+/// are not shared, and gives their own records, each once.
+pub fn old_side_law()
+    ensures { OldSideLaw }
+{}
+
+/// Whether a pair is shared by two images tells which blocks of each tree of the new image are shared, where just these are kept.
+pub fn tells_law()
+    ensures { TellsLaw }
+{}
+
+/// No pair of a tree that the new image has not is shared.
+pub fn gone_law()
+    ensures { GoneLaw }
+{}
+
+/// The whole walk without the records of kept blocks has the blocks of the pairs that are not shared, each once, and the items that
+/// stand in their leaves, where just the blocks are kept of which the pairs are shared.
+pub fn unshared_law()
+    ensures { UnsharedLaw }
+{}
+
+/// Each copy of each block among records is read in at most two reads for each block.
+pub fn reads_twice_law()
+    ensures { ReadsTwiceLaw }
+{}
+
+/// Superblocks by which blocks are read alike give walks that come to the same blocks, the same live pairs, and the same stops.
+pub fn supers_law()
+    ensures { SupersLaw }
 {}
 
 /// Blocks that are marked from some on up, by the nodes above that a table of live pairs names, are just those that are
