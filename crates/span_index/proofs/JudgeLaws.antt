@@ -93,10 +93,12 @@ worth_one runs low until address n sort is under covered span r first =
     let ends : nat_lt low (end_of span) ≡ true = and_right (nat_lt 0 span.sectors) _ (and_right (is_sort n span.sort) _ r) in
     let before : span.first < until = omega arith in
     let begins : nat_lt span.first until ≡ true = grind (arith, nat_tests) in
-    let one : cond {A = ℕ} (is_sort sort span.sort && meets runs span) 1 0 ≡ 1 = ap (λ b. cond b 1 0) (and_both _ _ of (covered span some ends begins)) in
+    let one : cond {A = ℕ} (is_sort sort span.sort && meets runs span) 1 0 ≡ 1 = ap (λ b. cond b 1 0)
+    (and_both _ _ of (covered span some ends begins)) in
     omega (arith, one)
 
-module _ (context : Context) (t : Table) (xs : List Span) (low address : ℕ) (old new : Walks) (before mid next after : ℕ) (from : ℕ) (was : AreWalked context t xs low from old) where
+module _ (context : Context) (t : Table) (xs : List Span) (low address : ℕ) (old new : Walks) (before mid next after : ℕ) (from : ℕ)
+    (was : AreWalked context t xs low from old) where
   pub all_begin : IsBeginning context t xs address old.owned new.owned before mid → IsBeginning context t xs address old.summed new.summed mid next
       → IsBeginning context t xs address old.shown new.shown next after → AreBeginning context t xs address old new before after
   unfolding passed
@@ -118,7 +120,8 @@ module _ (context : Context) (t : Table) (xs : List Span) (low address : ℕ) (o
   }
 
   pub all_pass : IsPassing context t xs low address old.owned new.owned before mid → IsPassing context t xs low address old.summed new.summed mid next
-      → IsPassing context t xs low address old.shown new.shown next after → ArePast address new → ArePassing context t xs low address old new before after
+      → IsPassing context t xs low address old.shown new.shown next after → ArePast address new
+      → ArePassing context t xs low address old new before after
   unfolding passed
   all_pass a b c past = record {
     walked = record {
@@ -185,7 +188,8 @@ broken_is address w sums totals keeps reached a b c d is =
 past_head : (address : ℕ) (head : Head) → due address head ≡ None → IsBeyond (address + 1) head
 past_head address Start e = tt
 past_head address (At s n) e =
-    elim (nat_le s.first address) as (λ b. nat_le s.first address ≡ b → cond {A = Option (Span × ℕ)} b (Some (s, n)) None ≡ None → address + 1 ≤ s.first) [
+    elim (nat_le s.first address) as (λ b. nat_le s.first address ≡ b
+    → cond {A = Option (Span × ℕ)} b (Some (s, n)) None ≡ None → address + 1 ≤ s.first) [
       | true ↦ λ is no. absurd (cc)
       | false ↦ λ is no. let up : address < s.first = grind (arith, nat_tests) in omega arith
     ] refl e
@@ -205,7 +209,8 @@ still_here address w past = record {
   shown = refl;
 }
 
-module _ (context : Context) (t : Table) (xs : List Span) (low address later : ℕ) (w : Walks) (walked : AreWalked context t xs low address w) (begun : AreBegun w)
+module _ (context : Context) (t : Table) (xs : List Span) (low address later : ℕ) (w : Walks) (walked : AreWalked context t xs low address w)
+    (begun : AreBegun w)
     (still : AreStill address later w) (at_sector : later % 4096 ≡ 0) (up : address ≤ later) where
   reached : AreReached address w (sector_sum context xs later)
   reached =
@@ -226,6 +231,7 @@ module _ (context : Context) (t : Table) (xs : List Span) (low address later : �
       }
 
   -- what the sums say of a sector where they are still says it of each later one
-  pub bad_is : (broken : Bool) → ((sums : ℕ → ℕ) → AreReached address w sums → broken ≡ is_broken (sector address) sums) → is_bad context xs later ≡ broken
+  pub bad_is : (broken : Bool) → ((sums : ℕ → ℕ) → AreReached address w sums → broken ≡ is_broken (sector address) sums)
+      → is_bad context xs later ≡ broken
   unfolding is_bad is_broken
   bad_is broken is = sym (is (sector_sum context xs later) reached)

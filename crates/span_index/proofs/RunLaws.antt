@@ -19,7 +19,8 @@ use Rattle.span_index.proofs.MeetingLaws.{and_both, and_left, and_right}
 -- ---- one run
 
 -- The search of a run has come to an address.
-pub record IsSearching (context : Context) (t : Table) (xs : List Span) (low : ℕ) (run : Run) (at : ℕ) (old walks : Walks) (before now : ℕ) : Type 0 where
+pub record IsSearching (context : Context) (t : Table) (xs : List Span) (low : ℕ) (run : Run) (at : ℕ) (old walks : Walks)
+    (before now : ℕ) : Type 0 where
   pub walked : AreWalked context t xs low at walks
   pub begun : AreBegun walks
   pub from : run.from ≤ at
@@ -62,7 +63,8 @@ is_in run a from until =
     ap (λ b. b || false) (and_both _ _ x y)
 
 module _ (context : Context) (t : Table) (xs : List Span) (low : ℕ) (run : Run) (at : ℕ) (old walks new : Walks) (before mid now : ℕ)
-    (was : IsSearching context t xs low run at old walks before mid) (more : at < run.until) (passing : ArePassing context t xs low at walks new mid now) where
+    (was : IsSearching context t xs low run at old walks before mid) (more : at < run.until)
+    (passing : ArePassing context t xs low at walks new mid now) where
   pub looked : (runs : List Run) → AreCovered runs low run.until → now + passed runs old xs ≤ before + passed runs new xs
   looked runs covered =
       let a = was.looks runs covered in
@@ -167,7 +169,8 @@ module _ (bad : ℕ → Bool) (run : Run) (runs : List Run) where
   )
 
   -- the first broken sector of the first run is that of all
-  first_here : (start : ℕ) → AreRunsFrom start (run ∷ runs) → (least : ℕ) → IsFirstBad bad (run ∷ []) (Some least) → IsFirstBad bad (run ∷ runs) (Some least)
+  first_here : (start : ℕ) → AreRunsFrom start (run ∷ runs) → (least : ℕ) → IsFirstBad bad (run ∷ []) (Some least)
+      → IsFirstBad bad (run ∷ runs) (Some least)
   first_here start are least is = (
     is.0,
     or_left (nat_le run.from least && nat_lt least run.until) (is_inside runs least) (or_false _ is.1),

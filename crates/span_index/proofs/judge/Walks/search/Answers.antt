@@ -6,12 +6,16 @@ use Rattle.span_index.proofs.judge.Walks.search.Goals as goal
 -- src/judge.rt:201:17
 pub returns-then-is_broken-clause-first : goal.returns-then-is_broken-clause-first
 returns-then-is_broken-clause-first g c =
-    found (g.C.Ctx.context c.args.ctx.now) (times_of c.args.index.now) (spans_of c.args.index.now) g.low c.args.run.now c.loop-at.at c.args.self c.loop-at.walks c.pass-walks.result
-    c.args.steps.now c.loop-at.steps c.pass-walks.new.steps c.loop-at.invariant c.loop-at-test.true c.pass-walks.ensures c.is_broken.result c.is_broken.ensures c.if-is_broken.true
+    found (g.C.Ctx.context c.args.ctx.now) (times_of c.args.index.now) (spans_of c.args.index.now) g.low c.args.run.now c.loop-at.at c.args.self
+    c.loop-at.walks c.pass-walks.result
+    c.args.steps.now c.loop-at.steps c.pass-walks.new.steps c.loop-at.invariant c.loop-at-test.true c.pass-walks.ensures c.is_broken.result
+    c.is_broken.ensures c.if-is_broken.true
 
 -- src/judge.rt:198:9
 pub loop-at-preserved : goal.loop-at-preserved
 loop-at-preserved g c =
-    search_on (g.C.Ctx.context c.args.ctx.now) (times_of c.args.index.now) (spans_of c.args.index.now) g.low c.args.run.now c.loop-at.at c.args.self c.loop-at.walks c.pass-walks.result
-    c.args.steps.now c.loop-at.steps c.pass-walks.new.steps c.loop-at.invariant c.loop-at-test.true c.pass-walks.ensures c.is_broken.result c.is_broken.ensures c.if-is_broken.false
+    search_on (g.C.Ctx.context c.args.ctx.now) (times_of c.args.index.now) (spans_of c.args.index.now) g.low c.args.run.now c.loop-at.at c.args.self
+    c.loop-at.walks c.pass-walks.result
+    c.args.steps.now c.loop-at.steps c.pass-walks.new.steps c.loop-at.invariant c.loop-at-test.true c.pass-walks.ensures c.is_broken.result
+    c.is_broken.ensures c.if-is_broken.false
     c.bound-at.result c.bound-at.ensures.after c.bound-at.ensures.most c.bound-at.ensures.sectors c.bound-at.ensures.still

@@ -9,41 +9,54 @@ use Rattle.span_index.proofs.kept.SpanIndex.first_bad.Goals as goal
 -- src/judge.rt:44:9
 pub loop-run-init : goal.loop-run-init
 loop-run-init g c =
-    judge_begins (g.C.Ctx.context c.args.ctx.now) (times_of c.args.self.now) (spans_of c.args.self.now) c.args.runs.now c.new-walks.result c.args.steps.now
+    judge_begins (g.C.Ctx.context c.args.ctx.now) (times_of c.args.self.now) (spans_of c.args.self.now) c.args.runs.now c.new-walks.result
+    c.args.steps.now
     c.requires (c.new-walks.ensures.walked (g.C.Ctx.context c.args.ctx.now) (times_of c.args.self.now) (spans_of c.args.self.now))
 
 -- src/judge.rt:46:31
 pub search-bad-requires : goal.search-bad-requires
 search-bad-requires g c κs within =
-    let run = is_run (g.C.Ctx.context c.args.ctx.now) (times_of c.args.self.now) (spans_of c.args.self.now) c.args.runs.now (drop c.loop-run.run-index c.args.runs.now) c.loop-run.run-index
-    c.loop-run.walks c.args.steps.now c.loop-run.steps c.loop-run.invariant (run_at c.args.runs.now c.loop-run.run-index) (drop (c.loop-run.run-index + 1) c.args.runs.now)
+    let run = is_run (g.C.Ctx.context c.args.ctx.now) (times_of c.args.self.now) (spans_of c.args.self.now) c.args.runs.now
+    (drop c.loop-run.run-index c.args.runs.now) c.loop-run.run-index
+    c.loop-run.walks c.args.steps.now c.loop-run.steps c.loop-run.invariant (run_at c.args.runs.now c.loop-run.run-index)
+    (drop (c.loop-run.run-index + 1) c.args.runs.now)
     (left_from c.args.runs.now c.loop-run.run-index c.loop-run-test.true) in
-    let begun = has_begun (g.C.Ctx.context c.args.ctx.now) (times_of c.args.self.now) (spans_of c.args.self.now) c.args.runs.now (drop c.loop-run.run-index c.args.runs.now) c.loop-run.run-index
-    c.loop-run.walks c.args.steps.now c.loop-run.steps c.loop-run.invariant (run_at c.args.runs.now c.loop-run.run-index) (drop (c.loop-run.run-index + 1) c.args.runs.now)
+    let begun = has_begun (g.C.Ctx.context c.args.ctx.now) (times_of c.args.self.now) (spans_of c.args.self.now) c.args.runs.now
+    (drop c.loop-run.run-index c.args.runs.now) c.loop-run.run-index
+    c.loop-run.walks c.args.steps.now c.loop-run.steps c.loop-run.invariant (run_at c.args.runs.now c.loop-run.run-index)
+    (drop (c.loop-run.run-index + 1) c.args.runs.now)
     (left_from c.args.runs.now c.loop-run.run-index c.loop-run-test.true) c.begin-begun.result c.begin-begun.new.steps c.begin-begun.ensures in
     (within.0, (within.1, (c.len.ensures.ordered, (run, (from_itself (run_at c.args.runs.now c.loop-run.run-index), (begun.begun, begun.walked))))))
 
 -- src/judge.rt:48:17
 pub returns-then-is_some : goal.returns-then-is_some
 returns-then-is_some g c =
-    judged_by (g.C.Ctx.context c.args.ctx.now) (times_of c.args.self.now) (spans_of c.args.self.now) c.args.runs.now (drop c.loop-run.run-index c.args.runs.now) c.loop-run.run-index
-    c.loop-run.walks c.args.steps.now c.loop-run.steps c.loop-run.invariant (run_at c.args.runs.now c.loop-run.run-index) (drop (c.loop-run.run-index + 1) c.args.runs.now)
-    (left_from c.args.runs.now c.loop-run.run-index c.loop-run-test.true) c.begin-begun.result c.begin-begun.new.steps c.begin-begun.ensures c.search-bad.result.0 c.search-bad.new.steps
+    judged_by (g.C.Ctx.context c.args.ctx.now) (times_of c.args.self.now) (spans_of c.args.self.now) c.args.runs.now
+    (drop c.loop-run.run-index c.args.runs.now) c.loop-run.run-index
+    c.loop-run.walks c.args.steps.now c.loop-run.steps c.loop-run.invariant (run_at c.args.runs.now c.loop-run.run-index)
+    (drop (c.loop-run.run-index + 1) c.args.runs.now)
+    (left_from c.args.runs.now c.loop-run.run-index c.loop-run-test.true) c.begin-begun.result c.begin-begun.new.steps c.begin-begun.ensures
+    c.search-bad.result.0 c.search-bad.new.steps
     (among_at c.args.runs.now c.loop-run.run-index c.loop-run-test.true) c.search-bad.ensures.looks
-    (all_spans c.args.self.now.spans c.args.self.now.own c.len.ensures.ordered) c.loop-run-test.true c.search-bad.result.1 (sym c.is_some.ensures ∙ c.if-is_some.true) c.search-bad.ensures.first
+    (all_spans c.args.self.now.spans c.args.self.now.own c.len.ensures.ordered) c.loop-run-test.true c.search-bad.result.1
+    (sym c.is_some.ensures ∙ c.if-is_some.true) c.search-bad.ensures.first
 
 -- src/judge.rt:44:9
 pub loop-run-preserved : goal.loop-run-preserved
 loop-run-preserved g c =
-    judge_by (g.C.Ctx.context c.args.ctx.now) (times_of c.args.self.now) (spans_of c.args.self.now) c.args.runs.now (drop c.loop-run.run-index c.args.runs.now) c.loop-run.run-index
-    c.loop-run.walks c.args.steps.now c.loop-run.steps c.loop-run.invariant (run_at c.args.runs.now c.loop-run.run-index) (drop (c.loop-run.run-index + 1) c.args.runs.now)
-    (left_from c.args.runs.now c.loop-run.run-index c.loop-run-test.true) c.begin-begun.result c.begin-begun.new.steps c.begin-begun.ensures c.search-bad.result.0 c.search-bad.new.steps
+    judge_by (g.C.Ctx.context c.args.ctx.now) (times_of c.args.self.now) (spans_of c.args.self.now) c.args.runs.now
+    (drop c.loop-run.run-index c.args.runs.now) c.loop-run.run-index
+    c.loop-run.walks c.args.steps.now c.loop-run.steps c.loop-run.invariant (run_at c.args.runs.now c.loop-run.run-index)
+    (drop (c.loop-run.run-index + 1) c.args.runs.now)
+    (left_from c.args.runs.now c.loop-run.run-index c.loop-run-test.true) c.begin-begun.result c.begin-begun.new.steps c.begin-begun.ensures
+    c.search-bad.result.0 c.search-bad.new.steps
     (among_at c.args.runs.now c.loop-run.run-index c.loop-run-test.true) c.search-bad.ensures.looks
     c.search-bad.ensures.walked c.search-bad.result.1 (sym c.is_some.ensures ∙ c.if-is_some.false) c.search-bad.ensures.first
 
 -- src/judge.rt:31:5
 pub returns : goal.returns
 returns g c =
-    judged_none (g.C.Ctx.context c.args.ctx.now) (times_of c.args.self.now) (spans_of c.args.self.now) c.args.runs.now (drop c.loop-run.run-index c.args.runs.now) c.loop-run.run-index
+    judged_none (g.C.Ctx.context c.args.ctx.now) (times_of c.args.self.now) (spans_of c.args.self.now) c.args.runs.now
+    (drop c.loop-run.run-index c.args.runs.now) c.loop-run.run-index
     c.loop-run.walks c.args.steps.now c.loop-run.steps c.loop-run.invariant (drop_all c.loop-run.run-index c.args.runs.now c.loop-run-test.false)
     (all_spans c.args.self.now.spans c.args.self.now.own c.len.ensures.ordered) c.loop-run.auto.run-index-end

@@ -8,4 +8,5 @@ abbrev pub ghost-search : goal.ghost-search
 ghost-search g a = a.run.now.from
 
 abbrev pub invariant-loop-run : goal.invariant-loop-run
-invariant-loop-run g l = IsJudging (g.C.Ctx.context l.ctx) (times_of l.self) (spans_of l.self) l.runs (drop l.run-index l.runs) l.run-index l.walks l.initial.steps l.steps
+invariant-loop-run g l = IsJudging (g.C.Ctx.context l.ctx) (times_of l.self) (spans_of l.self) l.runs (drop l.run-index l.runs) l.run-index l.walks
+    l.initial.steps l.steps
