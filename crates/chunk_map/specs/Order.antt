@@ -1,5 +1,5 @@
 -- What a chunk map keeps of its lists. Only the map's own functions need it.
-use Rattle.std.specs.Prelude.{◌≡◌, ℕ, ◌+◌, ◌≤◌, Bool, true, false, ◌||◌, ◌⊎◌, nat_le, List, [], ◌∷◌, length, Option, Some, None, if◌then◌else◌}
+use Rattle.std.specs.Prelude.{◌≡◌, ℕ, ◌+◌, ◌≤◌, Bool, true, false, ◌||◌, ◌⊎◌, nat_le, List, [], ◌∷◌, length, take, Option, Some, None, if◌then◌else◌}
 use Rattle.std.specs.Option.{IfSome}
 use Rattle.std.specs.List.{list_any, All, AllAdjacentBelow, Contains}
 use Rattle.std.specs.List.Sorted.{IsNonDecreasingBy}
@@ -79,8 +79,8 @@ pub record MeetsNone (before : List Chunk) (chunk : Chunk) : Type 0 where
 
 -- what a chunk map keeps of its lists: the second has the chunks of the first by start, all fit, and where the map says
 -- that they are apart they are; the third has the copies of all by offset, and where it is said to be clear it has no
--- others, and none meet
-pub record InOrder (chunks sorted copies : List Chunk) (apart clear : Bool) : Type 0 where
+-- others, and none meet; and none of so many of the first chunks by start meet
+pub record InOrder (chunks sorted copies : List Chunk) (apart clear : Bool) (front : ℕ) : Type 0 where
   pub order : sorted ≡ by_start chunks
   pub fit : AllFit chunks
   pub distances : apart ≡ true → AreApart sorted
@@ -88,6 +88,7 @@ pub record InOrder (chunks sorted copies : List Chunk) (apart clear : Bool) : Ty
   pub there : All (HasCopies copies) chunks
   pub sources : clear ≡ true → All (IsOfOne chunks) copies
   pub none_meet : clear ≡ true → AllClear sorted
+  pub front_clear : AllClear (take front sorted)
 
 -- what a search gives is the only one of some chunks that holds n bytes from a logical address on whole
 pub record IsOnlyHome (chunks : List Chunk) (a n : ℕ) (found : Option Chunk) : Type 0 where

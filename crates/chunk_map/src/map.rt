@@ -11,7 +11,7 @@ use crate::array::read_pair;
 use crate::copies::{logical_in_list, place_of};
 use crate::home::{home_apart, home_in};
 use crate::order::{rank_of, stands_apart};
-use crate::rules::{array_fault, clear_fault, sorted_fault};
+use crate::rules::{array_fault, sorted_fault};
 use crate::turned::put_copies;
 use std::alloc::Global;
 use std::marker::Model;
@@ -30,6 +30,8 @@ pub struct ChunkMap {
     copies: Vec<Chunk>,
     // Whether no two copies meet, and each is one of a chunk of the list.
     clear: bool,
+    // So many of the first chunks by start are known to have no two copies that meet.
+    front: usize,
 }
 
 /// What the system chunk array of a superblock gives.
@@ -50,7 +52,7 @@ impl Model for ChunkMap {
 
     ghost view = { λ m. m.chunks.items };
 
-    ghost invariant = { λ m. InOrder m.chunks.items m.sorted.items m.copies.items m.apart m.clear };
+    ghost invariant = { λ m. InOrder m.chunks.items m.sorted.items m.copies.items m.apart m.clear m.front };
 }
 
 impl ChunkMap {
@@ -64,6 +66,7 @@ impl ChunkMap {
             apart: true,
             copies: Vec::new(alloc),
             clear: true,
+            front: 0,
         }
     }
 
@@ -111,6 +114,11 @@ impl ChunkMap {
         }
         self.apart = apart;
         self.clear = clear;
+        self.front = if clear {
+            self.sorted.len()
+        } else {
+            self.front.min(rank)
+        };
         Ok(())
     }
 
@@ -177,15 +185,11 @@ impl ChunkMap {
     }
 
     // The first finding on the chunks by start. Where no two copies meet it is one pass over the chunks,
-    // else the copies of each chunk are compared with those of all before it, up to the first finding.
+    // else the copies of each chunk behind the clear front are compared with those of all before it, up
+    // to the first finding. Where chunks came by start, the first one behind has one.
     fn own_fault(&self, end: u64) -> Option<Finding>
         ensures { result ≡ first_failing (rows_by_start [] (by_start self.now) end) }
     {
-        let sorted = self.sorted.as_slice();
-        if self.clear {
-            clear_fault(sorted, end)
-        } else {
-            sorted_fault(sorted, end)
-        }
+        sorted_fault(self.sorted.as_slice(), self.front, end)
     }
 }
