@@ -7,7 +7,7 @@ use Rattle.std.proofs.lemmas.Bool.{and_parts, and_from, leb-true, ltb-true, le-l
 use Rattle.std.proofs.lemmas.List.Elements.{All-cons, All-tail, All-contains}
 use Rattle.verdict.specs.Chunks.{holds_range, logical_in_copies, logical_or, logical_of}
 use Rattle.verdict.specs.declared.place.Chunk.{Chunk}
-use Rattle.chunk_map.specs.Order.{AllFit, turned, HasCopies, IsCopyOf, IsOfOne, IsOnlyHome}
+use Rattle.chunk_map.specs.Order.{AllFit, turned, Has, HasCopies, IsCopyOf, IsOfOne, IsOnlyCopy}
 use Rattle.chunk_map.proofs.Ordered.{AllFit-get}
 
 -- whether a byte is one of n bytes at an offset
@@ -47,15 +47,15 @@ cond_behind true x o n = absurd (some_none x n)
 cond_behind false x o n = n
 
 -- a copy that has the byte is the one found
-copy_decides : (copies : List Chunk) (p : ℕ) (found : Option Chunk) (chunk : Chunk) (at : ℕ) → All (λ (copy : Chunk). holds_range copy p 1 ≡ true → found ≡ Some copy) copies → Contains copies (turned chunk at) → has_byte at chunk.length p ≡ true → Some (chunk.start + (p - at)) ≡ address_in found p
+copy_decides : (copies : List (ℕ × Chunk)) (p : ℕ) (found : Option Chunk) (chunk : Chunk) (at : ℕ) → ((copy : Chunk) → Has copies copy → holds_range copy p 1 ≡ true → found ≡ Some copy) → Has copies (turned chunk at) → has_byte at chunk.length p ≡ true → Some (chunk.start + (p - at)) ≡ address_in found p
 copy_decides copies p found chunk at only there byte =
-    sym (ap (λ o. address_in o p) (All-contains (λ (copy : Chunk). holds_range copy p 1 ≡ true → found ≡ Some copy) copies (turned chunk at) only there (byte_held at chunk.length p byte)))
+    sym (ap (λ o. address_in o p) (only (turned chunk at) there (byte_held at chunk.length p byte)))
 
 by_one : (b : Bool) (x : ℕ) (o given : Option ℕ) → (b ≡ true → Some x ≡ given) → (o ≡ None) ⊎ (o ≡ given) → (cond b (Some x) o ≡ None) ⊎ (cond b (Some x) o ≡ given)
 by_one true x o given first rest = inr (first refl)
 by_one false x o given first rest = rest
 
-by_chunk : (copies : List Chunk) (p : ℕ) (found : Option Chunk) (chunk : Chunk) (second : Option ℕ) → All (λ (copy : Chunk). holds_range copy p 1 ≡ true → found ≡ Some copy) copies → Contains copies (turned chunk chunk.first) → IfSome second (λ at. Contains copies (turned chunk at)) → (logical_in_copies chunk.start chunk.length chunk.first second p ≡ None) ⊎ (logical_in_copies chunk.start chunk.length chunk.first second p ≡ address_in found p)
+by_chunk : (copies : List (ℕ × Chunk)) (p : ℕ) (found : Option Chunk) (chunk : Chunk) (second : Option ℕ) → ((copy : Chunk) → Has copies copy → holds_range copy p 1 ≡ true → found ≡ Some copy) → Has copies (turned chunk chunk.first) → IfSome second (λ at. Has copies (turned chunk at)) → (logical_in_copies chunk.start chunk.length chunk.first second p ≡ None) ⊎ (logical_in_copies chunk.start chunk.length chunk.first second p ≡ address_in found p)
 by_chunk copies p found chunk None only one two =
     by_one (has_byte chunk.first chunk.length p) (chunk.start + (p - chunk.first)) None (address_in found p) (copy_decides copies p found chunk chunk.first only one) (inl refl)
 by_chunk copies p found chunk (Some at) only one two =
@@ -67,7 +67,7 @@ or_either None later given a b = b
 or_either (Some x) later given a b = ⊎_elim (λ e. absurd (some_none x e)) (λ e. inr e) a
 
 -- the list gives no address, or that in the copy found
-by_list : (chunks copies : List Chunk) (p : ℕ) (found : Option Chunk) → All (λ (copy : Chunk). holds_range copy p 1 ≡ true → found ≡ Some copy) copies → All (HasCopies copies) chunks → (logical_of chunks p ≡ None) ⊎ (logical_of chunks p ≡ address_in found p)
+by_list : (chunks : List Chunk) (copies : List (ℕ × Chunk)) (p : ℕ) (found : Option Chunk) → ((copy : Chunk) → Has copies copy → holds_range copy p 1 ≡ true → found ≡ Some copy) → All (HasCopies copies) chunks → (logical_of chunks p ≡ None) ⊎ (logical_of chunks p ≡ address_in found p)
 by_list [] copies p found only has = inl refl
 by_list (chunk ∷ chunks) copies p found only has =
     let here : HasCopies copies chunk = has 0 chunk (omega arith) in
@@ -94,25 +94,23 @@ none_each (chunk ∷ chunks) p e =
     let both = or_none (of_chunk p chunk) (logical_of chunks p) e in
     All-cons (λ (c : Chunk). of_chunk p c ≡ None) chunk chunks both.0 (none_each chunks p both.1)
 
-none_found : (chunks copies : List Chunk) (p : ℕ) (found : Option Chunk) → All (IsOfOne chunks) copies → IfSome found (λ copy. Contains copies copy × (holds_range copy p 1 ≡ true)) → logical_of chunks p ≡ None → address_in found p ≡ None
+none_found : (chunks : List Chunk) (copies : List (ℕ × Chunk)) (p : ℕ) (found : Option Chunk) → ((copy : Chunk) → Has copies copy → IsOfOne chunks copy) → IfSome found (λ copy. Has copies copy × (holds_range copy p 1 ≡ true)) → logical_of chunks p ≡ None → address_in found p ≡ None
 none_found chunks copies p None sources there e = refl
 none_found chunks copies p (Some copy) sources there e =
-    let one : IsOfOne chunks copy = All-contains (IsOfOne chunks) copies copy sources there.0 in
+    let one : IsOfOne chunks copy = sources copy there.0 in
     let is : IsCopyOf one.0 copy = one.2 in
     let held : holds_range (turned one.0 is.0) p 1 ≡ true = subst (λ (c : Chunk). holds_range c p 1 ≡ true) is.1 there.1 in
     absurd (gives one.0 one.0.second is.0 p is.2 (held_byte is.0 one.0.length p held) (All-contains (λ (c : Chunk). of_chunk p c ≡ None) chunks one.0 (none_each chunks p e) one.1))
 
 -- the only copy that has a byte gives the address that the first chunk of the list gives
-pub address_found : (chunks copies items : List Chunk) (p q : ℕ) (found : Option Chunk) → q ≡ p → All (HasCopies copies) chunks → All (IsOfOne chunks) copies → items ≡ copies → IsOnlyHome items q 1 found → address_in found p ≡ logical_of chunks p
-address_found chunks copies items p q found at has sources same only =
-    let is : IsOnlyHome copies p 1 found = subst (λ a. IsOnlyHome copies a 1 found) at (subst (λ cs. IsOnlyHome cs q 1 found) same only) in
+pub address_found : (chunks : List Chunk) (copies : List (ℕ × Chunk)) (p : ℕ) (found : Option Chunk) → All (HasCopies copies) chunks → ((copy : Chunk) → Has copies copy → IsOfOne chunks copy) → IsOnlyCopy copies p found → address_in found p ≡ logical_of chunks p
+address_found chunks copies p found has sources is =
     ⊎_elim (λ e. none_found chunks copies p found sources is.there e ∙ sym e) (λ e. sym e) (by_list chunks copies p found is.only has)
 
 -- it fits 64 bits
-pub address_fits : (chunks copies items : List Chunk) (p q : ℕ) (copy : Chunk) → q ≡ p → AllFit chunks → All (IsOfOne chunks) copies → items ≡ copies → IsOnlyHome items q 1 (Some copy) → copy.first + (p - copy.start) ≤ 18446744073709551615
-address_fits chunks copies items p q copy at fit sources same only =
-    let is : IsOnlyHome copies p 1 (Some copy) = subst (λ a. IsOnlyHome copies a 1 (Some copy)) at (subst (λ cs. IsOnlyHome cs q 1 (Some copy)) same only) in
-    let one : IsOfOne chunks copy = All-contains (IsOfOne chunks) copies copy sources is.there.0 in
+pub address_fits : (chunks : List Chunk) (copies : List (ℕ × Chunk)) (p : ℕ) (copy : Chunk) → AllFit chunks → ((copy : Chunk) → Has copies copy → IsOfOne chunks copy) → IsOnlyCopy copies p (Some copy) → (copy.start ≤ p) × (copy.first + (p - copy.start) ≤ 18446744073709551615)
+address_fits chunks copies p copy fit sources is =
+    let one : IsOfOne chunks copy = sources copy is.there.0 in
     let at : IsCopyOf one.0 copy = one.2 in
     let among : Contains chunks one.0 = one.1 in
     let fits : one.0.start + one.0.length ≤ 18446744073709551615 = subst (λ (c : Chunk). c.start + c.length ≤ 18446744073709551615) among.2 (AllFit-get chunks chunks among.0 one.0 fit refl among.1) in
@@ -120,4 +118,4 @@ address_fits chunks copies items p q copy at fit sources same only =
     let both = and_parts (nat_le copy.start p) (nat_le (p + 1) (copy.start + copy.length)) is.there.1 in
     let low : copy.start ≤ p = leb-true _ _ both.0 in
     let high : p + 1 ≤ copy.start + copy.length = leb-true _ _ both.1 in
-    omega arith
+    (low, omega arith)

@@ -1,80 +1,62 @@
 -- Copies by offset, and chunks of which no two copies meet.
-use Rattle.std.proofs.Common.{◌≡◌, ℕ, zero, suc, ◌+◌, ◌-◌, ◌<◌, ◌≤◌, ◌||◌, min, max, Bool, true, false, cond, List, [], ◌∷◌, length, take, get_or, refl, ap, sym, subst, ◌∙◌, arith, nat_le, ⊎_elim, ◌⊎◌, inl, inr}
-use Rattle.std.specs.Prelude.{Option, Some, None, IsTrue, Result, Ok, Err, OnOk}
+use Rattle.std.proofs.Common.{◌≡◌, ℕ, zero, suc, ◌+◌, ◌<◌, ◌≤◌, ◌||◌, min, max, Bool, true, false, cond, List, [], ◌∷◌, length, take, get_or, refl, sym, subst, ◌∙◌, arith, nat_le, ⊎_elim, ◌⊎◌, inl, inr}
+use Rattle.std.specs.Prelude.{Option, Some, None, Result, Ok, Err, OnOk}
 use Rattle.std.specs.Option.{IfSome}
-use Rattle.std.specs.List.{All, Contains, insert, list_any}
-use Rattle.std.proofs.lemmas.Bool.{or_from, or_parts, ltb-false, le-ltb, cases_lt}
-use Rattle.std.proofs.lemmas.List.{get_or_default}
-use Rattle.std.proofs.lemmas.List.Elements.{All-cons, All-tail, All-contains, Contains-get_or}
-use Rattle.std.proofs.lemmas.List.Sorted.{All-permutation, Contains-permutation, IsPermutation-insert, IsPermutation-sym, IsNonDecreasingBy-insert}
+use Rattle.std.specs.List.{All, list_any}
+use Rattle.std.proofs.lemmas.Bool.{or_from, or_parts, ltb-false, le-ltb}
+use Rattle.std.proofs.lemmas.List.Elements.{All-cons, All-tail}
+use Rattle.std.proofs.lemmas.List.Sorted.{All-permutation}
 use Rattle.verdict.specs.declared.place.Chunk.{Chunk}
 use Rattle.volume_items.specs.ChunkOrder.{put_by_start}
 use Rattle.volume_items.specs.MapRules.{have_common, meets_second, meets_chunk}
-use Rattle.chunk_map.specs.Order.{rank_by_start, Ascend, AreApart, IsTurned, HasCopies, IsCopyOf, IsFree, AreFree, IsClearOf, AllClear, MeetsNone, turned}
-use Rattle.chunk_map.proofs.Ranks.{rank_below, rank_above, rank_low, put_permutes}
+use Rattle.chunk_map.specs.Order.{Has, HasCopies, IsCopyOf, IsFree, AreFree, IsClearOf, AllClear, MeetsNone, turned}
+use Rattle.chunk_map.proofs.Ranks.{put_permutes}
 
-apart_no_common : (p n q m : ℕ) → p + n ≤ q → have_common p n q m ≡ false
+pub apart_no_common : (p n q m : ℕ) → p + n ≤ q → have_common p n q m ≡ false
 apart_no_common p n q m h = le-ltb (max p q) (min (p + n) (q + m)) (omega arith)
 
-common_sym : (p n q m : ℕ) → have_common p n q m ≡ false → have_common q m p n ≡ false
+pub common_sym : (p n q m : ℕ) → have_common p n q m ≡ false → have_common q m p n ≡ false
 common_sym p n q m h = let low : min (p + n) (q + m) ≤ max p q = ltb-false _ _ h in le-ltb (max q p) (min (q + m) (p + n)) (omega arith)
 
--- a copy that stands apart from its neighbours meets none
-pub free_at : (copies : List Chunk) (y : Chunk) (r : ℕ) → Ascend copies → AreApart copies → r ≡ rank_by_start y.start copies → (0 < r → (get_or copies (r - 1) y).start + (get_or copies (r - 1) y).length ≤ y.start) → (r < length copies → y.start + y.length ≤ (get_or copies r y).start) → IsFree y.start y.length copies
-free_at copies y r up apart is before behind k d l =
-    let low : rank_by_start y.start copies ≤ length copies = rank_low y.start copies in
-    ⊎_elim (λ h. common_sym _ _ _ _ (apart_no_common (get_or copies k d).start (get_or copies k d).length y.start y.length
-    (⊎_elim (λ m. (let next : (get_or copies k d).start + (get_or copies k d).length ≤ (get_or copies (k + 1) d).start = apart k d (omega arith) in
-    let under : (get_or copies (k + 1) d).start ≤ y.start = rank_below y.start copies (k + 1) d (omega arith) in omega arith))
-    (λ m. (let same : get_or copies (r - 1) y ≡ get_or copies k d = get_or_default copies (r - 1) y d (omega arith) ∙ ap (λ i. get_or copies i d) (omega arith) in
-    subst (λ (c : Chunk). c.start + c.length ≤ y.start) same (before (omega arith))))
-    (cases_lt (k + 1) r))))
-    (λ h. apart_no_common y.start y.length (get_or copies k d).start (get_or copies k d).length
-    (let on : (get_or copies r y).start ≤ (get_or copies k y).start = up r k y h l in
-    let same : get_or copies k y ≡ get_or copies k d = get_or_default copies k y d l in
-    let end : y.start + y.length ≤ (get_or copies r y).start = behind (omega arith) in
-    subst (λ (c : Chunk). y.start + y.length ≤ c.start) same (omega arith)))
-    (cases_lt k r)
-
-none_of_second : (copies : List Chunk) (at n : ℕ) (chunk : Chunk) (second : Option ℕ) → IsFree at n copies → IfSome second (λ o. Contains copies (turned chunk o)) → meets_second at n second chunk.length ≡ false
+none_of_second : (copies : List (ℕ × Chunk)) (at n : ℕ) (chunk : Chunk) (second : Option ℕ) → IsFree at n copies → IfSome second (λ o. Has copies (turned chunk o)) → meets_second at n second chunk.length ≡ false
 none_of_second copies at n chunk None free has = refl
-none_of_second copies at n chunk (Some o) free has = All-contains (λ (copy : Chunk). have_common at n copy.start copy.length ≡ false) copies (turned chunk o) free has
+none_of_second copies at n chunk (Some o) free has = free (turned chunk o) has
 
 -- no copy of these meets bytes that are free of all copies
-meets_none_of : (copies : List Chunk) (at n : ℕ) (chunk : Chunk) → IsFree at n copies → HasCopies copies chunk → meets_chunk at n chunk ≡ false
+meets_none_of : (copies : List (ℕ × Chunk)) (at n : ℕ) (chunk : Chunk) → IsFree at n copies → HasCopies copies chunk → meets_chunk at n chunk ≡ false
 meets_none_of copies at n chunk free has =
-    or_from _ _ (All-contains (λ (copy : Chunk). have_common at n copy.start copy.length ≡ false) copies (turned chunk chunk.first) free has.first)
+    or_from _ _ (free (turned chunk chunk.first) has.first)
     (none_of_second copies at n chunk chunk.second free has.second)
 
-clear_second : (copies : List Chunk) (second : Option ℕ) (chunk other : Chunk) → IfSome second (λ at. IsFree at chunk.length copies × (have_common at chunk.length chunk.first chunk.length ≡ false)) → HasCopies copies other → IfSome second (λ at. meets_chunk at chunk.length other ≡ false)
+clear_second : (copies : List (ℕ × Chunk)) (second : Option ℕ) (chunk other : Chunk) → IfSome second (λ at. IsFree at chunk.length copies × (have_common at chunk.length chunk.first chunk.length ≡ false)) → HasCopies copies other → IfSome second (λ at. meets_chunk at chunk.length other ≡ false)
 clear_second copies None chunk other free has = tt
 clear_second copies (Some at) chunk other free has = meets_none_of copies at chunk.length other free.0 has
 
-pub new_is_clear : (copies : List Chunk) (chunk other : Chunk) → AreFree copies chunk → HasCopies copies other → IsClearOf chunk other
+pub new_is_clear : (copies : List (ℕ × Chunk)) (chunk other : Chunk) → AreFree copies chunk → HasCopies copies other → IsClearOf chunk other
 new_is_clear copies chunk other free has = record {
   first = meets_none_of copies chunk.first chunk.length other free.first has;
   second = clear_second copies chunk.second chunk other free.second has;
 }
 
 -- the copy of another chunk meets none of the new one's
-other_meets : (copies : List Chunk) (at n : ℕ) (chunk : Chunk) (second : Option ℕ) (copy : Chunk) → Contains copies copy → copy.start ≡ at → copy.length ≡ n → IsFree chunk.first chunk.length copies → IfSome second (λ o. IsFree o chunk.length copies × (have_common o chunk.length chunk.first chunk.length ≡ false)) → (have_common at n chunk.first chunk.length || meets_second at n second chunk.length) ≡ false
+other_meets : (copies : List (ℕ × Chunk)) (at n : ℕ) (chunk : Chunk) (second : Option ℕ) (copy : Chunk) → Has copies copy → copy.start ≡ at → copy.length ≡ n → IsFree chunk.first chunk.length copies → IfSome second (λ o. IsFree o chunk.length copies × (have_common o chunk.length chunk.first chunk.length ≡ false)) → (have_common at n chunk.first chunk.length || meets_second at n second chunk.length) ≡ false
 other_meets copies at n chunk None copy has s l first free =
-    rw (sym s, sym l) (or_from _ _ (common_sym _ _ _ _ (All-contains (λ (c : Chunk). have_common chunk.first chunk.length c.start c.length ≡ false) copies copy first has)) refl)
+    rw (sym s, sym l) (or_from _ _ (common_sym _ _ _ _ (first copy has)) refl)
 other_meets copies at n chunk (Some o) copy has s l first free =
-    rw (sym s, sym l) (or_from _ _ (common_sym _ _ _ _ (All-contains (λ (c : Chunk). have_common chunk.first chunk.length c.start c.length ≡ false) copies copy first has))
-    (common_sym _ _ _ _ (All-contains (λ (c : Chunk). have_common o chunk.length c.start c.length ≡ false) copies copy free.0 has)))
+    rw (sym s, sym l) (or_from _ _ (common_sym _ _ _ _ (first copy has))
+    (common_sym _ _ _ _ (free.0 copy has)))
 
-other_second : (copies : List Chunk) (second : Option ℕ) (chunk other : Chunk) → AreFree copies chunk → IfSome second (λ at. Contains copies (turned other at)) → IfSome second (λ at. meets_chunk at other.length chunk ≡ false)
+other_second : (copies : List (ℕ × Chunk)) (second : Option ℕ) (chunk other : Chunk) → AreFree copies chunk → IfSome second (λ at. Has copies (turned other at)) → IfSome second (λ at. meets_chunk at other.length chunk ≡ false)
 other_second copies None chunk other free has = tt
 other_second copies (Some at) chunk other free has = other_meets copies at other.length chunk chunk.second (turned other at) has refl refl free.first free.second
 
-pub old_is_clear : (copies : List Chunk) (chunk other : Chunk) → AreFree copies chunk → HasCopies copies other → IsClearOf other chunk
+pub old_is_clear : (copies : List (ℕ × Chunk)) (chunk other : Chunk) → AreFree copies chunk → HasCopies copies other → IsClearOf other chunk
 old_is_clear copies chunk other free has = record {
   first = other_meets copies other.first other.length chunk chunk.second (turned other other.first) has.first refl refl free.first free.second;
   second = other_second copies other.second chunk other free has.second;
 }
 
-own_clear : (copies : List Chunk) (chunk : Chunk) (second : Option ℕ) → IfSome second (λ at. IsFree at chunk.length copies × (have_common at chunk.length chunk.first chunk.length ≡ false)) → IfSome second (λ at. have_common at chunk.length chunk.first chunk.length ≡ false)
+own_clear : (copies : List (ℕ × Chunk)) (chunk : Chunk) (second : Option ℕ) → IfSome second (λ at. IsFree at chunk.length copies × (have_common at chunk.length chunk.first chunk.length ≡ false)) → IfSome second (λ at. have_common at chunk.length chunk.first chunk.length ≡ false)
 own_clear copies chunk None free = tt
 own_clear copies chunk (Some at) free = free.1
 
@@ -82,7 +64,7 @@ or_before : (a b c : Bool) → a ≡ false → (b || c) ≡ false → ((a || b) 
 or_before a b c h m = let both = or_parts b c m in or_from _ _ (or_from _ _ h both.0) both.1
 
 -- a chunk whose copies are free, put among the others by start
-pub put_clear : (copies : List Chunk) (chunk : Chunk) (sorted : List Chunk) → AreFree copies chunk → All (HasCopies copies) sorted → AllClear sorted → AllClear (put_by_start chunk sorted)
+pub put_clear : (copies : List (ℕ × Chunk)) (chunk : Chunk) (sorted : List Chunk) → AreFree copies chunk → All (HasCopies copies) sorted → AllClear sorted → AllClear (put_by_start chunk sorted)
 put_clear copies chunk [] free has clear = ((λ k d l. absurd (omega arith)), own_clear copies chunk chunk.second free.second, tt)
 put_clear copies chunk (other ∷ others) free has clear =
     let here : HasCopies copies other = has 0 other (omega arith) in
@@ -115,85 +97,51 @@ clear_at [] k d clear l = absurd (omega arith)
 clear_at (x ∷ xs) zero d clear l = record { first = refl; second = own_first x x.second clear.1 }
 clear_at (x ∷ xs) (suc k) d clear l = one_before (take k xs) x (get_or xs k d) (clear.0 k d (omega arith)) (clear_at xs k d clear.2 (omega arith))
 
--- a copy put among the others
-pub put_turned : (copies more : List Chunk) (y : Chunk) (r : ℕ) (was clear : Bool) → IsTurned copies was → r ≡ rank_by_start y.start copies → more ≡ insert copies r y → (clear ≡ true → AreApart (insert copies r y)) → IsTurned more clear
-put_turned copies more y r was clear kept is m keeps =
-    let low : rank_by_start y.start copies ≤ length copies = rank_low y.start copies in
-    let up : Ascend (insert copies r y) = subst (λ i. Ascend (insert copies i y)) (sym is)
-    (IsNonDecreasingBy-insert (λ (c : Chunk). c.start) copies (rank_by_start y.start copies) y kept.ascend low
-    (λ k d h. rank_below y.start copies k d h)
-    (λ k d h l. let over : y.start < (get_or copies k d).start = rank_above y.start copies k d kept.ascend h l in omega arith)) in
-    record { ascend = subst Ascend (sym m) up; distances = λ now. subst AreApart (sym m) (keeps now) }
-
-second_more : (copies more : List Chunk) (chunk : Chunk) (second : Option ℕ) → ((copy : Chunk) → Contains copies copy → Contains more copy) → IfSome second (λ at. Contains copies (turned chunk at)) → IfSome second (λ at. Contains more (turned chunk at))
+second_more : (copies more : List (ℕ × Chunk)) (chunk : Chunk) (second : Option ℕ) → ((copy : Chunk) → Has copies copy → Has more copy) → IfSome second (λ at. Has copies (turned chunk at)) → IfSome second (λ at. Has more (turned chunk at))
 second_more copies more chunk None keeps has = tt
 second_more copies more chunk (Some at) keeps has = keeps (turned chunk at) has
 
 -- copies that hold those of a chunk, with more
-pub has_more : (copies more : List Chunk) (chunk : Chunk) → ((copy : Chunk) → Contains copies copy → Contains more copy) → HasCopies copies chunk → HasCopies more chunk
+pub has_more : (copies more : List (ℕ × Chunk)) (chunk : Chunk) → ((copy : Chunk) → Has copies copy → Has more copy) → HasCopies copies chunk → HasCopies more chunk
 has_more copies more chunk keeps has = record {
   first = keeps (turned chunk chunk.first) has.first;
   second = second_more copies more chunk chunk.second keeps has.second;
 }
 
-pub contains_more : (copies more : List Chunk) (y : Chunk) (r : ℕ) → more ≡ insert copies r y → (copy : Chunk) → Contains copies copy → Contains more copy
-contains_more copies more y r is copy has = subst (λ cs. Contains cs copy) (sym is) (Contains-permutation (y ∷ copies) (insert copies r y) copy (IsPermutation-insert copies r y) (suc has.0, omega (arith, has.1), has.2))
-
-pub contains_new : (copies more : List Chunk) (y : Chunk) (r : ℕ) → more ≡ insert copies r y → Contains more y
-contains_new copies more y r is = subst (λ cs. Contains cs y) (sym is) (Contains-permutation (y ∷ copies) (insert copies r y) y (IsPermutation-insert copies r y) (0, omega arith, refl))
-
-head_or_tail : (y : Chunk) (copies : List Chunk) (copy : Chunk) (k : ℕ) → k < suc (length copies) → get_or (y ∷ copies) k copy ≡ copy → Contains copies copy ⊎ (copy ≡ y)
-head_or_tail y copies copy zero l is = inr (sym is)
-head_or_tail y copies copy (suc k) l is = inl (k, omega arith, is)
-
-pub contains_old : (copies more : List Chunk) (y : Chunk) (r : ℕ) → more ≡ insert copies r y → (copy : Chunk) → Contains more copy → Contains copies copy ⊎ (copy ≡ y)
-contains_old copies more y r is copy has =
-    let back = Contains-permutation (insert copies r y) (y ∷ copies) copy (IsPermutation-sym (y ∷ copies) (insert copies r y) (IsPermutation-insert copies r y)) (subst (λ cs. Contains cs copy) is has) in
-    head_or_tail y copies copy back.0 back.1 back.2
-
-pub one_source : (old new : List Chunk) (chunk one : Chunk) → one ≡ turned chunk chunk.first → ((copy : Chunk) → Contains new copy → Contains old copy ⊎ (copy ≡ one)) → (copy : Chunk) → Contains new copy → Contains old copy ⊎ IsCopyOf chunk copy
+pub one_source : (old new : List (ℕ × Chunk)) (chunk one : Chunk) → one ≡ turned chunk chunk.first → ((copy : Chunk) → Has new copy → Has old copy ⊎ (copy ≡ one)) → (copy : Chunk) → Has new copy → Has old copy ⊎ IsCopyOf chunk copy
 one_source old new chunk one e from copy has = ⊎_elim (λ was. inl was) (λ is. inr (chunk.first, is ∙ e, inl refl)) (from copy has)
 
-pub both_sources : (old mid new : List Chunk) (chunk : Chunk) (at : ℕ) (one two : Chunk) → one ≡ turned chunk chunk.first → two ≡ turned chunk at → chunk.second ≡ Some at → ((copy : Chunk) → Contains mid copy → Contains old copy ⊎ (copy ≡ one)) → ((copy : Chunk) → Contains new copy → Contains mid copy ⊎ (copy ≡ two)) → (copy : Chunk) → Contains new copy → Contains old copy ⊎ IsCopyOf chunk copy
+pub both_sources : (old mid new : List (ℕ × Chunk)) (chunk : Chunk) (at : ℕ) (one two : Chunk) → one ≡ turned chunk chunk.first → two ≡ turned chunk at → chunk.second ≡ Some at → ((copy : Chunk) → Has mid copy → Has old copy ⊎ (copy ≡ one)) → ((copy : Chunk) → Has new copy → Has mid copy ⊎ (copy ≡ two)) → (copy : Chunk) → Has new copy → Has old copy ⊎ IsCopyOf chunk copy
 both_sources old mid new chunk at one two e f second first next copy has =
     ⊎_elim (λ was. one_source old mid chunk one e first copy was) (λ is. inr (at, is ∙ f, inr second)) (next copy has)
-
--- what a test of the neighbours tells
-pub free_put : (copies items parts : List Chunk) (y : Chunk) (r : ℕ) (was result apart : Bool) → IsTurned copies was → was ≡ true → items ≡ copies → r ≡ rank_by_start y.start items → parts ≡ copies → (IsTrue result → 0 < r → (get_or parts (r - 1) y).start + (get_or parts (r - 1) y).length ≤ y.start) → (IsTrue result → r < length parts → y.start + y.length ≤ (get_or parts r y).start) → apart ≡ result → apart ≡ true → IsFree y.start y.length copies
-free_put copies items parts y r was result apart kept on i is p before behind same now =
-    let passes : result ≡ true = sym same ∙ now in
-    free_at copies y r kept.ascend (kept.distances on) (is ∙ ap (rank_by_start y.start) i)
-    (λ h. subst (λ cs. (get_or cs (r - 1) y).start + (get_or cs (r - 1) y).length ≤ y.start) p (before passes h))
-    (λ h. subst (λ cs. y.start + y.length ≤ (get_or cs r y).start) p (behind passes (subst (λ cs. r < length cs) (sym p) h)))
 
 pub on_ok : {A E P Q : Type 0} → (r : Result A E) → (P → Q) → OnOk r P → OnOk r Q
 on_ok (Ok a) f h = f h
 on_ok (Err e) f h = h
 
-pub one_there : (more : List Chunk) (chunk copy : Chunk) → copy ≡ turned chunk chunk.first → chunk.second ≡ None → Contains more copy → HasCopies more chunk
+pub one_there : (more : List (ℕ × Chunk)) (chunk copy : Chunk) → copy ≡ turned chunk chunk.first → chunk.second ≡ None → Has more copy → HasCopies more chunk
 one_there more chunk copy e is has = record {
-  first = subst (Contains more) e has;
-  second = subst (λ o. IfSome o (λ at. Contains more (turned chunk at))) (sym is) tt;
+  first = subst (Has more) e has;
+  second = subst (λ o. IfSome o (λ at. Has more (turned chunk at))) (sym is) tt;
 }
 
-pub both_there : (mid more : List Chunk) (chunk : Chunk) (at : ℕ) (one two : Chunk) → one ≡ turned chunk chunk.first → two ≡ turned chunk at → chunk.second ≡ Some at → Contains mid one → ((copy : Chunk) → Contains mid copy → Contains more copy) → Contains more two → HasCopies more chunk
+pub both_there : (mid more : List (ℕ × Chunk)) (chunk : Chunk) (at : ℕ) (one two : Chunk) → one ≡ turned chunk chunk.first → two ≡ turned chunk at → chunk.second ≡ Some at → Has mid one → ((copy : Chunk) → Has mid copy → Has more copy) → Has more two → HasCopies more chunk
 both_there mid more chunk at one two e f is has keeps new = record {
-  first = keeps (turned chunk chunk.first) (subst (Contains mid) e has);
-  second = subst (λ o. IfSome o (λ at. Contains more (turned chunk at))) (sym is) (subst (Contains more) f new);
+  first = keeps (turned chunk chunk.first) (subst (Has mid) e has);
+  second = subst (λ o. IfSome o (λ at. Has more (turned chunk at))) (sym is) (subst (Has more) f new);
 }
 
-pub one_free : (old : List Chunk) (chunk copy : Chunk) → copy ≡ turned chunk chunk.first → chunk.second ≡ None → IsFree copy.start copy.length old → AreFree old chunk
+pub one_free : (old : List (ℕ × Chunk)) (chunk copy : Chunk) → copy ≡ turned chunk chunk.first → chunk.second ≡ None → IsFree copy.start copy.length old → AreFree old chunk
 one_free old chunk copy e is free = record {
   first = subst (λ (c : Chunk). IsFree c.start c.length old) e free;
   second = subst (λ o. IfSome o (λ at. IsFree at chunk.length old × (have_common at chunk.length chunk.first chunk.length ≡ false))) (sym is) tt;
 }
 
-pub both_free : (old mid : List Chunk) (chunk : Chunk) (at : ℕ) (one two : Chunk) → one ≡ turned chunk chunk.first → two ≡ turned chunk at → chunk.second ≡ Some at → ((copy : Chunk) → Contains old copy → Contains mid copy) → Contains mid one → IsFree one.start one.length old → IsFree two.start two.length mid → AreFree old chunk
+pub both_free : (old mid : List (ℕ × Chunk)) (chunk : Chunk) (at : ℕ) (one two : Chunk) → one ≡ turned chunk chunk.first → two ≡ turned chunk at → chunk.second ≡ Some at → ((copy : Chunk) → Has old copy → Has mid copy) → Has mid one → IsFree one.start one.length old → IsFree two.start two.length mid → AreFree old chunk
 both_free old mid chunk at one two e f is keeps has first second =
-    let P : Chunk → Type 0 = λ (c : Chunk). have_common at chunk.length c.start c.length ≡ false in
-    let all : All P mid = subst (λ (c : Chunk). IsFree c.start c.length mid) f second in
-    let far : IsFree at chunk.length old = λ k d l. All-contains P mid (get_or old k d) all (keeps (get_or old k d) (Contains-get_or old k d l)) in
-    let own : have_common at chunk.length chunk.first chunk.length ≡ false = All-contains P mid (turned chunk chunk.first) all (subst (Contains mid) e has) in
+    let all : IsFree at chunk.length mid = subst (λ (c : Chunk). IsFree c.start c.length mid) f second in
+    let far : IsFree at chunk.length old = λ copy h. all copy (keeps copy h) in
+    let own : have_common at chunk.length chunk.first chunk.length ≡ false = all (turned chunk chunk.first) (subst (Has mid) e has) in
     record {
       first = subst (λ (c : Chunk). IsFree c.start c.length old) e first;
       second = subst (λ o. IfSome o (λ at. IsFree at chunk.length old × (have_common at chunk.length chunk.first chunk.length ≡ false))) (sym is) (far, own);

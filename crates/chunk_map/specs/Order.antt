@@ -1,6 +1,9 @@
 -- What a chunk map keeps of its lists. Only the map's own functions need it.
-use Rattle.std.specs.Prelude.{◌≡◌, ℕ, ◌+◌, ◌≤◌, Bool, true, false, ◌||◌, ◌⊎◌, nat_le, List, [], ◌∷◌, length, Option, Some, None, if◌then◌else◌}
+use Rattle.std.specs.Prelude.{◌≡◌, ℕ, ◌+◌, ◌≤◌, ◌<◌, Bool, true, false, ◌||◌, ◌⊎◌, nat_le, List, [], ◌∷◌, length, take, Option, Some, None, if◌then◌else◌}
 use Rattle.std.specs.Option.{IfSome}
+use Rattle.std.specs.Ordering.{nat_cmp}
+use Rattle.std.specs.Map.{lookup}
+use Rattle.std.specs.BTreeMap.{is_at}
 use Rattle.std.specs.List.{list_any, All, AllAdjacentBelow, Contains}
 use Rattle.std.specs.List.Sorted.{IsNonDecreasingBy}
 use Rattle.verdict.specs.Chunks.{holds_range}
@@ -31,15 +34,43 @@ AllFit (chunk ∷ chunks) = (chunk.start + chunk.length ≤ 18446744073709551615
 abbrev pub turned : Chunk → ℕ → Chunk
 turned chunk at = record { start = at; length = chunk.length; class = chunk.class; first = chunk.start; second = None }
 
--- what a list of copies by offset keeps: it ascends, and where it is said to be clear its copies are apart
-pub record IsTurned (copies : List Chunk) (clear : Bool) : Type 0 where
-  pub ascend : Ascend copies
-  pub distances : clear ≡ true → AreApart copies
+-- the copy that begins at an offset on the device
+unfoldable pub copy_from : List (ℕ × Chunk) → ℕ → Option Chunk
+copy_from copies at = lookup (is_at (nat_cmp at)) copies
+
+-- a copy is one of these
+abbrev pub Has : List (ℕ × Chunk) → Chunk → Type 0
+Has copies copy = copy_from copies copy.start ≡ Some copy
+
+-- copies by offset: each has a byte, and none meet
+pub record AreTurned (copies : List (ℕ × Chunk)) : Type 0 where
+  pub at_start : (k : ℕ) (copy : Chunk) → copy_from copies k ≡ Some copy → copy.start ≡ k
+  pub some : (k : ℕ) (copy : Chunk) → copy_from copies k ≡ Some copy → 0 < copy.length
+  pub apart : (k l : ℕ) (copy next : Chunk) → copy_from copies k ≡ Some copy → copy_from copies l ≡ Some next → k < l → k + copy.length ≤ l
+
+-- each copy ends at an offset or before it, or begins n bytes behind it or later
+abbrev pub AreOutside : List (ℕ × Chunk) → ℕ → ℕ → Type 0
+AreOutside copies at n = (k : ℕ) (copy : Chunk) → copy_from copies k ≡ Some copy → (k + copy.length ≤ at) ⊎ (at + n ≤ k)
+
+-- no copy begins at an offset or before it
+abbrev pub NoneFrom : List (ℕ × Chunk) → ℕ → Type 0
+NoneFrom copies to = (k : ℕ) → k ≤ to → copy_from copies k ≡ None
+
+-- the last copy that begins at an offset or before it
+pub record IsLast (copies : List (ℕ × Chunk)) (to at : ℕ) (copy : Chunk) : Type 0 where
+  pub low : at ≤ to
+  pub here : copy_from copies at ≡ Some copy
+  pub last : (k : ℕ) → at < k → k ≤ to → copy_from copies k ≡ None
+
+-- what a search gives is the only one of some copies that has a byte of the device
+pub record IsOnlyCopy (copies : List (ℕ × Chunk)) (p : ℕ) (found : Option Chunk) : Type 0 where
+  pub only : (copy : Chunk) → Has copies copy → holds_range copy p 1 ≡ true → found ≡ Some copy
+  pub there : IfSome found (λ copy. Has copies copy × (holds_range copy p 1 ≡ true))
 
 -- the copies of a chunk are among these
-pub record HasCopies (copies : List Chunk) (chunk : Chunk) : Type 0 where
-  pub first : Contains copies (turned chunk chunk.first)
-  pub second : IfSome chunk.second (λ at. Contains copies (turned chunk at))
+pub record HasCopies (copies : List (ℕ × Chunk)) (chunk : Chunk) : Type 0 where
+  pub first : Has copies (turned chunk chunk.first)
+  pub second : IfSome chunk.second (λ at. Has copies (turned chunk at))
 
 -- a copy is one of this chunk's
 abbrev pub IsCopyOf : Chunk → Chunk → Type 0
@@ -50,11 +81,11 @@ abbrev pub IsOfOne : List Chunk → Chunk → Type 0
 IsOfOne chunks copy = (chunk : Chunk) × Contains chunks chunk × IsCopyOf chunk copy
 
 -- n bytes at an offset have no byte in common with one of these copies
-abbrev pub IsFree : ℕ → ℕ → List Chunk → Type 0
-IsFree at n copies = All (λ (copy : Chunk). have_common at n copy.start copy.length ≡ false) copies
+abbrev pub IsFree : ℕ → ℕ → List (ℕ × Chunk) → Type 0
+IsFree at n copies = (copy : Chunk) → Has copies copy → have_common at n copy.start copy.length ≡ false
 
 -- the copies of a chunk have no byte in common with one of these copies, nor with one another
-pub record AreFree (copies : List Chunk) (chunk : Chunk) : Type 0 where
+pub record AreFree (copies : List (ℕ × Chunk)) (chunk : Chunk) : Type 0 where
   pub first : IsFree chunk.first chunk.length copies
   pub second : IfSome chunk.second (λ at. IsFree at chunk.length copies × (have_common at chunk.length chunk.first chunk.length ≡ false))
 
@@ -78,16 +109,17 @@ pub record MeetsNone (before : List Chunk) (chunk : Chunk) : Type 0 where
   pub second : IfSome chunk.second (λ at. (list_any (meets_chunk at chunk.length) before || have_common at chunk.length chunk.first chunk.length) ≡ false)
 
 -- what a chunk map keeps of its lists: the second has the chunks of the first by start, all fit, and where the map says
--- that they are apart they are; the third has the copies of all by offset, and where it is said to be clear it has no
--- others, and none meet
-pub record InOrder (chunks sorted copies : List Chunk) (apart clear : Bool) : Type 0 where
+-- that they are apart they are; the copies by offset do not meet, and where the map is said to be clear they are those of
+-- all chunks; and none of so many of the first chunks by start meet
+pub record InOrder (chunks sorted : List Chunk) (copies : List (ℕ × Chunk)) (apart clear : Bool) (front : ℕ) : Type 0 where
   pub order : sorted ≡ by_start chunks
   pub fit : AllFit chunks
   pub distances : apart ≡ true → AreApart sorted
-  pub around : IsTurned copies clear
-  pub there : All (HasCopies copies) chunks
-  pub sources : clear ≡ true → All (IsOfOne chunks) copies
+  pub around : AreTurned copies
+  pub there : clear ≡ true → All (HasCopies copies) chunks
+  pub sources : clear ≡ true → (copy : Chunk) → Has copies copy → IsOfOne chunks copy
   pub none_meet : clear ≡ true → AllClear sorted
+  pub front_clear : AllClear (take front sorted)
 
 -- what a search gives is the only one of some chunks that holds n bytes from a logical address on whole
 pub record IsOnlyHome (chunks : List Chunk) (a n : ℕ) (found : Option Chunk) : Type 0 where

@@ -11,9 +11,10 @@ use crate::array::read_pair;
 use crate::copies::{logical_in_list, place_of};
 use crate::home::{home_apart, home_in};
 use crate::order::{rank_of, stands_apart};
-use crate::rules::{array_fault, clear_fault, sorted_fault};
-use crate::turned::put_copies;
+use crate::rules::{array_fault, sorted_fault};
+use crate::turned::{Copies, copy_with, put_copies};
 use std::alloc::Global;
+use std::collections::BTreeMap;
 use std::marker::Model;
 use super_reader::Super;
 use verdict::{Chunk, Finding, NoMemory, Place};
@@ -26,10 +27,12 @@ pub struct ChunkMap {
     sorted: Vec<Chunk>,
     // Whether no chunk by start begins before the end of the one before it.
     apart: bool,
-    // The copies of all chunks by their offset on the device.
-    copies: Vec<Chunk>,
-    // Whether no two copies meet, and each is one of a chunk of the list.
+    // Copies by their offset on the device, none of which meet.
+    copies: Copies,
+    // Whether these are the copies of all chunks of the list.
     clear: bool,
+    // So many of the first chunks by start are known to have no two copies that meet.
+    front: usize,
 }
 
 /// What the system chunk array of a superblock gives.
@@ -50,7 +53,7 @@ impl Model for ChunkMap {
 
     ghost view = { λ m. m.chunks.items };
 
-    ghost invariant = { λ m. InOrder m.chunks.items m.sorted.items m.copies.items m.apart m.clear };
+    ghost invariant = { λ m. InOrder m.chunks.items m.sorted.items m.copies.entries m.apart m.clear m.front };
 }
 
 impl ChunkMap {
@@ -62,8 +65,9 @@ impl ChunkMap {
             chunks: Vec::new(alloc),
             sorted: Vec::new(alloc),
             apart: true,
-            copies: Vec::new(alloc),
+            copies: BTreeMap::new(alloc),
             clear: true,
+            front: 0,
         }
     }
 
@@ -88,9 +92,9 @@ impl ChunkMap {
     }
 
     /// Puts a chunk at the end of the list. When memory is wanting, the list stays as it was, and from
-    /// then on a look at the copies costs a pass. It costs binary searches among the chunks by start and
-    /// among the copies by offset, and what stands behind a place found there moves by one: nothing,
-    /// where chunks come by start and their copies by offset.
+    /// then on a look at the copies costs a pass. It costs a binary search among the chunks by start, where
+    /// what stands behind the place found moves by one (nothing, where chunks come by start), and searches
+    /// among the copies by offset, in whatever order these come.
     pub fn add(&mut self, chunk: &Chunk) -> Result<(), NoMemory>
         requires { chunk.now.start + chunk.now.length < 2 ^ 64 }
         ensures ok { OnOk result (self.new ≡ self.old ++ chunk.now ∷ []) }
@@ -111,6 +115,11 @@ impl ChunkMap {
         }
         self.apart = apart;
         self.clear = clear;
+        self.front = if clear {
+            self.sorted.len()
+        } else {
+            self.front.min(rank)
+        };
         Ok(())
     }
 
@@ -149,7 +158,7 @@ impl ChunkMap {
         ensures { result ≡ logical_of self.now physical }
     {
         if self.clear {
-            let copy = home_apart(&self.copies, physical, 1)?;
+            let copy = copy_with(&self.copies, physical)?;
             Some(copy.first + (physical - copy.start))
         } else {
             logical_in_list(&self.chunks, physical)
@@ -177,15 +186,11 @@ impl ChunkMap {
     }
 
     // The first finding on the chunks by start. Where no two copies meet it is one pass over the chunks,
-    // else the copies of each chunk are compared with those of all before it, up to the first finding.
+    // else the copies of each chunk behind the clear front are compared with those of all before it, up
+    // to the first finding. Where chunks came by start, the first one behind has one.
     fn own_fault(&self, end: u64) -> Option<Finding>
         ensures { result ≡ first_failing (rows_by_start [] (by_start self.now) end) }
     {
-        let sorted = self.sorted.as_slice();
-        if self.clear {
-            clear_fault(sorted, end)
-        } else {
-            sorted_fault(sorted, end)
-        }
+        sorted_fault(self.sorted.as_slice(), self.front, end)
     }
 }

@@ -1,6 +1,6 @@
 //! The rules on a chunk map as a whole.
 
-ghost use Rattle.std.specs.Prelude.{◌≡◌, ◌+◌, ◌≤◌, ◌<◌, nat_lt, []};
+ghost use Rattle.std.specs.Prelude.{◌≡◌, ◌+◌, ◌≤◌, ◌<◌, nat_lt, [], true, take};
 ghost use Rattle.std.specs.List.{list_any};
 ghost use Rattle.verdict.specs.Rules.{first_failing};
 ghost use Rattle.volume_items.specs.MapRules.{chunk_finding, same_chunk, array_rows, meets_chunk, rows_of_chunk, rows_by_start, second_rows, starts_inside, last_before};
@@ -40,30 +40,31 @@ fn same(chunk: &Chunk, other: &Chunk) -> bool
         && chunk.second == other.second
 }
 
-/// The first finding on chunks by start (M1, M3, M2), on a device of `end` bytes.
-pub fn sorted_fault(chunks: &[Chunk], end: u64) -> Option<Finding>
+/// The first finding on chunks by start (M1, M3, M2), on a device of `end` bytes, where no two copies of the
+/// first `front` chunks meet. Only the copies of those behind are compared with all before.
+pub fn sorted_fault(chunks: &[Chunk], front: usize, end: u64) -> Option<Finding>
+    requires { AllClear (take front chunks.now) }
     ensures { result ≡ first_failing (rows_by_start [] chunks.now end) }
 {
     for (place, chunk) in chunks.iter().enumerate() {
-        if let Some(found) = chunk_fault(&chunks[..place], chunk, end) {
+        if let Some(found) = fault_behind(&chunks[..place], chunk, place < front, end) {
             return Some(found);
         }
     }
     None
 }
 
-/// The first finding on chunks by start of which no two copies meet (M1, M3), on a device of `end`
-/// bytes.
-pub fn clear_fault(chunks: &[Chunk], end: u64) -> Option<Finding>
-    requires { AllClear chunks.now }
-    ensures { result ≡ first_failing (rows_by_start [] chunks.now end) }
+/// The first finding on a chunk behind those that start before it, where it may be known that none of
+/// its copies meets an earlier one.
+fn fault_behind(before: &[Chunk], chunk: &Chunk, clear: bool, end: u64) -> Option<Finding>
+    requires { clear ≡ true → MeetsNone before.now chunk.now }
+    ensures { result ≡ first_failing (rows_of_chunk before.now chunk.now end) }
 {
-    for (place, chunk) in chunks.iter().enumerate() {
-        if let Some(found) = bounds_fault(&chunks[..place], chunk, end) {
-            return Some(found);
-        }
+    if clear {
+        bounds_fault(before, chunk, end)
+    } else {
+        chunk_fault(before, chunk, end)
     }
-    None
 }
 
 /// The first finding on a chunk none of whose copies meets an earlier one.

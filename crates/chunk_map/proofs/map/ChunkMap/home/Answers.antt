@@ -6,7 +6,7 @@ use Rattle.chunk_map.proofs.Homes.{home_by_start, home_fits}
 use Rattle.chunk_map.proofs.map.ChunkMap.home.Goals as goal
 
 pub home_apart-requires-clause-order : goal.home_apart-requires-clause-order
-home_apart-requires-clause-order c = in_order-ascends c.self.inside.chunks.items c.self.inside.sorted.items c.deref.result.now c.self.inside.copies.items c.self.inside.apart c.self.inside.clear c.self.invariant c.deref.ensures.value
+home_apart-requires-clause-order c = in_order-ascends c.self.inside.chunks.items c.self.inside.sorted.items c.deref.result.now c.self.inside.copies.entries c.self.inside.apart c.self.inside.clear c.self.inside.front c.self.invariant c.deref.ensures.value
 
 pub returns-then-len-gt0-clause-home : goal.returns-then-len-gt0-clause-home
 returns-then-len-gt0-clause-home c =
