@@ -2,7 +2,7 @@
 
 Usage: tests/items.py [PROGRAM], by default crates/recon/out/recon. Prints one line, and ends with 1 at the first row
 that differs. A row: the item, and the rule and the detail of its finding, or none where the item breaks no rule of its
-own. Such an image has a finding of another place, since its accounts do not hold."""
+own. Of such an image another finding may be the first, since its accounts do not hold."""
 import struct
 
 from rows import (
@@ -252,7 +252,7 @@ device = Device()
 
 
 def judge(row, finding):
-    """A check says the finding of this item, or one that is not of this item."""
+    """A check says the finding of this item, or none that is of this item."""
     (tree, address), key, data = row
     items = [*OWN_GROUPS, put(tree, (key, data))] if tree == 11 else [leaf(address, tree, (key, data))]
     device.fill(changed(BASE, items))
@@ -260,11 +260,12 @@ def judge(row, finding):
     place = f'tree {tree} block {address} key {key[0]} {key[1]} {key[2]} detail'
     if finding:
         rule, detail = finding.split()
-        fine = line == f'image refused {rule} {place} {detail}\n'
+        fine = (status, line) == (1, f'image refused {rule} {place} {detail}\n')
     else:
-        fine = line.startswith('image refused ') and not (line[14] in 'IU' and place in line)
-    if status != 1 or not fine:
-        fail(f'the item {key} of {len(data)} bytes in the tree {tree}', f'a check ended with {status} and {line!r}, not {finding or "another finding"}')
+        fine = (status, line) == (0, 'image accepted generation 1\n') or (
+            status == 1 and line.startswith('image refused ') and not (line[14] in 'IU' and place in line))
+    if not fine:
+        fail(f'the item {key} of {len(data)} bytes in the tree {tree}', f'a check ended with {status} and {line!r}, not {finding or "none of the item"}')
 
 
 tables = [INODES, ATTRIBUTES_AND_ORPHANS, NAMES, ENTRIES, RANGES, CHECKSUMS, EXTENTS_OF_DATA, EXTENTS_OF_BLOCKS, KEYED, GROUP_ITEMS, CHUNK_ITEMS,
