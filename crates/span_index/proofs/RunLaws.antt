@@ -1,7 +1,8 @@
 -- The least broken sector inside runs.
-use Rattle.std.proofs.Common.{◌≡◌, ℕ, ◌+◌, ◌*◌, ◌<◌, ◌≤◌, ◌%◌, Bool, true, false, ◌&&◌, ◌||◌, List, [], ◌∷◌, get_or, drop, drop-cons, add-one, refl, sym, ap, ◌∙◌, subst, arith}
+use Rattle.std.proofs.Common.{◌≡◌, ℕ, ◌+◌, ◌*◌, ◌<◌, ◌≤◌, ◌%◌, Bool, true, false, ◌&&◌, ◌||◌, inl, inr, List, [], ◌∷◌, get_or, drop, drop-cons, add-one, refl, sym, ap, ◌∙◌, subst, arith}
 use Rattle.std.specs.Prelude.{Option, Some, None, is_some, nat_le, nat_lt, length}
 use Rattle.std.specs.List.{list_any}
+use Rattle.std.proofs.lemmas.Bool.{or_cases, or_left, or_right}
 use Rattle.std.proofs.lemmas.Bool.Decides.{nat_tests}
 use Rattle.std.proofs.lemmas.List.Folds.{list_any_at}
 use Rattle.accounts.specs.Broken.{is_broken}
@@ -28,22 +29,6 @@ pub record IsSearching (context : Context) (t : Table) (xs : List Span) (low : �
   pub at_sector : at % 4096 ≡ 0
   pub none : (later : ℕ) → later % 4096 ≡ 0 → run.from ≤ later → later < at → is_bad context xs later ≡ false
   pub looks : (runs : List Run) → AreCovered runs low run.until → now + passed runs old xs ≤ before + passed runs walks xs
-
-pub search_begins : (context : Context) (t : Table) (xs : List Span) (low : ℕ) (run : Run) (walks : Walks) (before : ℕ)
-    → IsRun run → AreWalked context t xs low run.from walks → AreBegun walks → IsSearching context t xs low run run.from walks walks before before
-search_begins context t xs low run walks before is walked begun = record {
-  walked = walked;
-  begun = begun;
-  from = omega arith;
-  until = let some : run.from < run.until = is.2 in omega arith;
-  at_sector = is.0;
-  none = λ later at_sector up under. absurd (omega arith);
-  looks = λ runs covered. omega arith;
-}
-
-pub low_at : (context : Context) (t : Table) (xs : List Span) (low : ℕ) (run : Run) (at : ℕ) (old walks : Walks) (before now : ℕ)
-    → IsSearching context t xs low run at old walks before now → low ≤ run.from → low ≤ at
-low_at context t xs low run at old walks before now is up = let from : run.from ≤ at = is.from in omega arith
 
 or_false : (b : Bool) → (b || false) ≡ true → b ≡ true
 or_false true e = refl
@@ -99,13 +84,6 @@ module _ (context : Context) (t : Table) (xs : List Span) (low : ℕ) (run : Run
       λ address at_sector inside under. was.none address at_sector ((inside_is run address inside).0) under,
     )
 
-pub none_found : (context : Context) (t : Table) (xs : List Span) (low : ℕ) (run : Run) (at : ℕ) (old walks : Walks) (before now : ℕ)
-    → IsSearching context t xs low run at old walks before now → run.until ≤ at → IsFirstBad (is_bad context xs) (run ∷ []) None
-none_found context t xs low run at old walks before now is end = λ address at_sector inside.
-    let in_run = inside_is run address inside in
-    let under : address < run.until = in_run.1 in
-    is.none address at_sector in_run.0 (omega arith)
-
 -- ---- all runs
 
 -- The search of some runs has come to what is left of them: the answer for these is the answer for all.
@@ -137,35 +115,26 @@ inside_behind start (run ∷ runs) a are up =
     let out : nat_le run.from a ≡ false = grind (arith, nat_tests) in
     ap (λ b. (b && nat_lt a run.until) || is_inside runs a) out ∙ inside_behind run.until runs a are.2 (omega arith)
 
-or_cases : {P : Type 0} (a b : Bool) → (a || b) ≡ true → (a ≡ true → P) → (b ≡ true → P) → P
-or_cases true b e left right = left refl
-or_cases false b e left right = right e
-
-or_left : (a b : Bool) → a ≡ true → (a || b) ≡ true
-or_left true b e = refl
-or_left false b e = absurd (cc)
-
-or_right : (a b : Bool) → b ≡ true → (a || b) ≡ true
-or_right true b e = refl
-or_right false b e = e
-
 one_run : (run : Run) (a : ℕ) → (nat_le run.from a && nat_lt a run.until) ≡ true → is_inside (run ∷ []) a ≡ true
 one_run run a e = or_left _ false e
 
 module _ (bad : ℕ → Bool) (run : Run) (runs : List Run) where
   -- the answer for what follows a run without a broken sector is the answer for both
-  first_later : IsFirstBad bad (run ∷ []) None → (start : ℕ) → AreRunsFrom start (run ∷ runs)
-      → (answer : Option ℕ) → IsFirstBad bad runs answer → IsFirstBad bad (run ∷ runs) answer
-  first_later none start are None is = λ a at_sector inside.
-      or_cases (nat_le run.from a && nat_lt a run.until) (is_inside runs a) inside
-      (λ here. none a at_sector (one_run run a here)) (λ later. is a at_sector later)
-  first_later none start are (Some least) is = (
+  first_later : IsFirstBad bad (run ∷ []) None → (answer : Option ℕ) → IsFirstBad bad runs answer → IsFirstBad bad (run ∷ runs) answer
+  first_later none None is = λ a at_sector inside.
+      elim (or_cases (nat_le run.from a && nat_lt a run.until) (is_inside runs a) inside) [
+        | inl here ↦ none a at_sector (one_run run a here)
+        | inr later ↦ is a at_sector later
+      ]
+  first_later none (Some least) is = (
     is.0,
     or_right (nat_le run.from least && nat_lt least run.until) (is_inside runs least) is.1,
     is.2,
     λ a at_sector inside under.
-        or_cases (nat_le run.from a && nat_lt a run.until) (is_inside runs a) inside
-        (λ here. none a at_sector (one_run run a here)) (λ later. is.3 a at_sector later under),
+        elim (or_cases (nat_le run.from a && nat_lt a run.until) (is_inside runs a) inside) [
+          | inl here ↦ none a at_sector (one_run run a here)
+          | inr later ↦ is.3 a at_sector later under
+        ],
   )
 
   -- the first broken sector of the first run is that of all
@@ -176,13 +145,14 @@ module _ (bad : ℕ → Bool) (run : Run) (runs : List Run) where
     or_left (nat_le run.from least && nat_lt least run.until) (is_inside runs least) (or_false _ is.1),
     is.2,
     λ a at_sector inside under.
-        or_cases (nat_le run.from a && nat_lt a run.until) (is_inside runs a) inside
-        (λ here. is.3 a at_sector (one_run run a here) under)
-        (λ later. absurd (
-        let in_run = inside_is run least is.1 in
-        let before : least < run.until = in_run.1 in
-        let out = inside_behind run.until runs a are.2 (omega arith) in
-        cc (out, later))),
+        elim (or_cases (nat_le run.from a && nat_lt a run.until) (is_inside runs a) inside) [
+          | inl here ↦ is.3 a at_sector (one_run run a here) under
+          | inr later ↦ absurd (
+              let in_run = inside_is run least is.1 in
+              let before : least < run.until = in_run.1 in
+              let out = inside_behind run.until runs a are.2 (omega arith) in
+              cc (out, later))
+        ],
   )
 
 abbrev pub run_at : List Run → ℕ → Run
@@ -233,7 +203,7 @@ module _ (context : Context) (t : Table) (xs : List Span) (all left : List Run) 
         walked = walked;
         same = λ answer is.
             was.same answer (subst (λ l. IsFirstBad (is_bad context xs) l answer) (sym left_is)
-            (first_later (is_bad context xs) run rest none was.start here answer is));
+            (first_later (is_bad context xs) run rest none answer is));
         looks = looked_on;
       }
 
