@@ -113,18 +113,16 @@ clear_front (suc k) (chunk ∷ chunks) clear = (
 )
 
 -- the first chunks, where one more is put behind some of them
-front_put : (chunk : Chunk) (sorted : List Chunk) (rank front : ℕ) → rank ≤ length sorted → AllClear (take front sorted) → AllClear (take (min front rank) (insert sorted rank chunk))
-front_put chunk sorted rank front low clear =
-    let ahead : ℕ = min front rank in
+front_put : (chunk : Chunk) (sorted : List Chunk) (rank front ahead : ℕ) → rank ≤ length sorted → ahead ≤ min front rank → AllClear (take front sorted) → AllClear (take ahead (insert sorted rank chunk))
+front_put chunk sorted rank front ahead low few clear =
     let same : take ahead (insert sorted rank chunk) ≡ take ahead sorted =
     take-append-le ahead (take rank sorted) (chunk ∷ drop rank sorted) (omega (arith, length-take rank sorted)) ∙ take-take ahead rank sorted (omega arith) in
     let part : take ahead (take front sorted) ≡ take ahead sorted = take-take ahead front sorted (omega arith) in
     subst AllClear (part ∙ sym same) (clear_front ahead (take front sorted) clear)
 
-front_after : (chunk : Chunk) (sorted wide : List Chunk) (rank front ahead : ℕ) (clear : Bool) → rank ≤ length sorted → wide ≡ insert sorted rank chunk → AllClear (take front sorted) → (clear ≡ true → AllClear wide) → (clear ≡ false → ahead ≡ min front rank) → AllClear (take ahead wide)
+front_after : (chunk : Chunk) (sorted wide : List Chunk) (rank front ahead : ℕ) (clear : Bool) → rank ≤ length sorted → wide ≡ insert sorted rank chunk → AllClear (take front sorted) → (clear ≡ true → AllClear wide) → (clear ≡ false → ahead ≤ min front rank) → AllClear (take ahead wide)
 front_after chunk sorted wide rank front ahead true low w was all next = clear_front ahead wide (all refl)
-front_after chunk sorted wide rank front ahead false low w was all next =
-    rw (w, next refl) (front_put chunk sorted rank front low was)
+front_after chunk sorted wide rank front ahead false low w was all next = rw w (front_put chunk sorted rank front ahead low (next refl) was)
 
 -- a chunk at a place in front of which no copies meet
 pub clear_in_front : (chunks : List Chunk) (front place : ℕ) (d : Chunk) → AllClear (take front chunks) → place < front → place < length chunks → MeetsNone (take place chunks) (get_or chunks place d)
@@ -134,7 +132,7 @@ clear_in_front chunks front place d clear h l =
     subst (λ c. MeetsNone (take place chunks) c) here (subst (λ cs. MeetsNone cs (get_or (take front chunks) place d)) parts (clear_at (take front chunks) place d clear (omega (arith, length-take front chunks))))
 
 -- one chunk more in all lists
-pub added_in_order : (chunks sorted longer wide : List Chunk) (copies more : List (ℕ × Chunk)) (chunk : Chunk) (rank : ℕ) (pushed inserted apart was clear now : Bool) (front ahead : ℕ) → InOrder chunks sorted copies apart was front → chunk.start + chunk.length ≤ 18446744073709551615 → rank ≡ rank_by_start chunk.start sorted → longer ≡ cond pushed (chunks ++ chunk ∷ []) chunks → pushed ≡ true → wide ≡ cond inserted (insert sorted rank chunk) sorted → inserted ≡ true → (now ≡ true → AreApart (insert sorted rank chunk)) → AreTurned more → (clear ≡ true → was ≡ true) → ((copy : Chunk) → Has copies copy → Has more copy) → (clear ≡ true → HasCopies more chunk) → (clear ≡ true → AreFree copies chunk) → ((copy : Chunk) → Has more copy → Has copies copy ⊎ IsCopyOf chunk copy) → (clear ≡ false → ahead ≡ min front rank) → InOrder longer wide more now clear ahead
+pub added_in_order : (chunks sorted longer wide : List Chunk) (copies more : List (ℕ × Chunk)) (chunk : Chunk) (rank : ℕ) (pushed inserted apart was clear now : Bool) (front ahead : ℕ) → InOrder chunks sorted copies apart was front → chunk.start + chunk.length ≤ 18446744073709551615 → rank ≡ rank_by_start chunk.start sorted → longer ≡ cond pushed (chunks ++ chunk ∷ []) chunks → pushed ≡ true → wide ≡ cond inserted (insert sorted rank chunk) sorted → inserted ≡ true → (now ≡ true → AreApart (insert sorted rank chunk)) → AreTurned more → (clear ≡ true → was ≡ true) → ((copy : Chunk) → Has copies copy → Has more copy) → (clear ≡ true → HasCopies more chunk) → (clear ≡ true → AreFree copies chunk) → ((copy : Chunk) → Has more copy → Has copies copy ⊎ IsCopyOf chunk copy) → (clear ≡ false → ahead ≤ min front rank) → InOrder longer wide more now clear ahead
 added_in_order chunks sorted longer wide copies more chunk rank pushed inserted apart was clear now front ahead kept fits r m mt w wt keeps around stays contained has free sources next =
     let m1 : longer ≡ chunks ++ chunk ∷ [] = m ∙ ap (λ b. cond b (chunks ++ chunk ∷ []) chunks) mt in
     let w1 : wide ≡ insert sorted rank chunk = w ∙ ap (λ b. cond b (insert sorted rank chunk) sorted) wt in

@@ -1,4 +1,4 @@
-use Rattle.std.proofs.Common.{◌≡◌, true, false, min, ◌∙◌, ap, refl, arith}
+use Rattle.std.proofs.Common.{◌≡◌, true, false, min, ◌≤◌, ◌∙◌, ap, refl, arith}
 use Rattle.std.proofs.lemmas.Bool.{both_ways}
 use Rattle.std.specs.List.{insert}
 use Rattle.chunk_map.specs.Order.{rank_by_start, AreApart}
@@ -26,10 +26,10 @@ invariant_of-self-2 c =
       | then-self w ↦ kept_apart c.self.inside.sorted.items c.deref.result.now w.deref-then-self.result.now c.rank_of-rank.result c.args.chunk.now c.self.inside.apart w.stands_apart-apart.result c.if-self.apart c.self.invariant.distances w.if-self.true c.deref.ensures.value c.rank_of-rank.ensures.low w.deref-then-self.ensures.value w.stands_apart-apart.ensures.before w.stands_apart-apart.ensures.behind w.apart-is
       | else-self w ↦ λ now. absurd (both_ways _ (w.apart-is ∙ w.if-self.false) now)
     ] in
-    let next : c.put_copies.new.clear ≡ false → c.if-clear.self ≡ min c.self.inside.front c.rank_of-rank.result =
+    let next : c.put_copies.new.clear ≡ false → c.if-clear.self ≤ min c.self.inside.front c.rank_of-rank.result =
     elim c.if-clear.branch [
       | then-clear w ↦ λ off. absurd (both_ways _ off w.if-clear.true)
-      | else-clear w ↦ λ _. w.self-is ∙ w.min-self-inside.ensures
+      | else-clear w ↦ λ _. omega (arith, w.self-is, w.min-self-inside.ensures)
     ] in
     added_in_order c.self.inside.chunks.items c.self.inside.sorted.items c.push.new.self.items c.insert.new.self.items c.self.inside.copies.entries c.put_copies.new.copies.entries c.args.chunk.now c.rank_of-rank.result _ _ c.self.inside.apart c.self.inside.clear c.put_copies.new.clear c.if-self.apart c.self.inside.front _ c.self.invariant (omega arith)
     (c.rank_of-rank.ensures.rank ∙ ap (rank_by_start c.args.chunk.now.start) c.deref.ensures.value)
