@@ -27,5 +27,7 @@ pub mod Picking
 pub mod Treed
 pub mod Narrow
 pub mod Kept
+pub mod Calming
+pub mod Meeting
 pub mod KeptImage
 pub mod ArrayTree

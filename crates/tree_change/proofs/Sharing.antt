@@ -296,7 +296,7 @@ module _ (pairs : Pairs) (marked : Marks) (moved : ℕ → Bool) (under : Under)
       (visits_both Known (IsRight marked touched) (trail_of sup old v) known marks)
       (visits_both (λ w. Free w × Below Free sup old w) (Moves moving) (trail_of sup old v) (visits_both Free (Below Free sup old) (trail_of sup old v) free deep) moves))
 
-  was_visited : (moving : Marks) (touched : ℕ → Bool) (root e : Expect) (last : Key) → e.tree ≡ root.tree
+  pub was_visited : (moving : Marks) (touched : ℕ → Bool) (root e : Expect) (last : Key) → e.tree ≡ root.tree
       → Visits Known (trail_of sup old root) → ((address : ℕ) → IfSome (pairs root.tree address) (λ live. VisitsOne (IsKnown sup old root.tree address live) (trail_of sup old root)))
       → Visits (IsRight marked touched) (trail_of sup old root) → Visits (Moves moving) (trail_of sup old root)
       → AreUntouched touched moved old new → K e ≡ Some last → WasVisited moving e last
@@ -327,7 +327,7 @@ module _ (pairs : Pairs) (marked : Marks) (moved : ℕ → Bool) (under : Under)
       }
 
   -- at and below a child at which and below which none moved all is kept
-  still_kept : (moving : Marks) (level : ℕ) (d : Expect) → d.level ≡ level → moving d.tree d.address ≡ false → Visits (IsFree moving) (of_old level d) → Visits IsKept (of_old level d)
+  pub still_kept : (moving : Marks) (level : ℕ) (d : Expect) → d.level ≡ level → moving d.tree d.address ≡ false → Visits (IsFree moving) (of_old level d) → Visits IsKept (of_old level d)
   still_kept moving level d at none all =
       let Still = λ (w : Expect). moved w.address ≡ false in
       let here : IsFree moving d = here_of (IsFree moving) (trail_below level sup old) sup old d all in
@@ -379,7 +379,7 @@ module _ (pairs : Pairs) (marked : Marks) (moved : ℕ → Bool) (under : Under)
           (sifted told hushed moving e was.v was.same was.is was.still was.all))
 
 -- by the definitions alone
-if_some_map : (entry : Option Live) (P Q : Live → Type 0) → ((live : Live) → P live → Q live) → IfSome entry P → IfSome entry Q
+pub if_some_map : (entry : Option Live) (P Q : Live → Type 0) → ((live : Live) → P live → Q live) → IfSome entry P → IfSome entry Q
 if_some_map None P Q f is = tt
 if_some_map (Some live) P Q f is = f live is
 

@@ -97,7 +97,7 @@ yields_own kept told true e bytes entries others later stays is =
 yields_own kept told false e bytes entries others later stays is = fails_after (visit_of e bytes entries ∷ []) later is
 
 -- the bound of a child that is walked is that of its pointer
-or_high_is : (pointers : List Pointer) (high : Option Key) → or_high (high_of pointers None) high ≡ high_of pointers high
+pub or_high_is : (pointers : List Pointer) (high : Option Key) → or_high (high_of pointers None) high ≡ high_of pointers high
 or_high_is [] high = refl
 or_high_is (pointer ∷ pointers) high = refl
 

@@ -14,3 +14,4 @@ pub mod Listing
 pub mod TableLaw
 pub mod SharedLaw
 pub mod NarrowLaw
+pub mod MovedLaw

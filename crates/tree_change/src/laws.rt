@@ -4,6 +4,7 @@ ghost use Rattle.tree_change.specs.ImageLaw.{ReadAlikeLaw, StoredAlikeLaw};
 ghost use Rattle.tree_change.specs.Keeping.{KeepingLaw};
 ghost use Rattle.tree_change.specs.Listed.{ListingLaw};
 ghost use Rattle.tree_change.specs.Marking.{MarkingLaw};
+ghost use Rattle.tree_change.specs.MovedLaw.{MovedLaw};
 ghost use Rattle.tree_change.specs.NarrowLaw.{NarrowLaw};
 ghost use Rattle.tree_change.specs.SharedLaw.{ChunkTreeLaw, KeptLaw, KeptTreeLaw, TreesLaw};
 ghost use Rattle.tree_change.specs.SkipLaw.{SkippingLaw, WalkIsOwn};
@@ -101,4 +102,10 @@ pub fn trees_law()
 /// of the blocks name them.
 pub fn narrow_law()
     ensures { NarrowLaw }
+{}
+
+/// The kept blocks that the walk meets which keeps blocks show all kept blocks whose node above or greatest key is another
+/// than it was: below a kept block, what is not met has the node above and the greatest key that it had.
+pub fn moved_law()
+    ensures { MovedLaw }
 {}
