@@ -29,5 +29,6 @@ pub mod Narrow
 pub mod Kept
 pub mod Calming
 pub mod Meeting
+pub mod MarkedTrees
 pub mod KeptImage
 pub mod ArrayTree

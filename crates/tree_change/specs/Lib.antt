@@ -15,3 +15,4 @@ pub mod TableLaw
 pub mod SharedLaw
 pub mod NarrowLaw
 pub mod MovedLaw
+pub mod MarksLaw

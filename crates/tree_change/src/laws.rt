@@ -4,6 +4,7 @@ ghost use Rattle.tree_change.specs.ImageLaw.{ReadAlikeLaw, StoredAlikeLaw};
 ghost use Rattle.tree_change.specs.Keeping.{KeepingLaw};
 ghost use Rattle.tree_change.specs.Listed.{ListingLaw};
 ghost use Rattle.tree_change.specs.Marking.{MarkingLaw};
+ghost use Rattle.tree_change.specs.MarksLaw.{MarksLaw};
 ghost use Rattle.tree_change.specs.MovedLaw.{MovedLaw};
 ghost use Rattle.tree_change.specs.NarrowLaw.{NarrowLaw};
 ghost use Rattle.tree_change.specs.SharedLaw.{ChunkTreeLaw, KeptLaw, KeptTreeLaw, TreesLaw};
@@ -108,4 +109,10 @@ pub fn narrow_law()
 /// than it was: below a kept block, what is not met has the node above and the greatest key that it had.
 pub fn moved_law()
     ensures { MovedLaw }
+{}
+
+/// Blocks of each tree of an image that are marked from some live pairs on up are just those that are above one of these,
+/// or are one.
+pub fn marks_law()
+    ensures { MarksLaw }
 {}
