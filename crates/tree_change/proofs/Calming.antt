@@ -21,10 +21,10 @@ use Rattle.records.specs.WalkLaw.{visited}
 use Rattle.tree_change.specs.Keeping.{Marks, Under, last_in, live_at}
 use Rattle.tree_change.specs.LivePairs.{greater_key, last_key}
 use Rattle.tree_change.specs.MovedLaw.{is_other_than}
-use Rattle.tree_change.proofs.Accepted.{Accepts, IsAs, LowFits, accepts, as_expect, visit_of, walk_accepted}
+use Rattle.tree_change.proofs.Accepted.{Accepts, IsAs, accepts, as_expect, visit_of, walk_accepted}
 use Rattle.tree_change.proofs.Lasting.{low_fits}
 use Rattle.tree_change.proofs.Sharing.{IsKept}
-use Rattle.tree_change.proofs.Sifting.{IsSame, LowAt}
+use Rattle.tree_change.proofs.Sifting.{IsSame}
 use Rattle.tree_change.proofs.Trails.{Tells, Trail, Visit, after, all_own, all_own_append, tells, then_trail, trail_and, trail_below, trail_of, trails}
 use Rattle.tree_change.proofs.Visiting.{Visits, visits_after, visits_later, visits_then, visits_then_first, visits_then_later}
 use Rattle.tree_change.proofs.Within.{here_of, rest_of}
@@ -58,18 +58,18 @@ abbrev pub keys_in : Trail → List Key
 keys_in (Err finding) = []
 keys_in (Ok visits) = item_keys (all_own visits)
 
-keys_after : (P : Expect → Type 0) (visits : List Visit) (later : Trail) → Visits P later
+pub keys_after : (P : Expect → Type 0) (visits : List Visit) (later : Trail) → Visits P later
     → keys_in (after visits later) ≡ item_keys (all_own visits) ++ keys_in later
 unfolding after
 keys_after P visits (Err finding) all = elim all [ ]
 keys_after P visits (Ok others) all = ap item_keys (all_own_append visits others) ∙ keys_append (all_own visits) (all_own others)
 
-keys_then : (P : Expect → Type 0) (first later : Trail) → Visits P (then_trail first later)
+pub keys_then : (P : Expect → Type 0) (first later : Trail) → Visits P (then_trail first later)
     → keys_in (then_trail first later) ≡ keys_in first ++ keys_in later
 keys_then P (Err finding) later all = elim all [ ]
 keys_then P (Ok visits) later all = keys_after P visits later (visits_later P visits later all)
 
-last_walk : (sup : Super) (stored : Stored) (e : Expect) → last_in (walk_of sup stored e) ≡ greatest_of (keys_in (trail_of sup stored e))
+pub last_walk : (sup : Super) (stored : Stored) (e : Expect) → last_in (walk_of sup stored e) ≡ greatest_of (keys_in (trail_of sup stored e))
 last_walk sup stored e = by (trail_of sup stored e) (tells sup stored e)
   where
     by : (trail : Trail) → Tells sup stored trail (walk_of sup stored e) (visited sup stored e)
@@ -86,11 +86,11 @@ key_itself key = grind (arith, common_steps, nat_tests)
 same_kept : (p q : ℕ) (m n : Key) → q ≡ p → n ≡ m → not (p == q && key_same m n) ≡ false
 same_kept p q m n parent last = rw (parent, last, itself p, key_itself m) refl
 
-bytes_same : (a b : List ℕ) (x y : Result (List ℕ) CopyFault) → x ≡ Ok a → y ≡ Ok b → x ≡ y → a ≡ b
+pub bytes_same : (a b : List ℕ) (x y : Result (List ℕ) CopyFault) → x ≡ Ok a → y ≡ Ok b → x ≡ y → a ≡ b
 bytes_same a b x y is other same = cc
 
 -- a block that is accepted as it was, where it is accepted as it is expected elsewhere
-accepts_again : (sup : Super) (old new : Stored) (c d : Expect) (a : Accepts sup old d) → IsAs c d → new c.address ≡ Ok a.bytes
+unfoldable pub accepts_again : (sup : Super) (old new : Stored) (c d : Expect) (a : Accepts sup old d) → IsAs c d → new c.address ≡ Ok a.bytes
     → Accepts sup new c → Accepts sup new c
 accepts_again sup old new c d a same is b = record {
   bytes = a.bytes;
@@ -199,6 +199,6 @@ module _ (A : Expect → Type 0) (pairs : Pairs) (marked : Marks) (moved : ℕ �
       c d tree at (pointers_of bytes) all more
 
   pub calm : (level : ℕ) (c d : Expect) → c.level ≡ level → d.level ≡ level → IsSame old c d → c.parent ≡ d.parent
-      → Visits K (was level d) → Visits A (is_now level c) → Visits IsQuiet (is_now level c)
+      → Visits K (was level d) → Visits A (is_now level c) → Calm (was level d) (is_now level c)
   calm level c d at_c at_d same parent all more =
-      (calm_block level c d at_c at_d same parent (calm_below level c d same.block.tree same.block.address) all more).quiet
+      calm_block level c d at_c at_d same parent (calm_below level c d same.block.tree same.block.address) all more

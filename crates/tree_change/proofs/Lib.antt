@@ -30,5 +30,6 @@ pub mod Kept
 pub mod Calming
 pub mod Meeting
 pub mod MarkedTrees
+pub mod KeptLast
 pub mod KeptImage
 pub mod ArrayTree

@@ -2,27 +2,26 @@
 use Rattle.std.proofs.Common.{◌≡◌, ℕ, zero, suc, ◌-◌, Bool, true, false, List, [], ◌∷◌, ◌++◌, refl, ap, sym, subst, ◌∙◌, arith, if◌then◌else◌}
 use Rattle.std.proofs.lemmas.List.{map-append}
 use Rattle.std.proofs.lemmas.List.Elements.{filter-append}
-use Rattle.std.specs.Prelude.{Option, Some, None, IfSome, Result, Ok, Err, is_some, map}
+use Rattle.std.specs.Prelude.{Option, Some, None, IfSome, Ok, is_some, map}
 use Rattle.std.specs.List.{AllByRecursion, filter, flat_map}
-use Rattle.verdict.specs.declared.finding.Finding.{Finding}
 use Rattle.verdict.specs.declared.key.Key.{Key}
 use Rattle.super_reader.specs.declared.Super.{Super}
 use Rattle.live_index.specs.Pairs.{Pairs}
 use Rattle.live_index.specs.declared.live.Live.{Live}
 use Rattle.node_reader.specs.Layout.{pointers_of}
-use Rattle.node_reader.specs.Stored.{CopyFault, Stored, block_in}
+use Rattle.node_reader.specs.Stored.{Stored, block_in}
 use Rattle.node_reader.specs.declared.expect.Expect.{Expect}
 use Rattle.node_reader.specs.declared.expect.Pointer.{Pointer}
 use Rattle.records.specs.Walk.{child_of, children_of, high_of}
 use Rattle.records.specs.WalkLaw.{children_in, visited, visited_from}
-use Rattle.tree_change.specs.Keeping.{AreMarked, AreUntouched, IsKnown, Marks, OneOf, Under, anew_of, comes_to, kept_of, live_at, or_high, starts_at, starts_in, starts_of}
+use Rattle.tree_change.specs.Keeping.{AreMarked, AreUntouched, IsKnown, Marks, OneOf, Under, anew_of, comes_to, kept_of, live_at, starts_at, starts_in, starts_of}
 use Rattle.tree_change.specs.MovedLaw.{MovedLaw, is_other_than, met_from, met_or, shifted_by}
-use Rattle.tree_change.specs.Skips.{Anew, Kept}
+use Rattle.tree_change.specs.Skips.{Kept}
 use Rattle.tree_change.specs.declared.starts.Start.{Start}
 use Rattle.tree_change.proofs.Accepted.{Accepts, IsAs, accepts}
-use Rattle.tree_change.proofs.Calming.{IsQuiet, calm}
+use Rattle.tree_change.proofs.Calming.{IsQuiet, bytes_same, calm}
 use Rattle.tree_change.proofs.Lasting.{low_fits}
-use Rattle.tree_change.proofs.Sharing.{IsFree, IsKept, IsRight, Known, Moves, WasVisited, if_some_map, still_kept, was_visited}
+use Rattle.tree_change.proofs.Sharing.{IsFree, IsRight, Known, Moves, if_some_map, still_kept, was_visited}
 use Rattle.tree_change.proofs.Sifting.{IsSame, or_high_is}
 use Rattle.tree_change.proofs.Tables.{Any, any_each}
 use Rattle.tree_change.proofs.Trails.{Trail, trail_and, trail_below, trail_of, trails}
@@ -32,9 +31,6 @@ use Rattle.tree_change.proofs.Within.{Below, here_of, rest_of, within}
 block_is : (sup : Super) (stored : Stored) (e : Expect) (a : Accepts sup stored e) → block_in stored sup.fsid e ≡ Ok a.bytes
 unfolding block_in
 block_is sup stored e a = rw (a.is, a.passes) refl
-
-bytes_same : (a b : List ℕ) (x y : Result (List ℕ) CopyFault) → x ≡ Ok a → y ≡ Ok b → x ≡ y → a ≡ b
-bytes_same a b x y is other same = cc
 
 module _ (pairs : Pairs) (marked : Marks) (moved : ℕ → Bool) (under : Under) (sup : Super) (old new : Stored) where
   abbrev pub K : Kept
@@ -57,7 +53,9 @@ module _ (pairs : Pairs) (marked : Marks) (moved : ℕ → Bool) (under : Under)
   is_shown live = is_other_than (pairs live.tree live.address) live
 
   shown_append : (a b : List Expect) → shown (a ++ b) ≡ shown a ++ shown b
-  shown_append a b = ap (filter is_shown) (map-append (live_at sup new) a b) ∙ filter-append is_shown (map (live_at sup new) a) (map (live_at sup new) b)
+  shown_append a b =
+      ap (filter is_shown) (map-append (live_at sup new) a b)
+      ∙ filter-append is_shown (map (live_at sup new) a) (map (live_at sup new) b)
 
   all_append : (a b : List Expect) → all (a ++ b) ≡ all a ++ all b
   all_append a b = ap shown (filter-append keeps a b) ∙ shown_append (filter keeps a) (filter keeps b)
@@ -158,7 +156,8 @@ module _ (pairs : Pairs) (marked : Marks) (moved : ℕ → Bool) (under : Under)
           → all (blocks level c ++ others)
           ≡ shown (flat_map (meets level) (starts_of level e (if m then record { pointer = pointer; next = high_of pointers None } ∷ S else S)))
       by true is rest =
-          subst (λ h. all (blocks level c ++ others) ≡ shown (meets level (child_of level e pointer h) ++ flat_map (meets level) (starts_of level e S)))
+          subst (λ h. all (blocks level c ++ others)
+          ≡ shown (meets level (child_of level e pointer h) ++ flat_map (meets level) (starts_of level e S)))
           (sym (or_high_is pointers e.high))
           (shown_then (blocks level c) others (meets level c) (flat_map (meets level) (starts_of level e S)) (each c refl of_tree there) rest)
       by false is rest =
@@ -166,8 +165,8 @@ module _ (pairs : Pairs) (marked : Marks) (moved : ℕ → Bool) (under : Under)
           let block : IsAs c d = record { tree = as_tree; address = refl; generation = refl; level = refl } in
           let same : IsSame old c d = record { block = block; low = rw a.is (low_fits sup old d a) } in
           let quiet : Visits Quiet (is_now level c) =
-          calm A pairs marked moved under sup old new level c d refl refl same at
-          (still_kept pairs marked moved under sup old new moving level d refl is here) there in
+          (calm A pairs marked moved under sup old new level c d refl refl same at
+          (still_kept pairs marked moved under sup old new moving level d refl is here) there).quiet in
           all_append (blocks level c) others
           ∙ (ap (λ l. l ++ all others) (none_shown (blocks level c) (comes_from Quiet sup new c quiet).each) ∙ rest)
 
@@ -193,7 +192,7 @@ module _ (pairs : Pairs) (marked : Marks) (moved : ℕ → Bool) (under : Under)
         let here : Free v = here_of Free (trail_below (suc level) sup old) sup old v free in
         let a = accepts Free (trail_below (suc level) sup old) sup old v free in
         let same : a.bytes ≡ bytes = bytes_same a.bytes bytes (new v.address) (new e.address) (here.alike w.still ∙ a.is) is
-            (ap new (sym w.same.block.address)) in
+        (ap new (sym w.same.block.address)) in
         let rest : Visits Free (trails (was level) (children_of level v (pointers_of bytes))) =
         subst (λ bs. Visits Free (trails (was level) (children_of level v (pointers_of bs)))) same
         (rest_of Free (trail_below (suc level) sup old) sup old v a free) in
@@ -229,7 +228,7 @@ shows pairs marked moving touched moved under sup old new root now stands marks 
     let known : Visits Kn (trail_of sup old root) = visits_from Kn sup old root stands.each in
     let deep : Visits (Below Kn sup old) (trail_of sup old root) = within Kn sup old root known in
     let right : (m : Marks) (test : ℕ → Bool) → AreMarked m test sup old root
-        → Visits (IsRight pairs marked moved under sup old new m test) (trail_of sup old root) =
+    → Visits (IsRight pairs marked moved under sup old new m test) (trail_of sup old root) =
     λ m test comes. visits_map (λ v. Below Kn sup old v × (m v.tree v.address ≡ comes_to test sup old v))
     (IsRight pairs marked moved under sup old new m test) (trail_of sup old root)
     (λ v h. h.1 ∙ visits_any_from Kn test sup old v h.0)

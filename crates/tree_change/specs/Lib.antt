@@ -16,3 +16,4 @@ pub mod SharedLaw
 pub mod NarrowLaw
 pub mod MovedLaw
 pub mod MarksLaw
+pub mod LastLaw

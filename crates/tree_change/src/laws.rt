@@ -2,6 +2,7 @@
 
 ghost use Rattle.tree_change.specs.ImageLaw.{ReadAlikeLaw, StoredAlikeLaw};
 ghost use Rattle.tree_change.specs.Keeping.{KeepingLaw};
+ghost use Rattle.tree_change.specs.LastLaw.{LastLaw};
 ghost use Rattle.tree_change.specs.Listed.{ListingLaw};
 ghost use Rattle.tree_change.specs.Marking.{MarkingLaw};
 ghost use Rattle.tree_change.specs.MarksLaw.{MarksLaw};
@@ -115,4 +116,10 @@ pub fn moved_law()
 /// or are one.
 pub fn marks_law()
     ensures { MarksLaw }
+{}
+
+/// The greatest key of a kept block as it is now is that of its last child as it is now, where that child is walked, and
+/// else what the table has.
+pub fn last_law()
+    ensures { LastLaw }
 {}
