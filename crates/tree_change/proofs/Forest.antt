@@ -32,7 +32,7 @@ others_append : (tree : ℕ) (a b : List Live) → OfOthers tree a → OfOthers 
 others_append tree [] b x y = y
 others_append tree (live ∷ a) b x y = (x.0, others_append tree a b x.1 y)
 
-table_none : (lives : List Live) (tree address : ℕ) → OfOthers tree lives → table_of lives tree address ≡ None
+pub table_none : (lives : List Live) (tree address : ℕ) → OfOthers tree lives → table_of lives tree address ≡ None
 table_none [] tree address others = refl
 table_none (live ∷ lives) tree address others = rw others.0 (table_none lives tree address others.1)
 
@@ -111,7 +111,7 @@ module _ (sup : Super) where
       ∙ ((told sup tree.0 tree.1 split.0 split.2).gives split.1 (stops_none trees split.1 tree.1.tree tree.1.level split.3 (others_after tree trees apart.0))
       ∙ ap (λ ls. lives_of tree ++ ls) (lives_all trees split.1 apart.1 split.3))
 
-  others_all : (trees : List Tree) (records : List Seen) (id : ℕ) → walks trees ≡ Ok records → NoneOf id trees → OfOthers id (all_lives trees)
+  pub others_all : (trees : List Tree) (records : List Seen) (id : ℕ) → walks trees ≡ Ok records → NoneOf id trees → OfOthers id (all_lives trees)
   others_all [] records id is none = tt
   others_all (tree ∷ trees) records id is none =
       let split = then_ok (walk_of sup tree.0 tree.1) (walks trees) records is in

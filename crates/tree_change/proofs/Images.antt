@@ -95,7 +95,7 @@ each_same : (f g : Expect → Records) → ((e : Expect) → f e ≡ g e) → (e
 each_same f g same [] = refl
 each_same f g same (e ∷ es) = rw (same e, each_same f g same es) refl
 
-visited_same : (level : ℕ) (a b : Super) (stored : Stored) → a.fsid ≡ b.fsid → (e : Expect) → visited_from level a stored e ≡ visited_from level b stored e
+pub visited_same : (level : ℕ) (a b : Super) (stored : Stored) → a.fsid ≡ b.fsid → (e : Expect) → visited_from level a stored e ≡ visited_from level b stored e
 unfolding visited_from
 visited_same zero a b stored fsid e = refl
 visited_same (suc level) a b stored fsid e =
@@ -106,7 +106,7 @@ own_same : (a b : Super) (bytes : List ℕ) (e : Expect) → a.nodesize ≡ b.no
 unfolding own_records
 own_same a b bytes e nodesize incompat compat_ro devid = rw (nodesize, incompat, compat_ro, devid) refl
 
-same_fsid : (xs ys : List ℕ) → bytes_eq xs ys ≡ true → xs ≡ ys
+pub same_fsid : (xs ys : List ℕ) → bytes_eq xs ys ≡ true → xs ≡ ys
 same_fsid [] [] is = refl
 same_fsid [] (y ∷ ys) is = absurd (cc)
 same_fsid (x ∷ xs) [] is = absurd (cc)

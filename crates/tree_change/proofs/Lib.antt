@@ -29,6 +29,8 @@ pub mod Narrow
 pub mod Kept
 pub mod Calming
 pub mod Meeting
+pub mod ReadAlike
+pub mod Shifting
 pub mod MarkedTrees
 pub mod KeptLast
 pub mod KeptImage

@@ -170,6 +170,35 @@ module _ (pairs : Pairs) (marked : Marks) (moved : ℕ → Bool) (under : Under)
           all_append (blocks level c) others
           ∙ (ap (λ l. l ++ all others) (none_shown (blocks level c) (comes_from Quiet sup new c quiet).each) ∙ rest)
 
+  -- what is met below kept blocks of a tree that are no leaves
+  abbrev pub Steps : ℕ → Type 0
+  Steps tree = (level : ℕ) → AreShown tree level → (e : Expect) → e.level ≡ suc level → e.tree ≡ tree → (bytes : List ℕ) → new e.address ≡ Ok bytes
+      → Visits A (trails (is_now level) (children_of level e (pointers_of bytes))) → (last : Key) → K e ≡ Some last
+      → all (flat_map (blocks level) (children_of level e (pointers_of bytes))) ≡ shown (flat_map (meets level) (anew_of under e))
+
+  pub shown_at : (tree : ℕ) → Steps tree → (level : ℕ) → AreShown tree level
+  unfolding visited_from met_from trail_below
+  shown_at tree steps zero e at of_tree more = shown_or e (K e) [] [] [] refl (λ is. refl) (λ last is. refl)
+  shown_at tree steps (suc level) e at of_tree more =
+      let n = accepts A (trail_below (suc level) sup new) sup new e more in
+      let rest : Visits A (trails (is_now level) (children_of level e (pointers_of n.bytes))) =
+      rest_of A (trail_below (suc level) sup new) sup new e n more in
+      let children = children_of level e (pointers_of n.bytes) in
+      let block = block_is sup new e n in
+      subst (λ block. all (e ∷ flat_map (blocks level) (children_in level e block))
+      ≡ shown (met_or (K e) e (flat_map (meets level) (children_in level e block)) (flat_map (meets level) (anew_of under e)))) (sym block)
+      (shown_or e (K e) (flat_map (blocks level) children) (flat_map (meets level) children) (flat_map (meets level) (anew_of under e)) refl
+      (λ is. shown_children tree level (shown_at tree steps level) e of_tree (pointers_of n.bytes) rest)
+      (λ last is. steps level (shown_at tree steps level) e at of_tree n.bytes n.is rest last is))
+
+  -- of a tree of which none is kept
+  pub none_kept : (tree : ℕ) → ((e : Expect) → e.tree ≡ tree → K e ≡ None) → Steps tree
+  none_kept tree none level each e at of_tree bytes is more last stays = never (K e) (none e of_tree) stays
+    where
+      never : (k : Option Key) → k ≡ None → k ≡ Some last
+          → all (flat_map (blocks level) (children_of level e (pointers_of bytes))) ≡ shown (flat_map (meets level) (anew_of under e))
+      never k is other = absurd (cc)
+
   module _ (moving : Marks) (touched : ℕ → Bool) (root : Expect)
       (known : Visits (Known pairs marked moved under sup old new) (trail_of sup old root))
       (only : (address : ℕ) → IfSome (pairs root.tree address) (λ live. VisitsOne (IsKnown sup old root.tree address live) (trail_of sup old root)))
@@ -180,9 +209,7 @@ module _ (pairs : Pairs) (marked : Marks) (moved : ℕ → Bool) (under : Under)
     Free = IsFree pairs marked moved under sup old new moving
 
     -- what is met below a kept block that is no leaf
-    shown_kept : (level : ℕ) → AreShown root.tree level → (e : Expect) → e.level ≡ suc level → e.tree ≡ root.tree → (bytes : List ℕ)
-        → new e.address ≡ Ok bytes → Visits A (trails (is_now level) (children_of level e (pointers_of bytes))) → (last : Key) → K e ≡ Some last
-        → all (flat_map (blocks level) (children_of level e (pointers_of bytes))) ≡ shown (flat_map (meets level) (anew_of under e))
+    shown_kept : Steps root.tree
     unfolding trail_below
     shown_kept level each e at of_tree bytes is more last stays =
         let w = was_visited pairs marked moved under sup old new moving touched root e last of_tree known only marks moves alike stays in
@@ -207,21 +234,6 @@ module _ (pairs : Pairs) (marked : Marks) (moved : ℕ → Bool) (under : Under)
         ∙ ap (λ l. shown (flat_map (meets level) l))
         (ap (starts_of level e) (sym lists) ∙ ap (λ n. starts_of n e (under e.tree e.address)) (sym next))
 
-    shown_at : (level : ℕ) → AreShown root.tree level
-    unfolding visited_from met_from trail_below
-    shown_at zero e at of_tree more = shown_or e (K e) [] [] [] refl (λ is. refl) (λ last is. refl)
-    shown_at (suc level) e at of_tree more =
-        let n = accepts A (trail_below (suc level) sup new) sup new e more in
-        let rest : Visits A (trails (is_now level) (children_of level e (pointers_of n.bytes))) =
-        rest_of A (trail_below (suc level) sup new) sup new e n more in
-        let children = children_of level e (pointers_of n.bytes) in
-        let block = block_is sup new e n in
-        subst (λ block. all (e ∷ flat_map (blocks level) (children_in level e block))
-        ≡ shown (met_or (K e) e (flat_map (meets level) (children_in level e block)) (flat_map (meets level) (anew_of under e)))) (sym block)
-        (shown_or e (K e) (flat_map (blocks level) children) (flat_map (meets level) children) (flat_map (meets level) (anew_of under e)) refl
-        (λ is. shown_children root.tree level (shown_at level) e of_tree (pointers_of n.bytes) rest)
-        (λ last is. shown_kept level (shown_at level) e at of_tree n.bytes n.is rest last is))
-
 pub shows : MovedLaw
 shows pairs marked moving touched moved under sup old new root now stands marks moves lists alike of_tree fine =
     let Kn = Known pairs marked moved under sup old new in
@@ -237,11 +249,13 @@ shows pairs marked moving touched moved under sup old new root now stands marks 
     let listed = visits_from (λ v. under v.tree v.address ≡ starts_at v.level (moving v.tree) (old v.address)) sup old root lists in
     let any : Visits (Any sup new) (trail_of sup new now) =
     visits_from (Any sup new) sup new now (record { fine = fine; each = any_each sup new (visited sup new now) }) in
-    shown_at pairs marked moved under sup old new moving touched root known
+    shown_at pairs marked moved under sup old new root.tree
+    (shown_kept pairs marked moved under sup old new moving touched root known
     (λ address. if_some_map (pairs root.tree address) (λ live. OneOf (IsKnown sup old root.tree address live) (visited sup old root))
     (λ live. VisitsOne (IsKnown sup old root.tree address live) (trail_of sup old root))
     (λ live one. visits_one_from (IsKnown sup old root.tree address live) Kn sup old root known one) (stands.only address))
     (right marked touched marks)
     (visits_both (IsRight pairs marked moved under sup old new moving moved)
     (λ v. under v.tree v.address ≡ starts_at v.level (moving v.tree) (old v.address)) (trail_of sup old root) (right moving moved moves) listed)
-    alike now.level now refl of_tree any
+    alike)
+    now.level now refl of_tree any

@@ -79,7 +79,7 @@ found e starts last false (Some live) is = by (is_same e live) refl is
     by true same is = record { live = live; free = refl; known = refl; same = same; last_is = cc }
     by false same is = absurd (cc)
 
-neither : (a b : Bool) → (a || b) ≡ false → (a ≡ false) × (b ≡ false)
+pub neither : (a b : Bool) → (a || b) ≡ false → (a ≡ false) × (b ≡ false)
 neither true b is = absurd (cc)
 neither false b is = (refl, is)
 

@@ -15,5 +15,6 @@ pub mod TableLaw
 pub mod SharedLaw
 pub mod NarrowLaw
 pub mod MovedLaw
+pub mod ShiftedLaw
 pub mod MarksLaw
 pub mod LastLaw

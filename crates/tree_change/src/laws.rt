@@ -9,6 +9,7 @@ ghost use Rattle.tree_change.specs.MarksLaw.{MarksLaw};
 ghost use Rattle.tree_change.specs.MovedLaw.{MovedLaw};
 ghost use Rattle.tree_change.specs.NarrowLaw.{NarrowLaw};
 ghost use Rattle.tree_change.specs.SharedLaw.{ChunkTreeLaw, KeptLaw, KeptTreeLaw, TreesLaw};
+ghost use Rattle.tree_change.specs.ShiftedLaw.{ShiftedLaw};
 ghost use Rattle.tree_change.specs.SkipLaw.{SkippingLaw, WalkIsOwn};
 ghost use Rattle.tree_change.specs.TableLaw.{LivesLaw, TableLaw, TablesLaw, TreeTableLaw};
 
@@ -122,4 +123,10 @@ pub fn marks_law()
 /// else what the table has.
 pub fn last_law()
     ensures { LastLaw }
+{}
+
+/// The shared pairs of an image with pending writes over it whose node above or greatest key is another than it was are
+/// those of the kept blocks that the walks of its trees meet.
+pub fn shifted_law()
+    ensures { ShiftedLaw }
 {}
