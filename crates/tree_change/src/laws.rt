@@ -5,7 +5,7 @@ ghost use Rattle.tree_change.specs.Keeping.{KeepingLaw};
 ghost use Rattle.tree_change.specs.LastLaw.{LastLaw};
 ghost use Rattle.tree_change.specs.Listed.{ListingLaw};
 ghost use Rattle.tree_change.specs.Marking.{MarkingLaw};
-ghost use Rattle.tree_change.specs.MarksLaw.{MarksLaw};
+ghost use Rattle.tree_change.specs.MarksLaw.{MarksLaw, MovesLaw};
 ghost use Rattle.tree_change.specs.MovedLaw.{MovedLaw};
 ghost use Rattle.tree_change.specs.NarrowLaw.{NarrowLaw};
 ghost use Rattle.tree_change.specs.SharedLaw.{ChunkTreeLaw, KeptLaw, KeptTreeLaw, TreesLaw};
@@ -129,4 +129,9 @@ pub fn last_law()
 /// those of the kept blocks that the walks of its trees meet.
 pub fn shifted_law()
     ensures { ShiftedLaw }
+{}
+
+/// The same of the live pairs whose block stands elsewhere by a new list of chunks: a chunk of the image holds each.
+pub fn moves_law()
+    ensures { MovesLaw }
 {}

@@ -17,8 +17,8 @@ pub use keeps::Keeps;
 pub use known::KnownTree;
 pub use laws::{
     chunk_tree_law, keeping_law, kept_law, kept_tree_law, last_law, listing_law, lives_law,
-    marking_law, marks_law, moved_law, narrow_law, read_alike_law, shifted_law, skipping_law,
-    stored_alike_law, table_law, tables_law, tree_table_law, trees_law, walk_is_own,
+    marking_law, marks_law, moved_law, moves_law, narrow_law, read_alike_law, shifted_law,
+    skipping_law, stored_alike_law, table_law, tables_law, tree_table_law, trees_law, walk_is_own,
 };
 pub use path::{Path, PathStep};
 pub use starts::{Start, Starts};
