@@ -32,7 +32,7 @@ others_append : (tree : ℕ) (a b : List Live) → OfOthers tree a → OfOthers 
 others_append tree [] b x y = y
 others_append tree (live ∷ a) b x y = (x.0, others_append tree a b x.1 y)
 
-table_none : (lives : List Live) (tree address : ℕ) → OfOthers tree lives → table_of lives tree address ≡ None
+pub table_none : (lives : List Live) (tree address : ℕ) → OfOthers tree lives → table_of lives tree address ≡ None
 table_none [] tree address others = refl
 table_none (live ∷ lives) tree address others = rw others.0 (table_none lives tree address others.1)
 

@@ -29,7 +29,7 @@ pub record IsOfImage (image : List ℕ) (whole : Walked) (tree : Tree) : Type 0 
   pub high : tree.1.high ≡ None
   pub stored : tree.0 ≡ stored_in image whole.chunks whole.sup.nodesize
 
-of_image : (image : List ℕ) (whole : Walked) (trees : List Tree) → HasTrees image whole trees → AllByRecursion (IsOfImage image whole) trees
+pub of_image : (image : List ℕ) (whole : Walked) (trees : List Tree) → HasTrees image whole trees → AllByRecursion (IsOfImage image whole) trees
 of_image image whole trees has =
     subst (AllByRecursion (IsOfImage image whole)) (sym has.trees_are)
     (record { high = refl; stored = refl }, (record { high = refl; stored = refl }, by has.roots))
@@ -58,7 +58,7 @@ module _ (image : List ℕ) (pending : FinMap nat_cmp ℕ) (old new : Walked) (b
   abbrev pub Keeps : Tree → Type 0
   Keeps now = AllByRecursion (Marked now.1.tree) before → KeepsShared old new (written_in pending) (length image) pairs marked under now.0 now.1
 
-  was : are_read_alike old.sup new.sup ≡ true → (now tree : Tree) → IsOfImage judged new now → IsOfImage image old tree
+  pub was : are_read_alike old.sup new.sup ≡ true → (now tree : Tree) → IsOfImage judged new now → IsOfImage image old tree
       → AreUntouched (touches_old old (written_in pending) (length image)) (moves_between old new (length image)) tree.0 now.0
   was alike now tree is of =
       let here : now.0 ≡ stored_in judged new.chunks old.sup.nodesize =

@@ -214,7 +214,7 @@ items_visits (v ∷ visits) high is =
     let both = and_parts (own_below v.own high) (visits_below visits high) is in
     items_append v.own (all_own visits) high ∙ and_true (items_below v.own high) (items_below (all_own visits) high) (items_own v.own high both.0) (items_visits visits high both.1)
 
-items_of_upto : (trail : Trail) (high : Option Key) → upto trail high ≡ true → items_upto trail high ≡ true
+pub items_of_upto : (trail : Trail) (high : Option Key) → upto trail high ≡ true → items_upto trail high ≡ true
 items_of_upto (Err finding) high is = refl
 items_of_upto (Ok visits) high is = items_visits visits high is
 
@@ -228,7 +228,7 @@ absorbs_left true b f = refl
 absorbs_left false true f = f refl
 absorbs_left false false f = refl
 
-below_greater : (a b : Key) (high : Option Key) → is_below (greater_key a b) high ≡ (is_below a high && is_below b high)
+pub below_greater : (a b : Key) (high : Option Key) → is_below (greater_key a b) high ≡ (is_below a high && is_below b high)
 below_greater a b None = refl
 below_greater a b (Some high) = by (key_below a b) refl
   where

@@ -27,6 +27,12 @@ pub mod Picking
 pub mod Treed
 pub mod Narrow
 pub mod Kept
+pub mod Calming
+pub mod Meeting
+pub mod ReadAlike
+pub mod Shifting
+pub mod MarkedTrees
+pub mod KeptLast
 pub mod KeptImage
 pub mod ArrayTree
 pub mod OldPlaces

@@ -379,7 +379,7 @@ module _ (pairs : Pairs) (marked : Marks) (moved : ℕ → Bool) (under : Under)
           (sifted told hushed moving e was.v was.same was.is was.still was.all))
 
 -- by the definitions alone
-if_some_map : (entry : Option Live) (P Q : Live → Type 0) → ((live : Live) → P live → Q live) → IfSome entry P → IfSome entry Q
+pub if_some_map : (entry : Option Live) (P Q : Live → Type 0) → ((live : Live) → P live → Q live) → IfSome entry P → IfSome entry Q
 if_some_map None P Q f is = tt
 if_some_map (Some live) P Q f is = f live is
 

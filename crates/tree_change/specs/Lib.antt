@@ -17,3 +17,7 @@ pub mod NarrowLaw
 pub mod OldSide
 pub mod Unshared
 pub mod SupersLaw
+pub mod MovedLaw
+pub mod ShiftedLaw
+pub mod MarksLaw
+pub mod LastLaw

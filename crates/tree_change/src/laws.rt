@@ -2,11 +2,15 @@
 
 ghost use Rattle.tree_change.specs.ImageLaw.{ReadAlikeLaw, StoredAlikeLaw};
 ghost use Rattle.tree_change.specs.Keeping.{KeepingLaw};
+ghost use Rattle.tree_change.specs.LastLaw.{LastLaw};
 ghost use Rattle.tree_change.specs.Listed.{ListingLaw};
 ghost use Rattle.tree_change.specs.Marking.{MarkingLaw};
+ghost use Rattle.tree_change.specs.MarksLaw.{MarksLaw, MovesLaw};
+ghost use Rattle.tree_change.specs.MovedLaw.{MovedLaw};
 ghost use Rattle.tree_change.specs.NarrowLaw.{NarrowLaw};
 ghost use Rattle.tree_change.specs.SharedLaw.{ChunkTreeLaw, KeptLaw, KeptTreeLaw, TreesLaw};
 ghost use Rattle.tree_change.specs.OldSide.{GoneLaw, OldSideLaw, TellsLaw};
+ghost use Rattle.tree_change.specs.ShiftedLaw.{ShiftedLaw};
 ghost use Rattle.tree_change.specs.SkipLaw.{SkippingLaw, WalkIsOwn};
 ghost use Rattle.tree_change.specs.SupersLaw.{SupersLaw};
 ghost use Rattle.tree_change.specs.TableLaw.{LivesLaw, TableLaw, TablesLaw, TreeTableLaw};
@@ -136,4 +140,33 @@ pub fn trees_law()
 /// of the blocks name them.
 pub fn narrow_law()
     ensures { NarrowLaw }
+{}
+
+/// The kept blocks that the walk meets which keeps blocks show all kept blocks whose node above or greatest key is another
+/// than it was: below a kept block, what is not met has the node above and the greatest key that it had.
+pub fn moved_law()
+    ensures { MovedLaw }
+{}
+
+/// Blocks of each tree of an image that are marked from some live pairs on up are just those that are above one of these,
+/// or are one.
+pub fn marks_law()
+    ensures { MarksLaw }
+{}
+
+/// The greatest key of a kept block as it is now is that of its last child as it is now, where that child is walked, and
+/// else what the table has.
+pub fn last_law()
+    ensures { LastLaw }
+{}
+
+/// The shared pairs of an image with pending writes over it whose node above or greatest key is another than it was are
+/// those of the kept blocks that the walks of its trees meet.
+pub fn shifted_law()
+    ensures { ShiftedLaw }
+{}
+
+/// The same of the live pairs whose block stands elsewhere by a new list of chunks: a chunk of the image holds each.
+pub fn moves_law()
+    ensures { MovesLaw }
 {}
