@@ -93,7 +93,8 @@ module _ (image : List ℕ) (whole : Walked) where
   held_tree table tree stands is =
       let A = Any whole.sup tree.0 in
       let any : Visits A (trail_of whole.sup tree.0 tree.1) =
-      visits_from A whole.sup tree.0 tree.1 (record { fine = stands.each.fine; each = any_each whole.sup tree.0 (visited whole.sup tree.0 tree.1) }) in
+      visits_from A whole.sup tree.0 tree.1
+      (record { fine = stands.each.fine; each = any_each whole.sup tree.0 (visited whole.sup tree.0 tree.1) }) in
       held_lives tree.0 (visited whole.sup tree.0 tree.1)
       (comes_from (λ v. is_held v.address ≡ true) whole.sup tree.0 tree.1
       (visits_map (Below A whole.sup tree.0) (λ v. is_held v.address ≡ true) (trail_of whole.sup tree.0 tree.1)
