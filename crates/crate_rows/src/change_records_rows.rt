@@ -1,6 +1,6 @@
+use crate::common::key;
 use change_records::{ItemChange, ItemRef, affected, pair};
 use chunk_map::{Bases, Chunk, ChunkMap};
-use crate::common::key;
 use fs_items::{FileExtent, InodeItem};
 use live_index::{Live, LiveIndex};
 use recon_disk::Steps;

@@ -1,7 +1,7 @@
 //! What records post, one of each kind and by each of its sides.
 
-use accounts::{Posting, Postings};
 use crate::common::{NoChunk, key};
+use accounts::{Posting, Postings};
 use dir_rules::post;
 use fs_items::{DirItem, InodeRef};
 use records::Rec;

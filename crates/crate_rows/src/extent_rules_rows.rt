@@ -1,5 +1,5 @@
-use accounts::{Account, Postings};
 use crate::common::NoChunk;
+use accounts::{Account, Postings};
 use extent_items::ExtentItem;
 use extent_rules::post;
 use records::Rec;

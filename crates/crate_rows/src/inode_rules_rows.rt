@@ -1,7 +1,7 @@
 //! What records post, one of each kind and by each of its sides.
 
-use accounts::{Posting, Postings};
 use crate::common::{NoChunk, key};
+use accounts::{Posting, Postings};
 use fs_items::{DirItem, FileExtent, InodeItem, InodeRef, Orphan, Xattr};
 use inode_rules::post;
 use records::Rec;
