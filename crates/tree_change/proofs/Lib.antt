@@ -37,3 +37,4 @@ pub mod OldSide
 pub mod OldBlocks
 pub mod OldTells
 pub mod OldSupers
+pub mod Meeting

@@ -5,6 +5,7 @@ pub mod Skips
 pub mod SkipLaw
 pub mod Keeping
 pub mod Marking
+pub mod Meeting
 pub mod KeepingWalk
 pub mod Under
 pub mod Known
