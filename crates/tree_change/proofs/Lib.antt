@@ -38,3 +38,4 @@ pub mod OldBlocks
 pub mod OldTells
 pub mod OldSupers
 pub mod Meeting
+pub mod Stopping

@@ -18,3 +18,4 @@ pub mod NarrowLaw
 pub mod OldSide
 pub mod Unshared
 pub mod SupersLaw
+pub mod Stopping

@@ -75,7 +75,7 @@ impl<'a, 's, L> Keeps for KnownTree<'a, 's, L> {
 }
 
 // What is expected of a child that is walked below a block.
-fn expected(e: &Expect, start: &Start) -> Expect
+pub(crate) fn expected(e: &Expect, start: &Start) -> Expect
     ensures { result ≡ start_of (e.now.level - 1) e.now start.now }
 {
     Expect {
@@ -91,7 +91,7 @@ fn expected(e: &Expect, start: &Start) -> Expect
 
 // The greatest key that is sure to stand in a block or below it, of which this was the greatest.
 #[tactic(auto, using(crate::proofs::Knowing::bound_here, crate::proofs::Knowing::bound_later))]
-fn bound(starts: &[Start], last: Key) -> Key
+pub(crate) fn bound(starts: &[Start], last: Key) -> Key
     ensures { result ≡ bound_of starts.now last }
 {
     for start in starts {
@@ -104,7 +104,7 @@ fn bound(starts: &[Start], last: Key) -> Key
 }
 
 // Whether the block that is expected is the one that is known.
-fn is_same(e: &Expect, live: &Live) -> bool
+pub(crate) fn is_same(e: &Expect, live: &Live) -> bool
     ensures { result ≡ is_same e.now live.now }
 {
     e.level == live.level && e.generation == live.generation && is_first(e, live)
