@@ -39,3 +39,4 @@ pub mod OldTells
 pub mod OldSupers
 pub mod Meeting
 pub mod Stopping
+pub mod MeetingStops

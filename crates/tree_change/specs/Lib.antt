@@ -19,3 +19,4 @@ pub mod OldSide
 pub mod Unshared
 pub mod SupersLaw
 pub mod Stopping
+pub mod MeetingLaw

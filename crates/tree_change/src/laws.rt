@@ -4,6 +4,7 @@ ghost use Rattle.tree_change.specs.ImageLaw.{ReadAlikeLaw, StoredAlikeLaw};
 ghost use Rattle.tree_change.specs.Keeping.{KeepingLaw};
 ghost use Rattle.tree_change.specs.Listed.{ListingLaw};
 ghost use Rattle.tree_change.specs.Marking.{MarkingLaw};
+ghost use Rattle.tree_change.specs.MeetingLaw.{MeetingLaw};
 ghost use Rattle.tree_change.specs.NarrowLaw.{NarrowLaw};
 ghost use Rattle.tree_change.specs.SharedLaw.{ChunkTreeLaw, KeptLaw, KeptTreeLaw, TreesLaw};
 ghost use Rattle.tree_change.specs.OldSide.{GoneLaw, OldSideLaw, TellsLaw};
@@ -35,6 +36,11 @@ pub fn keeping_law()
 /// are not shared, and gives their own records, each once.
 pub fn old_side_law()
     ensures { OldSideLaw }
+{}
+
+/// The kept blocks that a walk meets, which keeps blocks soundly and has no finding, are its stops.
+pub fn meeting_law()
+    ensures { MeetingLaw }
 {}
 
 /// A walk that keeps the blocks at the addresses of stops keeps those at the stops, by whatever marks.

@@ -18,7 +18,7 @@ pub use keeps::Keeps;
 pub use known::KnownTree;
 pub use laws::{
     chunk_tree_law, gone_law, keeping_law, kept_law, kept_tree_law, listing_law, lives_law,
-    marking_law, narrow_law, old_side_law, read_alike_law, reads_twice_law, skipping_law,
+    marking_law, meeting_law, narrow_law, old_side_law, read_alike_law, reads_twice_law, skipping_law,
     stops_law, stored_alike_law, supers_law, table_law, tables_law, tells_law, tree_table_law, trees_law,
     unshared_law, walk_is_own,
 };
