@@ -1,5 +1,5 @@
 -- The steps of a walk that tells which kept blocks it meets.
-use Rattle.std.proofs.Common.{◌≡◌, ℕ, zero, suc, ◌-◌, List, [], ◌∷◌, ◌++◌, ap, refl, sym, subst, ◌∙◌, arith, IfSome, Option, Some, None, Result, Ok, Err, OnOk, true, false}
+use Rattle.std.proofs.Common.{◌≡◌, ℕ, zero, suc, ◌-◌, List, [], ◌∷◌, ◌++◌, append_assoc, append-nil, ap, refl, sym, subst, ◌∙◌, arith, IfSome, Option, Some, None, Result, Ok, Err, OnOk, true, false}
 use Rattle.std.specs.Prelude.{if◌then◌else◌}
 use Rattle.std.specs.Ordering.{nat_cmp}
 use Rattle.std.specs.FinMap.{FinMap}
@@ -21,20 +21,12 @@ use Rattle.tree_change.specs.Skips.{Anew, Kept, is_below, next_of}
 pub no_more : (met : Met) → with_met met [] ≡ met
 unfolding with_met
 no_more None = refl
-no_more (Some met) = ap Some (nil met)
-  where
-    nil : (es : List Expect) → es ++ [] ≡ es
-    nil [] = refl
-    nil (e ∷ es) = ap (λ more. e ∷ more) (nil es)
+no_more (Some met) = ap Some (append-nil met)
 
 pub more_twice : (met : Met) (es fs : List Expect) → with_met met (es ++ fs) ≡ with_met (with_met met es) fs
 unfolding with_met
 more_twice None es fs = refl
-more_twice (Some met) es fs = ap Some (joined met)
-  where
-    joined : (ds : List Expect) → ds ++ (es ++ fs) ≡ (ds ++ es) ++ fs
-    joined [] = refl
-    joined (d ∷ ds) = ap (λ more. d ∷ more) (joined ds)
+more_twice (Some met) es fs = ap Some (sym (append_assoc met es fs))
 
 below_leaf : (kept : Kept) (anew : Anew) (level : ℕ) (sup : Super) (stored : Stored) (next : List Expect) → level ≡ 0
     → met_below kept anew level sup stored next ≡ []

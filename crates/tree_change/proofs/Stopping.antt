@@ -13,6 +13,7 @@ use Rattle.touched_pairs.specs.Marks.{Marked, with_mark}
 use Rattle.tree_change.specs.Keeping.{last_if_same}
 use Rattle.tree_change.specs.OldSide.{is_stop, kept_at}
 use Rattle.tree_change.specs.Skips.{Anew, Kept, next_of, nothing, skip_and, skip_below, skip_or}
+use Rattle.tree_change.proofs.Keepings.{none_left}
 use Rattle.tree_change.specs.Stopping.{StopsLaw, kept_among}
 
 -- the stops that are left are all that are not marked yet
@@ -50,13 +51,7 @@ stopped_more met i d tree before after inside more so = record { each = by; }
         ∙ sym (ap (λ b. b || is_stop (drop (i + 1) met) a) (more tree a))
 
 pub stopped_all : (met : List Expect) (i : ℕ) (marks : ℕ → Bool) → length met ≤ i → AreStopped met i marks → (a : ℕ) → marks a ≡ is_stop met a
-stopped_all met i marks past so a = sym (so.each a ∙ ap (λ es. marks a || is_stop es a) (none i met past) ∙ no_other (marks a))
-  where
-    none : (i : ℕ) (es : List Expect) → length es ≤ i → drop i es ≡ []
-    none zero [] past = refl
-    none zero (e ∷ es) past = absurd (omega arith)
-    none (suc i) [] past = refl
-    none (suc i) (e ∷ es) past = none i es (omega arith)
+stopped_all met i marks past so a = sym (so.each a ∙ ap (λ es. marks a || is_stop es a) (none_left i met past) ∙ no_other (marks a))
 
 pub ruleset stop_steps = (stopped_none, stopped_more, stopped_all)
 
