@@ -43,3 +43,6 @@ pub mod OldSide
 pub mod OldBlocks
 pub mod OldTells
 pub mod OldSupers
+pub mod MetWalk
+pub mod Stopping
+pub mod MeetingStops

@@ -5,6 +5,7 @@ pub mod Skips
 pub mod SkipLaw
 pub mod Keeping
 pub mod Marking
+pub mod Meeting
 pub mod KeepingWalk
 pub mod Under
 pub mod Known
@@ -21,3 +22,5 @@ pub mod MovedLaw
 pub mod ShiftedLaw
 pub mod MarksLaw
 pub mod LastLaw
+pub mod Stopping
+pub mod MeetingLaw

@@ -7,6 +7,7 @@ ghost use Rattle.block_source.specs.Counts.{ReadsCopies};
 ghost use Rattle.block_source.specs.Gives.{is_disk_halt};
 ghost use Rattle.block_source.specs.Takes.{ReadsInto};
 ghost use Rattle.tree_change.specs.KeepingWalk.{skip_in};
+ghost use Rattle.tree_change.specs.Meeting.{Meets, met_in};
 ghost use Rattle.tree_change.specs.Skips.{is_below};
 
 use crate::keeps::Keeps;
@@ -20,7 +21,7 @@ use verdict::Key;
 /// Walks the tree from the block on that is expected, keeps the blocks that it is told to keep, and gives the records of the others to
 /// a taker, as a whole walk does. It reads no kept block, goes on to what is walked below it, and gives nothing of it. Where a kept
 /// block's greatest key is not below the high key that is expected, there is a finding at or below it: then the rest below it is walked
-/// whole up to the first. Each copy of each block that is not kept is read once.
+/// whole up to the first. Each copy of each block that is not kept is read once. Each other kept block that it meets is held.
 #[tactic(auto, using(block_source::proofs::Copies::room_fits))]
 pub fn walk_changed<D: Disk, K: Keeps, T: Taker>(
     alloc: Global,
@@ -39,6 +40,9 @@ pub fn walk_changed<D: Disk, K: Keeps, T: Taker>(
     ensures kept { IsKept D.Disk disk.old disk.new (is_disk_halt result) }
     ensures same { OnOk result (K.keeps keeps.new ≡ K.keeps keeps.old) }
     ensures same_anew { OnOk result (K.anew keeps.new ≡ K.anew keeps.old) }
+    ensures met { OnOk result (
+        Meets (D.bytes disk.old) source.now.cache.now (K.met keeps.old) (K.met keeps.new)
+        (met_in (K.keeps keeps.old) (K.anew keeps.old) source.now.sup.now source.now.map.now e.now)) }
 {
     let size = source.sup.nodesize as usize;
     let mut room = vec![in alloc; 0u8; (e.level as usize + 1) * size]?;
@@ -69,12 +73,16 @@ fn walk_keeping<D: Disk, K: Keeps, T: Taker>(
     ensures kept { IsKept D.Disk disk.old disk.new (is_disk_halt result) }
     ensures same { K.keeps keeps.new ≡ K.keeps keeps.old }
     ensures same_anew { K.anew keeps.new ≡ K.anew keeps.old }
+    ensures met { OnOk result (
+        Meets (D.bytes disk.old) source.now.cache.now (K.met keeps.old) (K.met keeps.new)
+        (met_in (K.keeps keeps.old) (K.anew keeps.old) source.now.sup.now source.now.map.now e.now)) }
 {
     let (first, rest) = room.split_at_mut(source.sup.nodesize as usize);
     if let Some(last) = keeps.kept(e) {
         if !is_below(last, e.high) {
             return walk_into(alloc, disk, source, e, into);
         }
+        keeps.meet(e)?;
         if e.level == 0 {
             return Ok(());
         }

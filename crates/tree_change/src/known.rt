@@ -5,7 +5,7 @@ ghost use Rattle.live_index.specs.Table.{pairs_of};
 ghost use Rattle.touched_pairs.specs.Marks.{marked_by};
 ghost use Rattle.touched_pairs.specs.Moves.{move_passes};
 ghost use Rattle.tree_change.specs.Keeping.{anew_of, bound_of, is_first, is_same, or_high, start_of, starts_of};
-ghost use Rattle.tree_change.specs.Known.{kept_by, listed_by};
+ghost use Rattle.tree_change.specs.Known.{kept_by, listed_by, met_by};
 ghost use Rattle.tree_change.specs.Under.{under_of};
 
 use crate::keeps::Keeps;
@@ -14,7 +14,7 @@ use live_index::{Live, LiveIndex};
 use node_reader::Expect;
 use recon_disk::Steps;
 use touched_pairs::{AddressTest, Marks, Move};
-use verdict::Key;
+use verdict::{Key, NoMemory};
 
 /// What is known of a tree as it was: its live pairs, the marks of those that writes touch and of all above them, which blocks stand at
 /// another place now, and the children that moved or are above one that did. Each block that is asked for looks once into the table.
@@ -30,12 +30,16 @@ pub struct KnownTree<'a, 's, L> {
     pub starts: &'a Starts,
     /// The counter of looks into the table.
     pub steps: &'s mut Steps<L>,
+    /// The kept blocks that the walk met so far.
+    pub met: &'s mut Vec<Expect>,
 }
 
 impl<'a, 's, L> Keeps for KnownTree<'a, 's, L> {
     ghost keeps = { kept_by };
 
     ghost anew = { listed_by };
+
+    ghost met = { met_by };
 
     #[tactic(auto, unfolding(crate::specs::Keeping::kept_of))]
     fn kept(&mut self, e: &Expect) -> Option<Key> {
@@ -47,6 +51,14 @@ impl<'a, 's, L> Keeps for KnownTree<'a, 's, L> {
             Some(bound(self.starts.of(e.tree, e.address), live.last))
         } else {
             None
+        }
+    }
+
+    #[tactic(auto, unfolding(crate::specs::Meeting::with_met))]
+    fn meet(&mut self, e: &Expect) -> Result<(), NoMemory> {
+        match self.met.push(*e) {
+            Ok(()) => Ok(()),
+            Err(_) => Err(NoMemory),
         }
     }
 
@@ -63,7 +75,7 @@ impl<'a, 's, L> Keeps for KnownTree<'a, 's, L> {
 }
 
 // What is expected of a child that is walked below a block.
-fn expected(e: &Expect, start: &Start) -> Expect
+pub(crate) fn expected(e: &Expect, start: &Start) -> Expect
     ensures { result ≡ start_of (e.now.level - 1) e.now start.now }
 {
     Expect {
@@ -79,7 +91,7 @@ fn expected(e: &Expect, start: &Start) -> Expect
 
 // The greatest key that is sure to stand in a block or below it, of which this was the greatest.
 #[tactic(auto, using(crate::proofs::Knowing::bound_here, crate::proofs::Knowing::bound_later))]
-fn bound(starts: &[Start], last: Key) -> Key
+pub(crate) fn bound(starts: &[Start], last: Key) -> Key
     ensures { result ≡ bound_of starts.now last }
 {
     for start in starts {
@@ -92,7 +104,7 @@ fn bound(starts: &[Start], last: Key) -> Key
 }
 
 // Whether the block that is expected is the one that is known.
-fn is_same(e: &Expect, live: &Live) -> bool
+pub(crate) fn is_same(e: &Expect, live: &Live) -> bool
     ensures { result ≡ is_same e.now live.now }
 {
     e.level == live.level && e.generation == live.generation && is_first(e, live)

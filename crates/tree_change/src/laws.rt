@@ -7,11 +7,13 @@ ghost use Rattle.tree_change.specs.Listed.{ListingLaw};
 ghost use Rattle.tree_change.specs.Marking.{MarkingLaw};
 ghost use Rattle.tree_change.specs.MarksLaw.{MarksLaw, MovesLaw};
 ghost use Rattle.tree_change.specs.MovedLaw.{MovedLaw};
+ghost use Rattle.tree_change.specs.MeetingLaw.{MeetingLaw};
 ghost use Rattle.tree_change.specs.NarrowLaw.{NarrowLaw};
 ghost use Rattle.tree_change.specs.SharedLaw.{ChunkTreeLaw, KeptLaw, KeptTreeLaw, TreesLaw};
 ghost use Rattle.tree_change.specs.OldSide.{GoneLaw, OldSideLaw, TellsLaw};
 ghost use Rattle.tree_change.specs.ShiftedLaw.{ShiftedLaw};
 ghost use Rattle.tree_change.specs.SkipLaw.{SkippingLaw, WalkIsOwn};
+ghost use Rattle.tree_change.specs.Stopping.{StopsLaw};
 ghost use Rattle.tree_change.specs.SupersLaw.{SupersLaw};
 ghost use Rattle.tree_change.specs.TableLaw.{LivesLaw, TableLaw, TablesLaw, TreeTableLaw};
 ghost use Rattle.tree_change.specs.Unshared.{ReadsTwiceLaw, UnsharedLaw};
@@ -38,6 +40,16 @@ pub fn keeping_law()
 /// are not shared, and gives their own records, each once.
 pub fn old_side_law()
     ensures { OldSideLaw }
+{}
+
+/// The kept blocks that a walk meets, which keeps blocks soundly and has no finding, are its stops.
+pub fn meeting_law()
+    ensures { MeetingLaw }
+{}
+
+/// A walk that keeps the blocks at the addresses of stops keeps those at the stops, by whatever marks.
+pub fn stops_law()
+    ensures { StopsLaw }
 {}
 
 /// Whether a pair is shared by two images tells which blocks of each tree of the new image are shared, where just these are kept.

@@ -1,6 +1,6 @@
-use crate::{Path, PathStep, Start, Starts};
+use crate::{Keeps, OldTree, Path, PathStep, Start, Starts, stops_of};
 use live_index::{Live, LiveIndex};
-use node_reader::Pointer;
+use node_reader::{Expect, Pointer};
 use recon_disk::Steps;
 use std::alloc::Global;
 use touched_pairs::Marks;
@@ -118,6 +118,49 @@ fn marked_children_stand_below_their_nodes(rt: HostRuntime) -> Result<(), NoMemo
     assert_eq!(rt; starts.of(7, 0), at_zero.as_slice());
     for (tree, address) in [(5, 0), (5, 0x30_0000), (7, 0x10_0000), (7, 0x20_0000)] {
         assert!(rt; starts.of(tree, address).is_empty());
+    }
+    Ok(())
+}
+
+// What is expected of the second leaf below the node at 0x20_0000, or of another block in its place.
+fn expected(tree: u64, address: u64, generation: u64) -> Expect {
+    Expect {
+        tree,
+        address,
+        generation,
+        level: 0,
+        low: Some(inode(257)),
+        high: Some(inode(258)),
+        parent: 0x20_0000,
+    }
+}
+
+#[test]
+fn a_walk_of_the_tree_as_it_was_keeps_the_blocks_at_stops(
+    rt: HostRuntime,
+) -> Result<(), NoMemory> {
+    let mut steps = Steps::new(());
+    let table = table(rt.alloc(), &mut steps)?;
+    let starts = Starts::new(rt.alloc());
+    let met = [expected(5, 0x3_8000, 9), expected(5, 0x5_0000, 7)];
+    let stops = stops_of(rt.alloc(), 5, &met)?;
+    let mut old = OldTree {
+        tree: 5,
+        table: &table,
+        stops: &stops,
+        starts: &starts,
+        steps: &mut steps,
+    };
+    let rows = [
+        (expected(5, 0x3_8000, 7), Some(inode(257))),
+        // Another generation, a block that the table has not, and one that is at no stop.
+        (expected(5, 0x3_8000, 9), None),
+        (expected(5, 0x5_0000, 7), None),
+        (expected(5, 0x3_c000, 7), None),
+    ];
+    for (e, last) in rows {
+        assert_eq!(rt; old.kept(&e), last);
+        assert_eq!(rt; old.count(&e), 0);
     }
     Ok(())
 }

@@ -113,12 +113,14 @@ fn walked(
         end,
     };
     let starts = Starts::new(alloc);
+    let mut met = Vec::new(alloc);
     let mut known = KnownTree {
         table: &table,
         marks: &marks,
         moves: &moves,
         starts: &starts,
         steps: &mut steps,
+        met: &mut met,
     };
     let mut disk = MemDisk::new(Vec::from_slice(alloc, image)?, Vec::new(alloc));
     let source = BlockSource {

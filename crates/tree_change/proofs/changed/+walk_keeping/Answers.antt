@@ -1,7 +1,11 @@
-use Rattle.std.proofs.Common.{rules, arith, sym, ◌∙◌}
+use Rattle.std.proofs.Common.{◌≡◌, ◌+◌, ◌-◌, [], ◌∷◌, drop, rules, arith, ap, refl, subst, sym, ◌∙◌}
+use Rattle.records.specs.Walk.{children_of, walk_in}
+use Rattle.block_source.specs.Private.{pointers_from}
 use Rattle.tree_change.specs.KeepingWalk.{skip_in}
+use Rattle.tree_change.specs.Meeting.{met_in, with_met}
 use Rattle.tree_change.proofs.Keepings.{skip_steps}
 use Rattle.tree_change.proofs.KeepCounting.{keep_leaf_counted, keep_node_counted}
+use Rattle.tree_change.proofs.MetWalk.{leaf_meets, leaf_read, met_all, met_step, node_met, node_read, on_ok, whole_meets}
 use Rattle.tree_change.proofs.changed.+walk_keeping.Goals as goal
 
 -- src/changed.rt:61:9
@@ -21,4 +25,93 @@ loop-i-init g t c = record {
   };
   same = c.kept.ensures.same;
   same_anew = c.kept.ensures.same_anew;
+  met = node_read (g.K.Keeps.keeps c.args.keeps.now) (g.K.Keeps.anew c.args.keeps.now) (g.D.Disk.bytes c.args.disk.now) c.args.source.now.cache.now c.args.source.now.sup.now c.args.source.now.map.now c.args.e.now c.in_ok-block.block
+      (g.K.Keeps.met c.args.keeps.now) (g.K.Keeps.met c.kept.new.self) (sym c.kept.ensures.value ∙ c.in_default.is) c.if-e-eq0-2.false c.in_ok-block.ensures.gives c.kept.ensures.same_met;
 }
+
+-- src/changed.rt:83:13
+pub returns-then-not-is_below-clause-met : goal.returns-then-not-is_below-clause-met
+returns-then-not-is_below-clause-met g t c =
+    on_ok _ c.walk_into.result
+    (whole_meets (g.K.Keeps.keeps c.args.keeps.now) (g.K.Keeps.anew c.args.keeps.now) (g.D.Disk.bytes c.args.disk.now) c.args.source.now.cache.now c.args.source.now.sup.now c.args.source.now.map.now c.args.e.now c.in-Some.last
+    (g.K.Keeps.met c.args.keeps.now) (g.K.Keeps.met c.kept.new.self) (sym c.kept.ensures.value ∙ c.in-Some.is) (search rules) c.kept.ensures.same_met)
+
+-- src/changed.rt:87:13
+pub returns-then-e-eq0-clause-met : goal.returns-then-e-eq0-clause-met
+returns-then-e-eq0-clause-met g t c =
+    leaf_meets (g.K.Keeps.keeps c.args.keeps.now) (g.K.Keeps.anew c.args.keeps.now) (g.D.Disk.bytes c.args.disk.now) c.args.source.now.cache.now c.args.source.now.sup.now c.args.source.now.map.now c.args.e.now c.in-Some.last
+    (g.K.Keeps.met c.args.keeps.now) (g.K.Keeps.met c.meet.new.self) (sym c.kept.ensures.value ∙ c.in-Some.is) (search rules) (omega arith)
+    (c.in_ok-meet.ensures.met ∙ ap (λ m. with_met m (c.args.e.now ∷ [])) c.kept.ensures.same_met)
+
+-- src/changed.rt:89:9
+pub loop-place-init : goal.loop-place-init
+unfolding skip_in walk_in
+loop-place-init g t c = record {
+  taken = search (rules, skip_steps);
+  counted = search (rules, skip_steps);
+  same = c.in_ok-meet.ensures.same ∙ c.kept.ensures.same;
+  same_anew = c.in_ok-meet.ensures.same_anew ∙ c.kept.ensures.same_anew;
+  met = node_met (g.K.Keeps.keeps c.args.keeps.now) (g.K.Keeps.anew c.args.keeps.now) (g.D.Disk.bytes c.args.disk.now) c.args.source.now.cache.now c.args.source.now.sup.now c.args.source.now.map.now c.args.e.now c.in-Some.last
+      (g.K.Keeps.met c.args.keeps.now) (g.K.Keeps.met c.meet.new.self) (sym c.kept.ensures.value ∙ c.in-Some.is) (search rules) c.if-e-eq0.false
+      (c.in_ok-meet.ensures.met ∙ ap (λ m. with_met m (c.args.e.now ∷ [])) c.kept.ensures.same_met);
+}
+
+-- src/changed.rt:89:9
+pub loop-place-preserved : goal.loop-place-preserved
+unfolding skip_in walk_in
+loop-place-preserved g t c = record {
+  taken = search (rules, skip_steps);
+  counted = search (rules, skip_steps);
+  same = c.in_ok-walk_keeping.ensures.same ∙ c.next-child.ensures.same ∙ c.loop-place.invariant.same;
+  same_anew = c.in_ok-walk_keeping.ensures.same_anew ∙ c.next-child.ensures.same_anew ∙ c.loop-place.invariant.same_anew;
+  met = met_step (g.K.Keeps.keeps c.args.keeps.now) (g.K.Keeps.anew c.args.keeps.now) (g.D.Disk.bytes c.args.disk.now) c.args.source.now.cache.now c.args.source.now.sup.now c.args.source.now.map.now c.args.e.now.level c.next-child.result
+      (drop c.loop-place.place (g.K.Keeps.anew c.args.keeps.now c.args.e.now)) (drop (c.loop-place.place + 1) (g.K.Keeps.anew c.args.keeps.now c.args.e.now))
+      (g.K.Keeps.met c.args.keeps.now) (g.K.Keeps.met c.loop-place.keeps) (g.K.Keeps.met c.next-child.new.self) (g.K.Keeps.met c.walk_keeping.new.keeps)
+      (met_in (g.K.Keeps.keeps c.args.keeps.now) (g.K.Keeps.anew c.args.keeps.now) c.args.source.now.sup.now c.args.source.now.map.now c.args.e.now)
+      (g.D.Disk.bytes c.loop-place.disk) (g.K.Keeps.keeps c.next-child.new.self) (g.K.Keeps.anew c.next-child.new.self)
+      (subst (λ of. drop c.loop-place.place (of c.args.e.now) ≡ c.next-child.result ∷ drop (c.loop-place.place + 1) (of c.args.e.now)) c.loop-place.invariant.same_anew c.next-child.ensures.next)
+      c.next-child.ensures.level c.loop-place.invariant.taken.kept.bytes
+      (c.next-child.ensures.same ∙ c.loop-place.invariant.same) (c.next-child.ensures.same_anew ∙ c.loop-place.invariant.same_anew) c.next-child.ensures.same_met
+      c.loop-place.invariant.met c.in_ok-walk_keeping.ensures.met;
+}
+
+-- src/changed.rt:93:9
+pub returns-in-Some-clause-met : goal.returns-in-Some-clause-met
+returns-in-Some-clause-met g t c =
+    met_all (g.K.Keeps.keeps c.args.keeps.now) (g.K.Keeps.anew c.args.keeps.now) (g.D.Disk.bytes c.args.disk.now) c.args.source.now.cache.now c.args.source.now.sup.now c.args.source.now.map.now c.args.e.now.level
+    (drop c.loop-place.place (g.K.Keeps.anew c.args.keeps.now c.args.e.now)) (g.K.Keeps.met c.args.keeps.now) (g.K.Keeps.met c.loop-place.keeps)
+    (met_in (g.K.Keeps.keeps c.args.keeps.now) (g.K.Keeps.anew c.args.keeps.now) c.args.source.now.sup.now c.args.source.now.map.now c.args.e.now)
+    (search (rules, skip_steps)) c.loop-place.invariant.met
+
+-- src/changed.rt:98:9
+pub returns-then-e-eq0-2-clause-met : goal.returns-then-e-eq0-2-clause-met
+returns-then-e-eq0-2-clause-met g t c =
+    leaf_read (g.K.Keeps.keeps c.args.keeps.now) (g.K.Keeps.anew c.args.keeps.now) (g.D.Disk.bytes c.args.disk.now) c.args.source.now.cache.now c.args.source.now.sup.now c.args.source.now.map.now c.args.e.now c.in_ok-block.block
+    (g.K.Keeps.met c.args.keeps.now) (g.K.Keeps.met c.kept.new.self) (sym c.kept.ensures.value ∙ c.in_default.is) (omega arith) c.in_ok-block.ensures.gives c.kept.ensures.same_met
+
+-- src/changed.rt:100:5
+pub loop-i-preserved : goal.loop-i-preserved
+unfolding skip_in walk_in
+loop-i-preserved g t c = record {
+  taken = search (rules, skip_steps);
+  counted = search (rules, skip_steps);
+  same = c.in_ok-walk_keeping-2.ensures.same ∙ c.loop-i.invariant.same;
+  same_anew = c.in_ok-walk_keeping-2.ensures.same_anew ∙ c.loop-i.invariant.same_anew;
+  met = met_step (g.K.Keeps.keeps c.args.keeps.now) (g.K.Keeps.anew c.args.keeps.now) (g.D.Disk.bytes c.args.disk.now) c.args.source.now.cache.now c.args.source.now.sup.now c.args.source.now.map.now c.args.e.now.level c.child_at-child.result
+      (children_of (c.args.e.now.level - 1) c.args.e.now (pointers_from c.in_ok-block.block c.loop-i.i))
+      (children_of (c.args.e.now.level - 1) c.args.e.now (pointers_from c.in_ok-block.block (c.loop-i.i + 1)))
+      (g.K.Keeps.met c.args.keeps.now) (g.K.Keeps.met c.loop-i.keeps) (g.K.Keeps.met c.loop-i.keeps) (g.K.Keeps.met c.walk_keeping-in-loop-i.new.keeps)
+      (met_in (g.K.Keeps.keeps c.args.keeps.now) (g.K.Keeps.anew c.args.keeps.now) c.args.source.now.sup.now c.args.source.now.map.now c.args.e.now)
+      (g.D.Disk.bytes c.loop-i.disk) (g.K.Keeps.keeps c.loop-i.keeps) (g.K.Keeps.anew c.loop-i.keeps)
+      c.child_at-child.ensures.next c.child_at-child.ensures.level c.loop-i.invariant.taken.kept.bytes
+      c.loop-i.invariant.same c.loop-i.invariant.same_anew refl
+      c.loop-i.invariant.met c.in_ok-walk_keeping-2.ensures.met;
+}
+
+-- src/changed.rt:54:1
+pub returns-clause-met : goal.returns-clause-met
+returns-clause-met g t c =
+    met_all (g.K.Keeps.keeps c.args.keeps.now) (g.K.Keeps.anew c.args.keeps.now) (g.D.Disk.bytes c.args.disk.now) c.args.source.now.cache.now c.args.source.now.sup.now c.args.source.now.map.now c.args.e.now.level
+    (children_of (c.args.e.now.level - 1) c.args.e.now (pointers_from c.in_ok-block.block c.loop-i.i)) (g.K.Keeps.met c.args.keeps.now) (g.K.Keeps.met c.loop-i.keeps)
+    (met_in (g.K.Keeps.keeps c.args.keeps.now) (g.K.Keeps.anew c.args.keeps.now) c.args.source.now.sup.now c.args.source.now.map.now c.args.e.now)
+    (search (rules, skip_steps)) c.loop-i.invariant.met

@@ -4,6 +4,8 @@ use Rattle.records.specs.Walk.{children_of, each}
 use Rattle.block_source.specs.Private.{pointers_from}
 use Rattle.block_source.proofs.Walking.{ReadSoFar, SoFar}
 use Rattle.tree_change.specs.KeepingWalk.{skip_in}
+use Rattle.tree_change.proofs.MetWalk.{MetSoFar, left_of}
+use Rattle.tree_change.specs.Meeting.{met_in}
 use Rattle.tree_change.specs.Skips.{nothing, skip_and, skip_below}
 use Rattle.tree_change.proofs.changed.+walk_keeping.Given as goal
 
@@ -23,6 +25,8 @@ invariant-loop-place g l =
       counted : ReadSoFar g.D.Disk l.source l.fn.disk l.disk rest (skip_in kept anew sup l.source.map.now l.e);
       same : g.K.Keeps.keeps l.keeps ≡ kept;
       same_anew : g.K.Keeps.anew l.keeps ≡ anew;
+      met : MetSoFar (g.D.Disk.bytes l.fn.disk) l.source.cache.now (g.K.Keeps.met l.fn.keeps) (g.K.Keeps.met l.keeps) (left_of kept anew (g.D.Disk.bytes l.fn.disk) l.source.cache.now sup l.source.map.now l.e.level (drop l.place (anew l.e)))
+          (met_in kept anew sup l.source.map.now l.e);
     }
 
 -- what is left of the children gives what the whole walk gives
@@ -38,4 +42,6 @@ invariant-loop-i g l =
       counted : ReadSoFar g.D.Disk l.source l.fn.disk l.disk rest (skip_in kept anew sup l.source.map.now l.e);
       same : g.K.Keeps.keeps l.keeps ≡ kept;
       same_anew : g.K.Keeps.anew l.keeps ≡ anew;
+      met : MetSoFar (g.D.Disk.bytes l.fn.disk) l.source.cache.now (g.K.Keeps.met l.fn.keeps) (g.K.Keeps.met l.keeps) (left_of kept anew (g.D.Disk.bytes l.fn.disk) l.source.cache.now sup l.source.map.now l.e.level (children_of (l.e.level - 1) l.e (pointers_from l.block l.i)))
+          (met_in kept anew sup l.source.map.now l.e);
     }

@@ -1,0 +1,84 @@
+//! Which blocks the walk of a tree as it was keeps: those that the walk of the tree as it is met.
+
+ghost use Rattle.std.specs.Prelude.{◌≡◌, ℕ, ◌+◌, ◌-◌, ◌∷◌, ◌<◌, length, drop, IfOk};
+ghost use Rattle.live_index.specs.Table.{pairs_of};
+ghost use Rattle.touched_pairs.specs.Marks.{marked_by};
+ghost use Rattle.tree_change.specs.Keeping.{anew_of, bound_of, is_same, start_of, starts_of};
+ghost use Rattle.tree_change.specs.OldSide.{is_stop};
+ghost use Rattle.tree_change.specs.Stopping.{kept_by_stops, listed_by_stops, none_met};
+ghost use Rattle.tree_change.specs.Under.{under_of};
+
+use crate::keeps::Keeps;
+use crate::known::{bound, expected, is_same};
+use crate::starts::Starts;
+use live_index::LiveIndex;
+use node_reader::Expect;
+use recon_disk::Steps;
+use std::alloc::Global;
+use touched_pairs::Marks;
+use verdict::{Key, NoMemory};
+
+/// What is known of a tree as it was, and where its walk stops: at the blocks that the walk of the tree as it is met. Each block that
+/// is asked for looks at most once into the table.
+#[derive(Drop)]
+pub struct OldTree<'a, 's, L> {
+    /// The id under which the stops are marked.
+    pub tree: u64,
+    /// The live pairs.
+    pub table: &'a LiveIndex<L>,
+    /// The stops.
+    pub stops: &'a Marks,
+    /// The children that are walked below kept blocks.
+    pub starts: &'a Starts,
+    /// The counter of looks into the table.
+    pub steps: &'s mut Steps<L>,
+}
+
+impl<'a, 's, L> Keeps for OldTree<'a, 's, L> {
+    ghost keeps = { kept_by_stops };
+
+    ghost anew = { listed_by_stops };
+
+    ghost met = { none_met };
+
+    #[tactic(auto, unfolding(crate::specs::Stopping::kept_among))]
+    fn kept(&mut self, e: &Expect) -> Option<Key> {
+        if !self.stops.has(self.tree, e.address) {
+            return None;
+        }
+        let live = self.table.get(e.tree, e.address, self.steps)?;
+        if is_same(e, &live) {
+            Some(bound(self.starts.of(e.tree, e.address), live.last))
+        } else {
+            None
+        }
+    }
+
+    #[tactic(auto, unfolding(crate::specs::Meeting::with_met))]
+    fn meet(&mut self, _e: &Expect) -> Result<(), NoMemory> {
+        Ok(())
+    }
+
+    #[tactic(auto, using(crate::proofs::Knowing::starts_length))]
+    fn count(&self, e: &Expect) -> usize {
+        self.starts.of(e.tree, e.address).len()
+    }
+
+    #[tactic(auto, using(crate::proofs::Knowing::starts_length, crate::proofs::Knowing::starts_more))]
+    fn next(&mut self, e: &Expect, i: usize) -> Expect {
+        let start = self.starts.of(e.tree, e.address)[i];
+        expected(e, &start)
+    }
+}
+
+/// Marks at the addresses of the blocks that a walk met, all under the id of its tree. They take their memory from this allocator.
+#[tactic(auto, using(crate::proofs::Stopping::stop_steps))]
+pub fn stops_of(alloc: Global, tree: u64, met: &[Expect]) -> Result<Marks, NoMemory>
+    ensures { IfOk result (λ stops. (address : ℕ) → marked_by stops tree address ≡ is_stop met.now address) }
+{
+    let mut stops = Marks::new(alloc);
+    for e in met {
+        stops.put(tree, e.address)?;
+    }
+    Ok(stops)
+}
