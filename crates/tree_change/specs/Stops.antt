@@ -1,4 +1,4 @@
--- The stops of a walk that keeps blocks: the kept blocks that it comes to.
+-- The stops of a walk that keeps blocks: the kept blocks that it meets.
 use Rattle.std.specs.Prelude.{ℕ, zero, suc, ◌-◌, ◌==◌, Bool, List, [], ◌∷◌, Option, Some, None}
 use Rattle.std.specs.List.{flat_map, list_any}
 use Rattle.verdict.specs.declared.key.Key.{Key}
