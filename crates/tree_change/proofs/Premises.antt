@@ -62,11 +62,17 @@ all_apart sorted [] apart = (tt, apart, tt)
 all_apart sorted (c ∷ chunks) apart =
     let more = all_apart (put_by_start c sorted) chunks apart in
     let here = put_apart c sorted more.1 in (
-      (here.0, each_map (λ d. AllByRecursion (LieApart d) (put_by_start c sorted)) (λ d. AllByRecursion (LieApart d) sorted) chunks
-      (λ d all. (put_each (LieApart d) c sorted all).1) more.0),
+      (
+        here.0,
+        each_map (λ d. AllByRecursion (LieApart d) (put_by_start c sorted)) (λ d. AllByRecursion (LieApart d) sorted) chunks
+            (λ d all. (put_each (LieApart d) c sorted all).1) more.0,
+      ),
       here.1,
-      (each_map (λ d. AllByRecursion (LieApart d) (put_by_start c sorted)) (LieApart c) chunks
-      (λ d all. flip d c (put_each (LieApart d) c sorted all).0) more.0, more.2),
+      (
+        each_map (λ d. AllByRecursion (LieApart d) (put_by_start c sorted)) (LieApart c) chunks
+            (λ d all. flip d c (put_each (LieApart d) c sorted all).0) more.0,
+        more.2,
+      ),
     )
 
 -- the chunks of an image lie apart
@@ -101,11 +107,11 @@ premises image pending old new before pairs marked moving under bytes has walks 
     let stand = tables_stand old.sup before old.seen walk.0 walk.1 in (
       marks_image image old before pairs test test marked bytes has pairs_are (λ tree address some is. is) touched,
       each_map (λ (tree : Tree). Stands table old.sup tree.0 tree.1
-      × AreMarked moving (moves_between old new (length image)) old.sup tree.0 tree.1) (MovesListed old new (length image) moving under) before
-      (λ tree h. record {
-        marks = h.1;
-        lists = lists pairs moving under old.sup tree.0 tree.1 (stands_as old.sup tree table pairs (pairs_are tree.1.tree) h.0) listed;
-      })
-      (each_both (λ (tree : Tree). Stands table old.sup tree.0 tree.1)
-      (λ tree. AreMarked moving (moves_between old new (length image)) old.sup tree.0 tree.1) before stand moves),
+          × AreMarked moving (moves_between old new (length image)) old.sup tree.0 tree.1) (MovesListed old new (length image) moving under) before
+          (λ tree h. record {
+            marks = h.1;
+            lists = lists pairs moving under old.sup tree.0 tree.1 (stands_as old.sup tree table pairs (pairs_are tree.1.tree) h.0) listed;
+          })
+          (each_both (λ (tree : Tree). Stands table old.sup tree.0 tree.1)
+          (λ tree. AreMarked moving (moves_between old new (length image)) old.sup tree.0 tree.1) before stand moves),
     )
