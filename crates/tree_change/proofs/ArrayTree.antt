@@ -37,7 +37,7 @@ get_last (b ∷ before) c = by (before ++ c ∷ []) (some before) (get_last befo
         let two : suc (suc (length rest)) - 1 ≡ suc (length rest) = omega arith in
         rw two (subst (λ i. slice_get (r ∷ rest) i ≡ Some c) one is)
 
-chain_of : (before chunks : List Chunk) (end : ℕ) → first_failing (rows_by_start before chunks end) ≡ None → Chain (last_before before) chunks
+pub chain_of : (before chunks : List Chunk) (end : ℕ) → first_failing (rows_by_start before chunks end) ≡ None → Chain (last_before before) chunks
 chain_of before [] end none = tt
 chain_of before (c ∷ cs) end none =
     let both = joined_none (rows_of_chunk before c end) (rows_by_start (before ++ c ∷ []) cs end) none in (
@@ -57,7 +57,7 @@ array_has chunks (c ∷ array) none =
     turned false is = absurd (cc)
 
 -- what holds of each chunk by start holds of each
-put_each : (P : Chunk → Type 0) (c : Chunk) (sorted : List Chunk) → AllByRecursion P (put_by_start c sorted) → P c × AllByRecursion P sorted
+pub put_each : (P : Chunk → Type 0) (c : Chunk) (sorted : List Chunk) → AllByRecursion P (put_by_start c sorted) → P c × AllByRecursion P sorted
 put_each P c [] all = (all.0, tt)
 put_each P c (d ∷ sorted) all = by (nat_le d.start c.start) all (put_each P c sorted)
   where
@@ -86,19 +86,20 @@ any_map test other (c ∷ chunks) f some = by (test c) (other c) (f c) some (any
     by false true f some rest = refl
     by false false f some rest = rest some
 
+-- each of these chunks begins above all addresses of those before
+pub above : (low : ℕ) (last : Chunk) (chunks : List Chunk) → Chain (Some last) chunks → low ≤ last.start + last.length
+    → AllByRecursion (λ c. low ≤ c.start) chunks
+above low last [] chain is = tt
+above low last (c ∷ cs) chain is =
+    let next : last.start + last.length ≤ c.start = no_less c.start (last.start + last.length) chain.0 in
+    (omega (arith, next, is), above low c cs chain.1 (omega (arith, next, is)))
+  where
+    no_less : (m k : ℕ) → nat_lt m k ≡ false → k ≤ m
+    no_less m k is = grind (arith, common_steps)
+
 module _ (a n : ℕ) (wide : 0 < n) where
   abbrev pub holds : Chunk → Bool
   holds c = holds_range c a n
-
-  above : (low : ℕ) (last : Chunk) (chunks : List Chunk) → Chain (Some last) chunks → low ≤ last.start + last.length
-      → AllByRecursion (λ c. low ≤ c.start) chunks
-  above low last [] chain is = tt
-  above low last (c ∷ cs) chain is =
-      let next : last.start + last.length ≤ c.start = no_less c.start (last.start + last.length) chain.0 in
-      (omega (arith, next, is), above low c cs chain.1 (omega (arith, next, is)))
-    where
-      no_less : (m k : ℕ) → nat_lt m k ≡ false → k ≤ m
-      no_less m k is = grind (arith, common_steps)
 
   -- at most one of them holds a range
   unique : (last : Option Chunk) (chunks : List Chunk) → Chain last chunks → AllByRecursion (λ c. holds c ≡ true → home chunks a n ≡ Some c) chunks

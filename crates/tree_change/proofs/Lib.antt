@@ -46,3 +46,4 @@ pub mod OldSupers
 pub mod MetWalk
 pub mod Stopping
 pub mod MeetingStops
+pub mod Premises

@@ -15,8 +15,9 @@ use Rattle.node_reader.specs.declared.expect.Pointer.{Pointer}
 use Rattle.records.specs.Walk.{child_of, children_of, high_of}
 use Rattle.records.specs.WalkLaw.{children_in, visited, visited_from}
 use Rattle.tree_change.specs.Keeping.{AreMarked, AreUntouched, IsKnown, Marks, OneOf, Under, anew_of, comes_to, kept_of, live_at, starts_at, starts_in, starts_of}
-use Rattle.tree_change.specs.MovedLaw.{MovedLaw, is_other_than, met_from, met_or, shifted_by}
+use Rattle.tree_change.specs.MovedLaw.{MovedLaw, is_other_than, shifted_by}
 use Rattle.tree_change.specs.Skips.{Kept}
+use Rattle.tree_change.specs.Stops.{stops_and, stops_below, stops_or}
 use Rattle.tree_change.specs.declared.starts.Start.{Start}
 use Rattle.tree_change.proofs.Accepted.{Accepts, IsAs, accepts}
 use Rattle.tree_change.proofs.Calming.{IsQuiet, bytes_same, calm}
@@ -74,7 +75,7 @@ module _ (pairs : Pairs) (marked : Marks) (moved : ℕ → Bool) (under : Under)
 
   -- a block, by whether it is kept
   shown_or : (e : Expect) (k : Option Key) (xs ys zs : List Expect) → K e ≡ k → (k ≡ None → all xs ≡ shown ys)
-      → ((last : Key) → k ≡ Some last → all xs ≡ shown zs) → all (e ∷ xs) ≡ shown (met_or k e ys zs)
+      → ((last : Key) → k ≡ Some last → all xs ≡ shown zs) → all (e ∷ xs) ≡ shown (stops_or e zs ys k)
   shown_or e None xs ys zs is new_one kept_one =
       ap (λ (k : Option Key). shown (if is_some k then e ∷ filter keeps xs else filter keeps xs)) is ∙ new_one refl
   shown_or e (Some last) xs ys zs is new_one kept_one =
@@ -91,7 +92,7 @@ module _ (pairs : Pairs) (marked : Marks) (moved : ℕ → Bool) (under : Under)
   blocks level = visited_from level sup new
 
   abbrev pub meets : ℕ → Expect → List Expect
-  meets level = met_from K (anew_of under) level sup new
+  meets level = stops_and K (anew_of under) (stops_below K (anew_of under) level sup new) sup new
 
   -- blocks of a tree on a level are shown by those that are met
   abbrev pub AreShown : ℕ → ℕ → Type 0
@@ -177,7 +178,7 @@ module _ (pairs : Pairs) (marked : Marks) (moved : ℕ → Bool) (under : Under)
       → all (flat_map (blocks level) (children_of level e (pointers_of bytes))) ≡ shown (flat_map (meets level) (anew_of under e))
 
   pub shown_at : (tree : ℕ) → Steps tree → (level : ℕ) → AreShown tree level
-  unfolding visited_from met_from trail_below
+  unfolding visited_from stops_below trail_below
   shown_at tree steps zero e at of_tree more = shown_or e (K e) [] [] [] refl (λ is. refl) (λ last is. refl)
   shown_at tree steps (suc level) e at of_tree more =
       let n = accepts A (trail_below (suc level) sup new) sup new e more in
@@ -185,11 +186,15 @@ module _ (pairs : Pairs) (marked : Marks) (moved : ℕ → Bool) (under : Under)
       rest_of A (trail_below (suc level) sup new) sup new e n more in
       let children = children_of level e (pointers_of n.bytes) in
       let block = block_is sup new e n in
-      subst (λ block. all (e ∷ flat_map (blocks level) (children_in level e block))
-      ≡ shown (met_or (K e) e (flat_map (meets level) (children_in level e block)) (flat_map (meets level) (anew_of under e)))) (sym block)
+      let next : e.level - 1 ≡ level = omega (arith, at) in
+      subst (λ n. all (e ∷ flat_map (blocks level) (children_in level e (block_in new sup.fsid e)))
+      ≡ shown (stops_or e (flat_map (meets level) (anew_of under e)) (flat_map (meets level) (children_in n e (block_in new sup.fsid e))) (K e)))
+      (sym next)
+      (subst (λ block. all (e ∷ flat_map (blocks level) (children_in level e block))
+      ≡ shown (stops_or e (flat_map (meets level) (anew_of under e)) (flat_map (meets level) (children_in level e block)) (K e))) (sym block)
       (shown_or e (K e) (flat_map (blocks level) children) (flat_map (meets level) children) (flat_map (meets level) (anew_of under e)) refl
       (λ is. shown_children tree level (shown_at tree steps level) e of_tree (pointers_of n.bytes) rest)
-      (λ last is. steps level (shown_at tree steps level) e at of_tree n.bytes n.is rest last is))
+      (λ last is. steps level (shown_at tree steps level) e at of_tree n.bytes n.is rest last is)))
 
   -- of a tree of which none is kept
   pub none_kept : (tree : ℕ) → ((e : Expect) → e.tree ≡ tree → K e ≡ None) → Steps tree

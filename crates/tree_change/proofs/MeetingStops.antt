@@ -15,7 +15,7 @@ use Rattle.records.specs.Walk.{Records, behind, block_and, each, entry_records, 
 use Rattle.records.specs.WalkLaw.{children_in, visited, visited_from}
 use Rattle.tree_change.specs.Meeting.{met_and, met_below, met_or}
 use Rattle.tree_change.specs.MeetingLaw.{MeetingLaw}
-use Rattle.tree_change.specs.OldSide.{stops_and, stops_below, stops_or}
+use Rattle.tree_change.specs.Stops.{stops_and, stops_below, stops_or}
 use Rattle.tree_change.specs.Skips.{Anew, Kept, is_below, next_of, nothing, own_of, skip_and, skip_below, skip_or, unkept}
 use Rattle.tree_change.specs.SkipLaw.{IsSound, anew_below}
 use Rattle.tree_change.proofs.Skipping.{children_level, own_or, pick, unkept_in, unkept_is}

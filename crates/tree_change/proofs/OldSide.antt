@@ -16,7 +16,8 @@ use Rattle.node_reader.specs.declared.expect.Pointer.{Pointer}
 use Rattle.records.specs.Walk.{child_of, children_of, high_of}
 use Rattle.records.specs.WalkLaw.{visited}
 use Rattle.tree_change.specs.Keeping.{AreMarked, AreUntouched, IsKnown, Marks, OneOf, Under, anew_of, comes_to, first_in, is_first, is_same, kept_of, live_at, starts_at}
-use Rattle.tree_change.specs.OldSide.{OldSideLaw, is_stop, kept_where, stops_of}
+use Rattle.tree_change.specs.OldSide.{OldSideLaw, kept_where}
+use Rattle.tree_change.specs.Stops.{is_stop, stops_of}
 use Rattle.tree_change.specs.Shared.{are_alike}
 use Rattle.tree_change.specs.Skips.{Kept, nothing}
 use Rattle.tree_change.proofs.Accepted.{IsAs, accepts}

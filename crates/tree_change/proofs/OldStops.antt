@@ -13,7 +13,7 @@ use Rattle.records.specs.Walk.{child_of, children_of, high_of}
 use Rattle.records.specs.WalkLaw.{children_in}
 use Rattle.tree_change.specs.declared.starts.Start.{Start}
 use Rattle.tree_change.specs.Keeping.{Marks, Under, anew_of, kept_of, live_at, starts_at, starts_in, starts_of}
-use Rattle.tree_change.specs.OldSide.{stops_and, stops_below, stops_or}
+use Rattle.tree_change.specs.Stops.{stops_and, stops_below, stops_or}
 use Rattle.tree_change.specs.Skips.{Kept}
 use Rattle.tree_change.proofs.Accepted.{Accepts, accepts, visit_of, walk_accepted}
 use Rattle.tree_change.proofs.Climbing.{of_tree as tree_is}

@@ -6,7 +6,7 @@ use Rattle.node_reader.specs.Stored.{Stored, block_in}
 use Rattle.node_reader.specs.declared.expect.Expect.{Expect}
 use Rattle.records.specs.WalkLaw.{children_in}
 use Rattle.tree_change.specs.Keeping.{last_in, live_at}
-use Rattle.tree_change.specs.OldSide.{stops_and, stops_below, stops_or}
+use Rattle.tree_change.specs.Stops.{stops_and, stops_below, stops_or}
 use Rattle.tree_change.specs.Skips.{Anew, Kept}
 use Rattle.tree_change.specs.SupersLaw.{SupersLaw}
 use Rattle.tree_change.proofs.Bounds.{and_parts}

@@ -14,7 +14,8 @@ use Rattle.records.specs.Seen.Seen.{BlockSeen}
 use Rattle.records.specs.Walk.{Records, behind, block_and, block_at, child_of, children_of, each, high_of, own_records, then_records, walk_of}
 use Rattle.tree_change.specs.declared.starts.Start.{Start}
 use Rattle.tree_change.specs.Keeping.{Marks, Under, anew_of, bound_of, is_same, last_in, live_at, starts_at, starts_in, starts_of}
-use Rattle.tree_change.specs.OldSide.{is_stop, kept_at, kept_where}
+use Rattle.tree_change.specs.OldSide.{kept_at, kept_where}
+use Rattle.tree_change.specs.Stops.{is_stop}
 use Rattle.tree_change.specs.Skips.{Kept, is_below, next_of, nothing, skip_and, skip_below, skip_or}
 use Rattle.tree_change.proofs.Accepted.{Accepts, accepts, keys_at, visit_of, walk_accepted}
 use Rattle.tree_change.proofs.Bounds.{and_parts, keys_below}

@@ -11,7 +11,8 @@ use Rattle.node_reader.specs.declared.expect.Expect.{Expect}
 use Rattle.records.specs.Walk.{Records, behind, block_and, each, own_records, then_records, walk_of}
 use Rattle.touched_pairs.specs.Marks.{Marked, with_mark}
 use Rattle.tree_change.specs.Keeping.{last_if_same}
-use Rattle.tree_change.specs.OldSide.{is_stop, kept_at}
+use Rattle.tree_change.specs.OldSide.{kept_at}
+use Rattle.tree_change.specs.Stops.{is_stop}
 use Rattle.tree_change.specs.Skips.{Anew, Kept, next_of, nothing, skip_and, skip_below, skip_or}
 use Rattle.tree_change.proofs.Keepings.{none_left}
 use Rattle.tree_change.specs.Stopping.{StopsLaw, kept_among}

@@ -61,7 +61,7 @@ steps_of image whole is =
     ok_walked a b is = cc
 
 -- a block of an image has bytes
-nodesize_some : (image : List ℕ) (sup : Super) → superblock_in image ≡ Ok sup → 0 < sup.nodesize
+pub nodesize_some : (image : List ℕ) (sup : Super) → superblock_in image ≡ Ok sup → 0 < sup.nodesize
 unfolding superblock_in superblock_of
 nodesize_some image sup is = by (nat_lt (length image) 69632) is
   where
@@ -78,7 +78,7 @@ nodesize_some image sup is = by (nat_lt (length image) 69632) is
         some sup.nodesize (subst (λ (s : Super). is_node_size s.nodesize ≡ true) (sym fine.1) (fields_readable bytes fine.0).nodesize)
 
 -- the rules on its chunk map keep
-map_kept : (sup : Super) (array chunks : List Chunk) (image : List ℕ) → chunk_map_in sup array image ≡ Ok chunks
+pub map_kept : (sup : Super) (array chunks : List Chunk) (image : List ℕ) → chunk_map_in sup array image ≡ Ok chunks
     → map_finding chunks array (length image) ≡ None
 unfolding chunk_map_in
 map_kept sup array chunks image is =

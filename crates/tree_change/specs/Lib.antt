@@ -15,6 +15,7 @@ pub mod Listing
 pub mod TableLaw
 pub mod SharedLaw
 pub mod NarrowLaw
+pub mod Stops
 pub mod OldSide
 pub mod Unshared
 pub mod SupersLaw

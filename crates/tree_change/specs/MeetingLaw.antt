@@ -5,7 +5,7 @@ use Rattle.super_reader.specs.declared.Super.{Super}
 use Rattle.node_reader.specs.Stored.{Stored}
 use Rattle.node_reader.specs.declared.expect.Expect.{Expect}
 use Rattle.tree_change.specs.Meeting.{met_of}
-use Rattle.tree_change.specs.OldSide.{stops_of}
+use Rattle.tree_change.specs.Stops.{stops_of}
 use Rattle.tree_change.specs.Skips.{Anew, Kept, nothing, skip_of}
 use Rattle.tree_change.specs.SkipLaw.{IsSound}
 

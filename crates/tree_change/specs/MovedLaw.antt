@@ -1,34 +1,18 @@
 -- The law of the kept blocks that a walk meets: they show all kept blocks whose node above or greatest key is another than it was.
-use Rattle.std.specs.Prelude.{ℕ, zero, suc, ◌≡◌, ◌==◌, ◌&&◌, not, is_some, Bool, false, List, [], ◌∷◌, map, Option, Some, None}
-use Rattle.std.specs.List.{filter, flat_map}
+use Rattle.std.specs.Prelude.{ℕ, ◌≡◌, ◌==◌, ◌&&◌, not, is_some, Bool, false, List, map, Option, Some, None}
+use Rattle.std.specs.List.{filter}
 use Rattle.std.specs.Result.{IsOk}
 use Rattle.verdict.specs.OnDisk.{key_same}
-use Rattle.verdict.specs.declared.key.Key.{Key}
 use Rattle.super_reader.specs.declared.Super.{Super}
 use Rattle.live_index.specs.Pairs.{Pairs}
 use Rattle.live_index.specs.declared.live.Live.{Live}
-use Rattle.node_reader.specs.Stored.{Stored, block_in}
+use Rattle.node_reader.specs.Stored.{Stored}
 use Rattle.node_reader.specs.declared.expect.Expect.{Expect}
 use Rattle.records.specs.Walk.{walk_of}
-use Rattle.records.specs.WalkLaw.{children_in, visited}
+use Rattle.records.specs.WalkLaw.{visited}
 use Rattle.tree_change.specs.Keeping.{AreListed, AreMarked, AreUntouched, Marks, Stands, Under, anew_of, kept_of, live_at}
-use Rattle.tree_change.specs.Skips.{Anew, Kept}
-
--- a kept block before those that are met of what is walked below it, or those that are met below a block that is not kept
-abbrev pub met_or : Option Key → Expect → List Expect → List Expect → List Expect
-met_or None e below anew = below
-met_or (Some last) e below anew = e ∷ anew
-
--- the kept blocks that the walk meets which keeps blocks, from a block on a level on, in its order
-unfoldable pub met_from : Kept → Anew → ℕ → Super → Stored → Expect → List Expect
-met_from kept anew zero sup stored e = met_or (kept e) e [] []
-met_from kept anew (suc level) sup stored e =
-    met_or (kept e) e
-    (flat_map (met_from kept anew level sup stored) (children_in level e (block_in stored sup.fsid e)))
-    (flat_map (met_from kept anew level sup stored) (anew e))
-
-abbrev pub met : Kept → Anew → Super → Stored → Expect → List Expect
-met kept anew sup stored e = met_from kept anew e.level sup stored e
+use Rattle.tree_change.specs.Skips.{Kept}
+use Rattle.tree_change.specs.Stops.{stops_of}
 
 -- whether the node above a pair or its greatest key is another than an entry has, where there is one
 abbrev pub is_other_than : Option Live → Live → Bool
@@ -50,4 +34,4 @@ MovedLaw = (pairs : Pairs) (marked moving : Marks) (touched moved : ℕ → Bool
     → Stands pairs sup old root → AreMarked marked touched sup old root → AreMarked moving moved sup old root → AreListed under moving sup old root
     → AreUntouched touched moved old new → now.tree ≡ root.tree → IsOk (walk_of sup new now)
     → shifted_by pairs sup new (kept_in (kept_of pairs marked moved under) sup new now)
-    ≡ shifted_by pairs sup new (met (kept_of pairs marked moved under) (anew_of under) sup new now)
+    ≡ shifted_by pairs sup new (stops_of (kept_of pairs marked moved under) (anew_of under) sup new now)

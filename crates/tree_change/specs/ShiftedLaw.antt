@@ -10,10 +10,11 @@ use Rattle.touched_pairs.specs.Touched.{written_in}
 use Rattle.tree_change.specs.Change.{shifted_in}
 use Rattle.tree_change.specs.Keeping.{AreListed, AreMarked, Marks, Under, anew_of, kept_of}
 use Rattle.tree_change.specs.LivePairs.{Walked, live_in, table_of}
-use Rattle.tree_change.specs.MovedLaw.{met, shifted_by}
+use Rattle.tree_change.specs.MovedLaw.{shifted_by}
 use Rattle.tree_change.specs.Shared.{are_read_alike}
 use Rattle.tree_change.specs.SharedLaw.{HasTrees, MarksTouched, moves_between}
 use Rattle.tree_change.specs.Skips.{Anew, Kept}
+use Rattle.tree_change.specs.Stops.{stops_of}
 use Rattle.tree_change.specs.TableLaw.{Tree}
 
 -- just those blocks of an old tree are marked which moved, or which are above one that did; and the marked children are listed
@@ -23,7 +24,7 @@ pub record MovesListed (old new : Walked) (end : ℕ) (moving : Marks) (under : 
 
 -- the shifted pairs of the kept blocks that the walk of a tree meets
 abbrev pub shifted_met : Kept → Anew → Pairs → Walked → Tree → List Live
-shifted_met kept anew pairs new tree = shifted_by pairs new.sup tree.0 (met kept anew new.sup tree.0 tree.1)
+shifted_met kept anew pairs new tree = shifted_by pairs new.sup tree.0 (stops_of kept anew new.sup tree.0 tree.1)
 
 -- Of an image with pending writes over it, the shared pairs that are shifted are those of the kept blocks that the walks of its trees
 -- meet, where each old tree is marked and its moved children are listed, and the table has the old pairs.

@@ -9,7 +9,8 @@ use Rattle.touched_pairs.specs.Marks.{marked_by}
 use Rattle.tree_change.specs.declared.old.OldTree.{OldTree}
 use Rattle.tree_change.specs.Keeping.{Under, anew_of, last_if_same}
 use Rattle.tree_change.specs.Meeting.{Met}
-use Rattle.tree_change.specs.OldSide.{is_stop, kept_at}
+use Rattle.tree_change.specs.OldSide.{kept_at}
+use Rattle.tree_change.specs.Stops.{is_stop}
 use Rattle.tree_change.specs.Skips.{Anew, Kept, nothing, skip_of}
 use Rattle.tree_change.specs.Under.{under_of}
 

@@ -5,7 +5,7 @@ use Rattle.node_reader.specs.Stored.{Stored}
 use Rattle.node_reader.specs.declared.expect.Expect.{Expect}
 use Rattle.records.specs.WalkLaw.{visited}
 use Rattle.tree_change.specs.Keeping.{live_at}
-use Rattle.tree_change.specs.OldSide.{stops_of}
+use Rattle.tree_change.specs.Stops.{stops_of}
 use Rattle.tree_change.specs.Shared.{are_read_alike}
 use Rattle.tree_change.specs.Skips.{Anew, Kept}
 

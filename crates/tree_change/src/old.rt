@@ -4,7 +4,7 @@ ghost use Rattle.std.specs.Prelude.{◌≡◌, ℕ, ◌+◌, ◌-◌, ◌∷◌,
 ghost use Rattle.live_index.specs.Table.{pairs_of};
 ghost use Rattle.touched_pairs.specs.Marks.{marked_by};
 ghost use Rattle.tree_change.specs.Keeping.{anew_of, bound_of, is_same, start_of, starts_of};
-ghost use Rattle.tree_change.specs.OldSide.{is_stop};
+ghost use Rattle.tree_change.specs.Stops.{is_stop};
 ghost use Rattle.tree_change.specs.Stopping.{kept_by_stops, listed_by_stops, none_met};
 ghost use Rattle.tree_change.specs.Under.{under_of};
 
