@@ -43,3 +43,5 @@ pub mod OldSide
 pub mod OldBlocks
 pub mod OldTells
 pub mod OldSupers
+pub mod Mixing
+pub mod Merged

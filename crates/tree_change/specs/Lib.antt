@@ -21,3 +21,4 @@ pub mod MovedLaw
 pub mod ShiftedLaw
 pub mod MarksLaw
 pub mod LastLaw
+pub mod MergedLaw

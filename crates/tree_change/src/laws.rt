@@ -6,6 +6,7 @@ ghost use Rattle.tree_change.specs.LastLaw.{LastLaw};
 ghost use Rattle.tree_change.specs.Listed.{ListingLaw};
 ghost use Rattle.tree_change.specs.Marking.{MarkingLaw};
 ghost use Rattle.tree_change.specs.MarksLaw.{MarksLaw, MovesLaw};
+ghost use Rattle.tree_change.specs.MergedLaw.{KeptWhereLaw, MergedLaw};
 ghost use Rattle.tree_change.specs.MovedLaw.{MovedLaw};
 ghost use Rattle.tree_change.specs.NarrowLaw.{NarrowLaw};
 ghost use Rattle.tree_change.specs.SharedLaw.{ChunkTreeLaw, KeptLaw, KeptTreeLaw, TreesLaw};
@@ -169,4 +170,15 @@ pub fn shifted_law()
 /// The same of the live pairs whose block stands elsewhere by a new list of chunks: a chunk of the image holds each.
 pub fn moves_law()
     ensures { MovesLaw }
+{}
+
+/// The items of a tree as it is are those that it had, without those of which the key stood in an old leaf that is not shared, and those
+/// that stand in a new leaf that is not: each once, in the order of their keys.
+pub fn merged_law()
+    ensures { MergedLaw }
+{}
+
+/// The blocks whose pairs pass a test are kept just where they pass it.
+pub fn kept_where_law()
+    ensures { KeptWhereLaw }
 {}
