@@ -45,3 +45,4 @@ pub mod OldTells
 pub mod OldSupers
 pub mod Mixing
 pub mod Merged
+pub mod KnownShared

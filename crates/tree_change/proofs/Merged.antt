@@ -70,12 +70,14 @@ read_of sup stored e own is = by (stored e.address) refl is
     by_entries bytes (Ok entries) at has is =
         record { bytes = bytes; is = at; entries = entries; has = has; own_is = ok_same own (BlockSeen (block_at e bytes) ∷ entries) (sym is) }
 
-    by_fault : (bytes : List ℕ) (fault : Option Finding) → stored e.address ≡ Ok bytes → and_then (finding_or fault bytes) (own_records sup e) ≡ Ok own → Read sup stored e own
+    by_fault : (bytes : List ℕ) (fault : Option Finding) → stored e.address ≡ Ok bytes
+        → and_then (finding_or fault bytes) (own_records sup e) ≡ Ok own → Read sup stored e own
     by_fault bytes (Some finding) at is = absurd (cc)
     by_fault bytes None at is = by_entries bytes (entry_records sup e bytes) at refl is
 
     by : (block : Result (List ℕ) CopyFault) → stored e.address ≡ block
-        → and_then (and_then (found_by e block) (λ bytes. finding_or (block_fault bytes sup.fsid e) bytes)) (own_records sup e) ≡ Ok own → Read sup stored e own
+        → and_then (and_then (found_by e block) (λ bytes. finding_or (block_fault bytes sup.fsid e) bytes)) (own_records sup e) ≡ Ok own
+        → Read sup stored e own
     by (Err fault) at is = absurd (cc)
     by (Ok bytes) at is = by_fault bytes (block_fault bytes sup.fsid e) at is
 
@@ -100,7 +102,8 @@ items_alike sup one other e v own more same stays is also =
     let a = read_of sup one e own is in
     let b = read_of sup other v more also in
     let bytes : a.bytes ≡ b.bytes = ok_bytes a.bytes b.bytes (sym a.is ∙ (sym stays ∙ b.is)) in
-    let entries : a.entries ≡ b.entries = ok_same a.entries b.entries (sym a.has ∙ (entries_alike sup e v same a.bytes ∙ (ap (entry_records sup v) bytes ∙ b.has))) in
+    let entries : a.entries ≡ b.entries =
+    ok_same a.entries b.entries (sym a.has ∙ (entries_alike sup e v same a.bytes ∙ (ap (entry_records sup v) bytes ∙ b.has))) in
     ap items a.own_is ∙ (ap items entries ∙ sym (ap items b.own_is))
 
 module _ (shared : Live → Bool) (sup : Super) where
@@ -122,7 +125,8 @@ module _ (shared : Live → Bool) (sup : Super) where
   split (Some last) false own left whole stay is m = absurd (cc)
 
   -- the items of a walk are those of shared blocks and those of the others
-  mixed_visits : (kept : Kept) (stored : Stored) (visits : List Visit) (es : List Expect) → Matches sup stored visits es → AllByRecursion (Just kept stored) es
+  mixed_visits : (kept : Kept) (stored : Stored) (visits : List Visit) (es : List Expect) → Matches sup stored visits es
+      → AllByRecursion (Just kept stored) es
       → Mixed (staying stored visits) (items (flat_map (pick kept nothing) visits)) (items (all_own visits))
   mixed_visits kept stored [] [] m all = Empty
   mixed_visits kept stored [] (e ∷ es) m all = elim m [ ]
@@ -140,12 +144,14 @@ module _ (shared : Live → Bool) (sup : Super) where
     passes : shared (live_at sup stored e) ≡ true
     has : Has x (items own)
 
-  stays_of : (stored : Stored) (tree : ℕ) (x : Located) (visits : List Visit) (es : List Expect) → Matches sup stored visits es → AllByRecursion (λ v. v.tree ≡ tree) es
+  stays_of : (stored : Stored) (tree : ℕ) (x : Located) (visits : List Visit) (es : List Expect) → Matches sup stored visits es
+      → AllByRecursion (λ v. v.tree ≡ tree) es
       → Has x (staying stored visits) → Stays stored tree x
   stays_of stored tree x [] es m of has = elim has [ ]
   stays_of stored tree x (v ∷ visits) [] m of has = elim m [ ]
   stays_of stored tree x (v ∷ visits) (e ∷ es) m of has =
-      by (has_append x (if shared (live_at sup stored v.e) then items v.own else []) (staying stored visits) has) (stays_of stored tree x visits es m.1 of.1)
+      by (has_append x (if shared (live_at sup stored v.e) then items v.own else []) (staying stored visits) has)
+      (stays_of stored tree x visits es m.1 of.1)
     where
       here : (b : Bool) → shared (live_at sup stored v.e) ≡ b → Has x (if b then items v.own else []) → Stays stored tree x
       here true is has = record {
@@ -158,14 +164,15 @@ module _ (shared : Live → Bool) (sup : Super) where
       }
       here false is has = elim has [ ]
 
-      by : Has x (if shared (live_at sup stored v.e) then items v.own else []) ⊎ Has x (staying stored visits) → (Has x (staying stored visits) → Stays stored tree x)
-          → Stays stored tree x
+      by : Has x (if shared (live_at sup stored v.e) then items v.own else []) ⊎ Has x (staying stored visits)
+          → (Has x (staying stored visits) → Stays stored tree x) → Stays stored tree x
       by (inl first) rest = here (shared (live_at sup stored v.e)) refl first
       by (inr later) rest = rest later
 
   -- an item stands in the block that is alike to a shared one
-  stays_in : (stored : Stored) (live : Live) (x : Located) → ((e : Expect) (own : List Seen) → own_of sup stored e ≡ Ok own → are_alike live (live_at sup stored e) ≡ true
-      → (shared (live_at sup stored e) ≡ true) × Has x (items own)) → (visits : List Visit) (es : List Expect) → Matches sup stored visits es
+  stays_in : (stored : Stored) (live : Live) (x : Located) → ((e : Expect) (own : List Seen) → own_of sup stored e ≡ Ok own
+      → are_alike live (live_at sup stored e) ≡ true → (shared (live_at sup stored e) ≡ true) × Has x (items own)) → (visits : List Visit) (es : List Expect)
+      → Matches sup stored visits es
       → OneOf (λ v. are_alike live (live_at sup stored v) ≡ true) es → Has x (staying stored visits)
   stays_in stored live x gives visits [] m one = elim one [ ]
   stays_in stored live x gives [] (e ∷ es) m one = elim m [ ]
@@ -174,7 +181,8 @@ module _ (shared : Live → Bool) (sup : Super) where
       has_first x (if shared (live_at sup stored v.e) then items v.own else []) (staying stored visits)
       (rw (m.0.0, h.0) h.1)
   stays_in stored live x gives (v ∷ visits) (e ∷ es) m (inr later) =
-      has_later x (if shared (live_at sup stored v.e) then items v.own else []) (staying stored visits) (stays_in stored live x gives visits es m.1 later)
+      has_later x (if shared (live_at sup stored v.e) then items v.own else []) (staying stored visits)
+      (stays_in stored live x gives visits es m.1 later)
 
   -- what stands in the shared blocks of one tree stands in those of the other
   carried : (one other : Stored) (tree : ℕ) (first later : List Visit) (es fs : List Expect) → Matches sup one first es → Matches sup other later fs
@@ -190,7 +198,8 @@ module _ (shared : Live → Bool) (sup : Super) where
       let same = has_same live (live_at sup other v) near in
       let block : IsAs s.e v = record { tree = same.tree; address = same.address; generation = same.generation; level = same.level } in
       let bytes : other v.address ≡ one s.e.address = ap other (sym same.address) ∙ stays live s.of s.passes in
-      (sym (alike live (live_at sup other v) near) ∙ s.passes, subst (Has x) (items_alike sup one other s.e v s.own own block bytes s.own_is is) s.has))
+      let same_items = items_alike sup one other s.e v s.own own block bytes s.own_is is in
+      (sym (alike live (live_at sup other v) near) ∙ s.passes, subst (Has x) same_items s.has))
       later fs n (there live s.of s.passes)
 
 -- a walk without a finding
@@ -200,23 +209,27 @@ record Walks (sup : Super) (stored : Stored) (root : Expect) (records : List See
   trail : trail_of sup stored root ≡ Ok visits
   all : all_own visits ≡ records
 
-walks_of : (sup : Super) (stored : Stored) (root : Expect) (records : List Seen) → walk_of sup stored root ≡ Ok records → Walks sup stored root records
+walks_of : (sup : Super) (stored : Stored) (root : Expect) (records : List Seen) → walk_of sup stored root ≡ Ok records
+    → Walks sup stored root records
 walks_of sup stored root records is = by (trail_of sup stored root) refl (tells sup stored root)
   where
-    by : (trail : Trail) → trail_of sup stored root ≡ trail → Tells sup stored trail (walk_of sup stored root) (visited sup stored root) → Walks sup stored root records
+    by : (trail : Trail) → trail_of sup stored root ≡ trail → Tells sup stored trail (walk_of sup stored root) (visited sup stored root)
+        → Walks sup stored root records
     by (Err finding) at t = let never : walk_of sup stored root ≡ Err finding = t.0 in absurd (cc)
     by (Ok visits) at t = record { visits = visits; matches = t.1; trail = at; all = ok_same (all_own visits) records (sym t.0 ∙ is) }
 
-left_is : (kept : Kept) (sup : Super) (stored : Stored) (root : Expect) (whole left : List Seen) (w : Walks sup stored root whole) → unkept kept nothing sup stored root ≡ Ok left
-    → flat_map (pick kept nothing) w.visits ≡ left
+left_is : (kept : Kept) (sup : Super) (stored : Stored) (root : Expect) (whole left : List Seen) (w : Walks sup stored root whole)
+    → unkept kept nothing sup stored root ≡ Ok left → flat_map (pick kept nothing) w.visits ≡ left
 left_is kept sup stored root whole left w is =
-    ok_same (flat_map (pick kept nothing) w.visits) left (sym (ap (unkept_in kept nothing) w.trail) ∙ (sym (unkept_is kept nothing sup stored root) ∙ is))
+    ok_same (flat_map (pick kept nothing) w.visits) left
+    (sym (ap (unkept_in kept nothing) w.trail) ∙ (sym (unkept_is kept nothing sup stored root) ∙ is))
 
 some_where : (b : Bool) → is_some (if b then Some no_key else None) ≡ b
 some_where true = refl
 some_where false = refl
 
-where_each : (shared : Live → Bool) (sup : Super) (stored : Stored) (es : List Expect) → AllByRecursion (λ v. is_some (kept_where shared sup stored v) ≡ shared (live_at sup stored v)) es
+where_each : (shared : Live → Bool) (sup : Super) (stored : Stored) (es : List Expect)
+    → AllByRecursion (λ v. is_some (kept_where shared sup stored v) ≡ shared (live_at sup stored v)) es
 where_each shared sup stored [] = tt
 where_each shared sup stored (e ∷ es) = (some_where (shared (live_at sup stored e)), where_each shared sup stored es)
 
@@ -228,7 +241,8 @@ merge : (stay was_stay gone come olds news : List Located) → Mixed was_stay go
     → ((x : Located) → Has x was_stay → Has x stay) → ((x : Located) → Has x stay → Has x was_stay)
     → IsPermutation (filter (λ item. not (has_key_of gone item)) olds ++ come) news
 merge stay was_stay gone come olds news old new before after into back =
-    let same : was_stay ≡ stay = one_order was_stay stay (mixed_order was_stay gone olds old before) (mixed_order stay come news new after) into back in
+    let same : was_stay ≡ stay =
+    one_order was_stay stay (mixed_order was_stay gone olds old before) (mixed_order stay come news new after) into back in
     subst (λ left. IsPermutation (left ++ come) news) (sym (filter_gone was_stay gone olds old before ∙ same)) (mixed_permutes stay come news new)
 
 pub merges : MergedLaw
@@ -238,21 +252,25 @@ merges shared kept sup old new before root olds news gone come of_tree both was 
     let es = visited sup old before in
     let fs = visited sup new root in
     let old_fine : IsOk (walk_of sup old before) = rw was refl in
-    let old_of : AllByRecursion (λ x. x.tree ≡ root.tree) es = subst (λ t. AllByRecursion (λ x. x.tree ≡ t) es) (sym of_tree) (of_root sup (old, before) old_fine).each in
+    let old_of : AllByRecursion (λ x. x.tree ≡ root.tree) es =
+    subst (λ t. AllByRecursion (λ x. x.tree ≡ t) es) (sym of_tree) (of_root sup (old, before) old_fine).each in
     let new_of : AllByRecursion (λ x. x.tree ≡ root.tree) fs = (of_root sup (new, root) just.fine).each in
     let old_order : InOrder (items olds) = order_of olds (walk_ascends sup old before olds was) in
     let new_order : InOrder (items news) = order_of news (walk_ascends sup new root news is) in
     let old_mixed : Mixed (staying shared sup old w.visits) (items gone) (items olds) =
     subst (λ all. Mixed (staying shared sup old w.visits) (items gone) (items all)) w.all
-    (subst (λ left. Mixed (staying shared sup old w.visits) (items left) (items (all_own w.visits))) (left_is (kept_where shared sup old) sup old before olds gone w gone_is)
+    (subst (λ left. Mixed (staying shared sup old w.visits) (items left) (items (all_own w.visits)))
+    (left_is (kept_where shared sup old) sup old before olds gone w gone_is)
     (mixed_visits shared sup (kept_where shared sup old) old w.visits es w.matches (where_each shared sup old es))) in
     let new_mixed : Mixed (staying shared sup new v.visits) (items come) (items news) =
     subst (λ all. Mixed (staying shared sup new v.visits) (items come) (items all)) v.all
     (subst (λ left. Mixed (staying shared sup new v.visits) (items left) (items (all_own v.visits))) (left_is kept sup new root news come v come_is)
     (mixed_visits shared sup kept new v.visits fs v.matches just.each)) in
     record {
-      all = merge (staying shared sup new v.visits) (staying shared sup old w.visits) (items gone) (items come) (items olds) (items news) old_mixed new_mixed old_order new_order
+      all = merge (staying shared sup new v.visits) (staying shared sup old w.visits) (items gone) (items come) (items olds) (items news)
+          old_mixed new_mixed old_order new_order
           (carried shared sup old new root.tree w.visits v.visits es fs w.matches v.matches old_of both.alike both.is both.stays)
-          (carried shared sup new old root.tree v.visits w.visits fs es v.matches w.matches new_of both.alike both.was (λ live of passes. sym (both.stays live of passes)));
+          (carried shared sup new old root.tree v.visits w.visits fs es v.matches w.matches new_of both.alike both.was
+          (λ live of passes. sym (both.stays live of passes)));
       ascends = pairs_of (items news) new_order;
     }

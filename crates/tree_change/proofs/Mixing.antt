@@ -89,9 +89,11 @@ mixed_apart _ _ _ (First a1 b1 w1 x m) all =
 mixed_apart _ _ _ (Later a1 b1 w1 x m) all =
     joined a1 (mixed_all (λ y. stands_before x y ≡ true) a1 b1 w1 m all.0).0 (mixed_apart a1 b1 w1 m all.1)
   where
-    joined : (ys : List Located) → Before x ys → AllByRecursion (λ y. has_key_of b1 y ≡ false) ys → AllByRecursion (λ y. has_key_of (x ∷ b1) y ≡ false) ys
+    joined : (ys : List Located) → Before x ys → AllByRecursion (λ y. has_key_of b1 y ≡ false) ys
+        → AllByRecursion (λ y. has_key_of (x ∷ b1) y ≡ false) ys
     joined [] above rest = tt
-    joined (y ∷ ys) above rest = (or_false (key_same x.key y.key) (has_key_of b1 y) (apart_first x.key y.key above.0) rest.0, joined ys above.1 rest.1)
+    joined (y ∷ ys) above rest =
+        (or_false (key_same x.key y.key) (has_key_of b1 y) (apart_first x.key y.key above.0) rest.0, joined ys above.1 rest.1)
 
 itself_all : (b : List Located) → AllByRecursion (λ x. has_key_of b x ≡ true) b
 itself_all [] = tt
@@ -150,7 +152,8 @@ never_both a b less more = never (key_below a a) (below_trans a b a less more) (
     never b is other = cc
 
 -- two lists in order that have the same items are the same
-pub one_order : (xs ys : List Located) → InOrder xs → InOrder ys → ((z : Located) → Has z xs → Has z ys) → ((z : Located) → Has z ys → Has z xs) → xs ≡ ys
+pub one_order : (xs ys : List Located) → InOrder xs → InOrder ys
+    → ((z : Located) → Has z xs → Has z ys) → ((z : Located) → Has z ys → Has z xs) → xs ≡ ys
 one_order [] [] a b into back = refl
 one_order [] (y ∷ ys) a b into back = elim (back y (inl refl)) [ ]
 one_order (x ∷ xs) [] a b into back = elim (into x (inl refl)) [ ]
@@ -167,5 +170,7 @@ one_order (x ∷ xs) (y ∷ ys) a b into back =
     by (inr has) (inr there) = elim (never_both y.key x.key (before_has y x ys b.0 has) (before_has x y xs a.0 there)) [ ]
 
     skip : (z w : Located) (ws : List Located) → key_below w.key z.key ≡ true → (w ≡ z) ⊎ Has z ws → Has z ws
-    skip z w ws less (inl here) = elim (never_both w.key z.key less (subst (λ v. key_below v.key w.key ≡ true) here (subst (λ v. key_below w.key v.key ≡ true) (sym here) less))) [ ]
+    skip z w ws less (inl here) =
+        let itself : key_below w.key w.key ≡ true = subst (λ v. key_below w.key v.key ≡ true) (sym here) less in
+        elim (never_both w.key z.key less (subst (λ v. key_below v.key w.key ≡ true) here itself)) [ ]
     skip z w ws less (inr has) = has

@@ -1,9 +1,10 @@
 -- The items of a tree as it is: those that it had, without what is gone, and what came.
-use Rattle.std.specs.Prelude.{◌≡◌, Bool, true, not, is_some, List, ◌++◌, Ok}
+use Rattle.std.specs.Prelude.{ℕ, ◌≡◌, Bool, true, not, is_some, List, ◌++◌, Ok}
 use Rattle.std.specs.List.{filter, filter_map, list_any}
 use Rattle.std.specs.Result.{IsOk}
 use Rattle.verdict.specs.OnDisk.{key_below, key_same}
 use Rattle.super_reader.specs.declared.Super.{Super}
+use Rattle.live_index.specs.Pairs.{Pairs}
 use Rattle.live_index.specs.declared.live.Live.{Live}
 use Rattle.node_reader.specs.Stored.{Stored}
 use Rattle.node_reader.specs.declared.expect.Expect.{Expect}
@@ -12,8 +13,8 @@ use Rattle.records.specs.Seen.{Seen}
 use Rattle.records.specs.Walk.{walk_of}
 use Rattle.records.specs.WalkLaw.{visited}
 use Rattle.tree_change.specs.Change.{IsInOrder}
-use Rattle.tree_change.specs.Keeping.{Comes, OneOf, live_at}
-use Rattle.tree_change.specs.OldSide.{kept_where}
+use Rattle.tree_change.specs.Keeping.{AreMarked, AreUntouched, Comes, Marks, OneOf, Stands, Under, kept_of, live_at}
+use Rattle.tree_change.specs.OldSide.{TellsShared, kept_where}
 use Rattle.tree_change.specs.Shared.{are_alike}
 use Rattle.tree_change.specs.Skips.{Kept, nothing, unkept}
 use Rattle.tree_change.specs.Unshared.{item_seen}
@@ -40,8 +41,10 @@ AreMerged olds gone come news =
 -- that the old walk comes to, and to one that the new walk does, and the same is stored at its address.
 pub record AreShared (shared : Live → Bool) (sup : Super) (old new : Stored) (before root : Expect) : Type 0 where
   pub alike : (a b : Live) → are_alike a b ≡ true → shared a ≡ shared b
-  pub was : (live : Live) → live.tree ≡ root.tree → shared live ≡ true → OneOf (λ v. are_alike live (live_at sup old v) ≡ true) (visited sup old before)
-  pub is : (live : Live) → live.tree ≡ root.tree → shared live ≡ true → OneOf (λ v. are_alike live (live_at sup new v) ≡ true) (visited sup new root)
+  pub was : (live : Live) → live.tree ≡ root.tree → shared live ≡ true
+      → OneOf (λ v. are_alike live (live_at sup old v) ≡ true) (visited sup old before)
+  pub is : (live : Live) → live.tree ≡ root.tree → shared live ≡ true
+      → OneOf (λ v. are_alike live (live_at sup new v) ≡ true) (visited sup new root)
   pub stays : (live : Live) → live.tree ≡ root.tree → shared live ≡ true → new live.address ≡ old live.address
 
 -- Where a test tells which blocks are shared, the items of the whole new walk are merged of those of the whole old walk and of what the two
@@ -58,3 +61,12 @@ MergedLaw = (shared : Live → Bool) (kept : Kept) (sup : Super) (old new : Stor
 abbrev pub KeptWhereLaw : Type 0
 KeptWhereLaw = (shared : Live → Bool) (sup : Super) (stored : Stored) (root : Expect)
     → IsOk (walk_of sup stored root) → Comes (λ v. is_some (kept_where shared sup stored v) ≡ shared (live_at sup stored v)) sup stored root
+
+-- Where a table stands for a tree as it was, just those of its blocks are marked which are touched or above a touched one, the same is stored
+-- where no write touches a block and it did not move, and a test tells which blocks of the tree as it is are kept: it tells which blocks are
+-- shared.
+abbrev pub KnownSharedLaw : Type 0
+KnownSharedLaw = (pairs : Pairs) (marked : Marks) (touched moved : ℕ → Bool) (under : Under) (shared : Live → Bool)
+    (sup : Super) (old new : Stored) (before root : Expect)
+    → root.tree ≡ before.tree → Stands pairs sup old before → AreMarked marked touched sup old before → AreUntouched touched moved old new
+    → TellsShared shared (kept_of pairs marked moved under) sup new root → AreShared shared sup old new before root

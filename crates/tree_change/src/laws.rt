@@ -6,7 +6,7 @@ ghost use Rattle.tree_change.specs.LastLaw.{LastLaw};
 ghost use Rattle.tree_change.specs.Listed.{ListingLaw};
 ghost use Rattle.tree_change.specs.Marking.{MarkingLaw};
 ghost use Rattle.tree_change.specs.MarksLaw.{MarksLaw, MovesLaw};
-ghost use Rattle.tree_change.specs.MergedLaw.{KeptWhereLaw, MergedLaw};
+ghost use Rattle.tree_change.specs.MergedLaw.{KeptWhereLaw, KnownSharedLaw, MergedLaw};
 ghost use Rattle.tree_change.specs.MovedLaw.{MovedLaw};
 ghost use Rattle.tree_change.specs.NarrowLaw.{NarrowLaw};
 ghost use Rattle.tree_change.specs.SharedLaw.{ChunkTreeLaw, KeptLaw, KeptTreeLaw, TreesLaw};
@@ -181,4 +181,9 @@ pub fn merged_law()
 /// The blocks whose pairs pass a test are kept just where they pass it.
 pub fn kept_where_law()
     ensures { KeptWhereLaw }
+{}
+
+/// What is known of a tree as it was tells which blocks it shares with the tree as it is: the premises of the law of the old side do.
+pub fn known_shared_law()
+    ensures { KnownSharedLaw }
 {}
