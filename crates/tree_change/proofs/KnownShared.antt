@@ -51,7 +51,8 @@ alike_of : (a b : Live) → HasSame a b → are_alike a b ≡ true
 alike_of a b same = rw (same.tree, same.address, same.level, same.generation, same.first) (alike_itself b)
 
 module _ (pairs : Pairs) (marked : Marks) (touched moved : ℕ → Bool) (under : Under) (shared : Live → Bool) (sup : Super) (old new : Stored)
-    (before root : Expect) (of_tree : root.tree ≡ before.tree) (stands : Stands pairs sup old before) (marks : AreMarked marked touched sup old before)
+    (before root : Expect) (of_tree : root.tree ≡ before.tree) (stands : Stands pairs sup old before)
+    (marks : AreMarked marked touched sup old before)
     (alike : AreUntouched touched moved old new) (tells : TellsShared shared (kept_of pairs marked moved under) sup new root) where
   abbrev K : Expect → Option Key
   K = kept_of pairs marked moved under
@@ -115,10 +116,12 @@ module _ (pairs : Pairs) (marked : Marks) (touched moved : ℕ → Bool) (under 
       let tree : w.tree ≡ before.tree = sym near.tree ∙ (at ∙ of_tree) in
       let entry : pairs before.tree w.address ≡ Some k.live = subst (λ t. pairs t w.address ≡ Some k.live) tree k.known in
       let there : OneOf (IsKnown sup old before.tree w.address k.live) (visited sup old before) =
-      some_at (pairs before.tree w.address) k.live (λ l. OneOf (IsKnown sup old before.tree w.address l) (visited sup old before)) entry (stands.only w.address) in
+      some_at (pairs before.tree w.address) k.live (λ l. OneOf (IsKnown sup old before.tree w.address l) (visited sup old before))
+      entry (stands.only w.address) in
       let here : OneOf (IsKnown sup old w.tree w.address k.live) (visited sup old before) =
       subst (λ t. OneOf (IsKnown sup old t w.address k.live) (visited sup old before)) (sym tree) there in
-      one_map (λ v. marked v.tree v.address ≡ comes_to touched sup old v) (IsKnown sup old w.tree w.address k.live) (Was live) (visited sup old before)
+      one_map (λ v. marked v.tree v.address ≡ comes_to touched sup old v) (IsKnown sup old w.tree w.address k.live) (Was live)
+      (visited sup old before)
       marks.each (was_block live w near k) here
 
 pub knows_shared : KnownSharedLaw
@@ -138,5 +141,6 @@ knows_shared pairs marked touched moved under shared sup old new before root of_
     all_same [] = tt
     all_same (e ∷ es) = (refl, all_same es)
 
-    stays : (live : Live) → (v : Expect) × (v ≡ v) × (HasSame live (live_at sup old v) × (new v.address ≡ old v.address)) → new live.address ≡ old live.address
+    stays : (live : Live) → (v : Expect) × (v ≡ v) × (HasSame live (live_at sup old v) × (new v.address ≡ old v.address))
+        → new live.address ≡ old live.address
     stays live one = subst (λ a. new a ≡ old a) (sym one.2.0.address) one.2.1

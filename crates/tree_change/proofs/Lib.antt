@@ -46,3 +46,4 @@ pub mod OldSupers
 pub mod Mixing
 pub mod Merged
 pub mod KnownShared
+pub mod MergedLists

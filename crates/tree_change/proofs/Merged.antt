@@ -2,9 +2,10 @@
 use Rattle.std.proofs.Common.{◌≡◌, ℕ, ◌==◌, Bool, true, false, not, List, [], ◌∷◌, ◌++◌, ◌⊎◌, inl, inr, refl, ap, sym, subst, ◌∙◌, if◌then◌else◌}
 use Rattle.std.proofs.lemmas.List.Elements.{filter_map-append}
 use Rattle.std.specs.Prelude.{Option, Some, None, is_some, Result, Ok, Err}
-use Rattle.std.specs.List.{AllByRecursion, filter, flat_map}
+use Rattle.std.specs.List.{AllByRecursion, filter, filter_map, flat_map, list_any}
 use Rattle.std.specs.List.Sorted.{IsPermutation}
 use Rattle.std.specs.Result.{IsOk}
+use Rattle.verdict.specs.OnDisk.{key_same}
 use Rattle.verdict.specs.Rules.{and_then, finding_or, no_key}
 use Rattle.verdict.specs.declared.finding.Finding.{Finding}
 use Rattle.verdict.specs.declared.key.Key.{Key}
@@ -23,8 +24,9 @@ use Rattle.records.specs.Walk.{Records, behind, block_at, entry_records, leaf_re
 use Rattle.records.specs.WalkLaw.{visited}
 use Rattle.walk_laws.specs.WalkOrder.{AllAbove, Ascend, item_keys}
 use Rattle.walk_laws.proofs.Trees.{walk_ascends}
+use Rattle.tree_change.specs.Change.{IsInOrder}
 use Rattle.tree_change.specs.Keeping.{OneOf, live_at}
-use Rattle.tree_change.specs.MergedLaw.{KeptWhereLaw, MergedLaw, has_key_of, items}
+use Rattle.tree_change.specs.MergedLaw.{AreRead, KeptWhereLaw, MergedLaw, items, stands_before}
 use Rattle.tree_change.specs.OldSide.{kept_where}
 use Rattle.tree_change.specs.Shared.{are_alike}
 use Rattle.tree_change.specs.Skips.{Kept, nothing, own_of, unkept}
@@ -34,33 +36,33 @@ use Rattle.tree_change.proofs.Climbing.{copied}
 use Rattle.tree_change.proofs.Forest.{of_root}
 use Rattle.tree_change.proofs.Lives.{ok_same}
 use Rattle.tree_change.proofs.Mixing.Mixed.{Empty}
-use Rattle.tree_change.proofs.Mixing.{Before, Has, InOrder, Mixed, filter_gone, has_append, has_first, has_later, mixed_first, mixed_later, mixed_order, mixed_permutes, one_order, pairs_of}
+use Rattle.tree_change.proofs.Mixing.{Before, Has, InOrder, Mixed, TellsApart, by_key, filter_gone, has_append, has_first, has_later, mixed_first, mixed_later, mixed_map, mixed_order, mixed_permutes, one_order, pairs_of}
 use Rattle.tree_change.proofs.OldTells.{has_same}
 use Rattle.tree_change.proofs.Skipping.{own_or, pick, unkept_in, unkept_is}
 use Rattle.tree_change.proofs.Trails.{Matches, Tells, Trail, Visit, all_own, tells, trail_of}
 
 -- the items of a walk stand in the order of their keys
-before_of : (x : Located) (records : List Seen) → AllAbove x.key (item_keys records) → Before x (items records)
+before_of : (x : Located) (records : List Seen) → AllAbove x.key (item_keys records) → Before stands_before x (items records)
 before_of x [] all = tt
 before_of x (BlockSeen one ∷ more) all = before_of x more all
 before_of x (PointerSeen one ∷ more) all = before_of x more all
 before_of x (ItemSeen one ∷ more) all = (all.0, before_of x more all.1)
 
-order_of : (records : List Seen) → Ascend (item_keys records) → InOrder (items records)
+order_of : (records : List Seen) → Ascend (item_keys records) → InOrder stands_before (items records)
 order_of [] all = tt
 order_of (BlockSeen one ∷ more) all = order_of more all
 order_of (PointerSeen one ∷ more) all = order_of more all
 order_of (ItemSeen one ∷ more) all = (before_of one more all.0, order_of more all.1)
 
 -- the own records of a block, and the bytes that they are read from
-record Read (sup : Super) (stored : Stored) (e : Expect) (own : List Seen) : Type 0 where
-  bytes : List ℕ
-  is : stored e.address ≡ Ok bytes
-  entries : List Seen
-  has : entry_records sup e bytes ≡ Ok entries
-  own_is : own ≡ BlockSeen (block_at e bytes) ∷ entries
+pub record Read (sup : Super) (stored : Stored) (e : Expect) (own : List Seen) : Type 0 where
+  pub bytes : List ℕ
+  pub is : stored e.address ≡ Ok bytes
+  pub entries : List Seen
+  pub has : entry_records sup e bytes ≡ Ok entries
+  pub own_is : own ≡ BlockSeen (block_at e bytes) ∷ entries
 
-read_of : (sup : Super) (stored : Stored) (e : Expect) (own : List Seen) → own_of sup stored e ≡ Ok own → Read sup stored e own
+pub read_of : (sup : Super) (stored : Stored) (e : Expect) (own : List Seen) → own_of sup stored e ≡ Ok own → Read sup stored e own
 unfolding block_in own_records behind
 read_of sup stored e own is = by (stored e.address) refl is
   where
@@ -171,8 +173,8 @@ module _ (shared : Live → Bool) (sup : Super) where
 
   -- an item stands in the block that is alike to a shared one
   stays_in : (stored : Stored) (live : Live) (x : Located) → ((e : Expect) (own : List Seen) → own_of sup stored e ≡ Ok own
-      → are_alike live (live_at sup stored e) ≡ true → (shared (live_at sup stored e) ≡ true) × Has x (items own)) → (visits : List Visit) (es : List Expect)
-      → Matches sup stored visits es
+      → are_alike live (live_at sup stored e) ≡ true → (shared (live_at sup stored e) ≡ true) × Has x (items own))
+      → (visits : List Visit) (es : List Expect) → Matches sup stored visits es
       → OneOf (λ v. are_alike live (live_at sup stored v) ≡ true) es → Has x (staying stored visits)
   stays_in stored live x gives visits [] m one = elim one [ ]
   stays_in stored live x gives [] (e ∷ es) m one = elim m [ ]
@@ -203,13 +205,13 @@ module _ (shared : Live → Bool) (sup : Super) where
       later fs n (there live s.of s.passes)
 
 -- a walk without a finding
-record Walks (sup : Super) (stored : Stored) (root : Expect) (records : List Seen) : Type 0 where
-  visits : List Visit
-  matches : Matches sup stored visits (visited sup stored root)
-  trail : trail_of sup stored root ≡ Ok visits
-  all : all_own visits ≡ records
+pub record Walks (sup : Super) (stored : Stored) (root : Expect) (records : List Seen) : Type 0 where
+  pub visits : List Visit
+  pub matches : Matches sup stored visits (visited sup stored root)
+  pub trail : trail_of sup stored root ≡ Ok visits
+  pub all : all_own visits ≡ records
 
-walks_of : (sup : Super) (stored : Stored) (root : Expect) (records : List Seen) → walk_of sup stored root ≡ Ok records
+pub walks_of : (sup : Super) (stored : Stored) (root : Expect) (records : List Seen) → walk_of sup stored root ≡ Ok records
     → Walks sup stored root records
 walks_of sup stored root records is = by (trail_of sup stored root) refl (tells sup stored root)
   where
@@ -236,41 +238,75 @@ where_each shared sup stored (e ∷ es) = (some_where (shared (live_at sup store
 pub kept_where_just : KeptWhereLaw
 kept_where_just shared sup stored root fine = record { fine = fine; each = where_each shared sup stored (visited sup stored root) }
 
--- the items of two trees
-merge : (stay was_stay gone come olds news : List Located) → Mixed was_stay gone olds → Mixed stay come news → InOrder olds → InOrder news
-    → ((x : Located) → Has x was_stay → Has x stay) → ((x : Located) → Has x stay → Has x was_stay)
-    → IsPermutation (filter (λ item. not (has_key_of gone item)) olds ++ come) news
-merge stay was_stay gone come olds news old new before after into back =
-    let same : was_stay ≡ stay =
-    one_order was_stay stay (mixed_order was_stay gone olds old before) (mixed_order stay come news new after) into back in
-    subst (λ left. IsPermutation (left ++ come) news) (sym (filter_gone was_stay gone olds old before ∙ same)) (mixed_permutes stay come news new)
+-- the items of a tree as it was and as it is: those that stay, with what is gone and with what came
+pub record Merges (olds gone come news : List Located) : Type 0 where
+  pub stay : List Located
+  pub was : Mixed stay gone olds
+  pub is : Mixed stay come news
+  pub before : InOrder stands_before olds
+  pub after : InOrder stands_before news
 
-pub merges : MergedLaw
-merges shared kept sup old new before root olds news gone come of_tree both was is gone_is just come_is =
-    let w = walks_of sup old before olds was in
-    let v = walks_of sup new root news is in
+merge_same : (stay was_stay gone come olds news : List Located) → Mixed was_stay gone olds → Mixed stay come news
+    → InOrder stands_before olds → InOrder stands_before news
+    → ((x : Located) → Has x was_stay → Has x stay) → ((x : Located) → Has x stay → Has x was_stay) → Merges olds gone come news
+merge_same stay was_stay gone come olds news old new before after into back =
+    let was_order = mixed_order stands_before was_stay gone olds old before in
+    let same : was_stay ≡ stay = one_order was_stay stay was_order (mixed_order stands_before stay come news new after) into back in
+    record { stay = stay; was = subst (λ left. Mixed left gone olds) same old; is = new; before = before; after = after }
+
+pub merge_of : (shared : Live → Bool) (kept : Kept) (sup : Super) (old new : Stored) (before root : Expect) (olds news gone come : List Seen)
+    → AreRead shared kept sup old new before root olds news gone come → Merges (items olds) (items gone) (items come) (items news)
+merge_of shared kept sup old new before root olds news gone come read =
+    let both = read.both in
+    let w = walks_of sup old before olds read.was in
+    let v = walks_of sup new root news read.is in
     let es = visited sup old before in
     let fs = visited sup new root in
-    let old_fine : IsOk (walk_of sup old before) = rw was refl in
+    let old_fine : IsOk (walk_of sup old before) = rw read.was refl in
     let old_of : AllByRecursion (λ x. x.tree ≡ root.tree) es =
-    subst (λ t. AllByRecursion (λ x. x.tree ≡ t) es) (sym of_tree) (of_root sup (old, before) old_fine).each in
-    let new_of : AllByRecursion (λ x. x.tree ≡ root.tree) fs = (of_root sup (new, root) just.fine).each in
-    let old_order : InOrder (items olds) = order_of olds (walk_ascends sup old before olds was) in
-    let new_order : InOrder (items news) = order_of news (walk_ascends sup new root news is) in
-    let old_mixed : Mixed (staying shared sup old w.visits) (items gone) (items olds) =
-    subst (λ all. Mixed (staying shared sup old w.visits) (items gone) (items all)) w.all
-    (subst (λ left. Mixed (staying shared sup old w.visits) (items left) (items (all_own w.visits)))
-    (left_is (kept_where shared sup old) sup old before olds gone w gone_is)
+    subst (λ t. AllByRecursion (λ x. x.tree ≡ t) es) (sym read.tree) (of_root sup (old, before) old_fine).each in
+    let new_of : AllByRecursion (λ x. x.tree ≡ root.tree) fs = (of_root sup (new, root) read.keeps.fine).each in
+    let was_stay = staying shared sup old w.visits in
+    let stay = staying shared sup new v.visits in
+    let old_mixed : Mixed was_stay (items gone) (items olds) =
+    subst (λ all. Mixed was_stay (items gone) (items all)) w.all
+    (subst (λ left. Mixed was_stay (items left) (items (all_own w.visits))) (left_is (kept_where shared sup old) sup old before olds gone w read.goes)
     (mixed_visits shared sup (kept_where shared sup old) old w.visits es w.matches (where_each shared sup old es))) in
-    let new_mixed : Mixed (staying shared sup new v.visits) (items come) (items news) =
-    subst (λ all. Mixed (staying shared sup new v.visits) (items come) (items all)) v.all
-    (subst (λ left. Mixed (staying shared sup new v.visits) (items left) (items (all_own v.visits))) (left_is kept sup new root news come v come_is)
-    (mixed_visits shared sup kept new v.visits fs v.matches just.each)) in
+    let new_mixed : Mixed stay (items come) (items news) =
+    subst (λ all. Mixed stay (items come) (items all)) v.all
+    (subst (λ left. Mixed stay (items left) (items (all_own v.visits))) (left_is kept sup new root news come v read.comes)
+    (mixed_visits shared sup kept new v.visits fs v.matches read.keeps.each)) in
+    merge_same stay was_stay (items gone) (items come) (items olds) (items news) old_mixed new_mixed
+    (order_of olds (walk_ascends sup old before olds read.was)) (order_of news (walk_ascends sup new root news read.is))
+    (carried shared sup old new root.tree w.visits v.visits es fs w.matches v.matches old_of both.alike both.is both.stays)
+    (carried shared sup new old root.tree v.visits w.visits fs es v.matches w.matches new_of both.alike both.was
+    (λ live of passes. sym (both.stays live of passes)))
+
+-- what is made of each item, in the order that the items have
+pub merged_by : {Y : Type 0} (f : Located → Option Y) (later same : Y → Y → Bool) → TellsApart later same → (olds gone come news : List Located)
+    → (m : Merges olds gone come news) → InOrder later (filter_map f olds) → InOrder later (filter_map f news)
+    → IsInOrder later (filter (λ y. not (list_any (λ one. same one y) (filter_map f gone))) (filter_map f olds) ++ filter_map f come)
+    (filter_map f news)
+merged_by f later same apart olds gone come news m before after =
+    let stay = filter_map f m.stay in
+    let left = filter_gone later same apart stay (filter_map f gone) (filter_map f olds) (mixed_map f m.stay gone olds m.was) before in
     record {
-      all = merge (staying shared sup new v.visits) (staying shared sup old w.visits) (items gone) (items come) (items olds) (items news)
-          old_mixed new_mixed old_order new_order
-          (carried shared sup old new root.tree w.visits v.visits es fs w.matches v.matches old_of both.alike both.is both.stays)
-          (carried shared sup new old root.tree v.visits w.visits fs es v.matches w.matches new_of both.alike both.was
-          (λ live of passes. sym (both.stays live of passes)));
-      ascends = pairs_of (items news) new_order;
+      all = subst (λ some. IsPermutation (some ++ filter_map f come) (filter_map f news)) (sym left)
+          (mixed_permutes stay (filter_map f come) (filter_map f news) (mixed_map f m.stay come news m.is));
+      ascends = pairs_of later (filter_map f news) after;
     }
+
+pub merges : MergedLaw
+merges shared kept sup old new before root olds news gone come read =
+    let m = merge_of shared kept sup old new before root olds news gone come read in
+    let left = filter_gone stands_before same_place (by_key place) m.stay (items gone) (items olds) m.was m.before in
+    record {
+      all = subst (λ some. IsPermutation (some ++ items come) (items news)) (sym left) (mixed_permutes m.stay (items come) (items news) m.is);
+      ascends = pairs_of stands_before (items news) m.after;
+    }
+  where
+    place : Located → Key
+    place one = one.key
+
+    same_place : Located → Located → Bool
+    same_place a b = key_same a.key b.key
