@@ -47,3 +47,7 @@ pub mod MetWalk
 pub mod Stopping
 pub mod MeetingStops
 pub mod Premises
+pub mod Mixing
+pub mod Merged
+pub mod KnownShared
+pub mod MergedLists

@@ -32,7 +32,7 @@ pub record HasSame (a b : Live) : Type 0 where
   pub generation : a.generation ≡ b.generation
   pub first : a.first ≡ b.first
 
-has_same : (a b : Live) → are_alike a b ≡ true → HasSame a b
+pub has_same : (a b : Live) → are_alike a b ≡ true → HasSame a b
 has_same a b alike =
     let parts = and_parts (a.tree == b.tree && a.address == b.address) (a.level == b.level && (a.generation == b.generation && key_same a.first b.first)) alike in
     let place = and_parts (a.tree == b.tree) (a.address == b.address) parts.0 in

@@ -87,7 +87,7 @@ item_fits : (at : At) (key : Key) (bytes : List ℕ) (part : Part) → at.sort �
 unfolding item_record
 item_fits at key bytes part sort is = root_fits at key bytes part (ap (λ s. record_in s at key bytes) (sym sort) ∙ is)
 
-one_item : (item : LeafItem) (at : At) (part : Result Part Finding) (more : Records) (entries : List Seen) → then_records (just (and_then part (λ p. Ok (ItemSeen (record { tree = at.tree; block = at.block; key = item.key; part = p }))))) more ≡ Ok entries
+pub one_item : (item : LeafItem) (at : At) (part : Result Part Finding) (more : Records) (entries : List Seen) → then_records (just (and_then part (λ p. Ok (ItemSeen (record { tree = at.tree; block = at.block; key = item.key; part = p }))))) more ≡ Ok entries
     → (p : Part) × (others : List Seen) × (part ≡ Ok p) × (more ≡ Ok others) × (ItemSeen (record { tree = at.tree; block = at.block; key = item.key; part = p }) ∷ others ≡ entries)
 unfolding behind
 one_item item at (Err finding) more entries is = absurd (cc)

@@ -25,3 +25,4 @@ pub mod MarksLaw
 pub mod LastLaw
 pub mod Stopping
 pub mod MeetingLaw
+pub mod MergedLaw

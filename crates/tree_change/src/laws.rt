@@ -6,6 +6,7 @@ ghost use Rattle.tree_change.specs.LastLaw.{LastLaw};
 ghost use Rattle.tree_change.specs.Listed.{ListingLaw};
 ghost use Rattle.tree_change.specs.Marking.{MarkingLaw};
 ghost use Rattle.tree_change.specs.MarksLaw.{MarksLaw, MovesLaw};
+ghost use Rattle.tree_change.specs.MergedLaw.{ChunksMergedLaw, KeptWhereLaw, KnownSharedLaw, ListsSeenLaw, MapSeenLaw, MergedLaw, RootsMergedLaw, RootsSeenLaw};
 ghost use Rattle.tree_change.specs.MovedLaw.{MovedLaw};
 ghost use Rattle.tree_change.specs.MeetingLaw.{MeetingLaw};
 ghost use Rattle.tree_change.specs.NarrowLaw.{NarrowLaw};
@@ -181,4 +182,47 @@ pub fn shifted_law()
 /// The same of the live pairs whose block stands elsewhere by a new list of chunks: a chunk of the image holds each.
 pub fn moves_law()
     ensures { MovesLaw }
+{}
+
+/// The items of a tree as it is are those that it had, without those of which the key stood in an old leaf that is not shared, and those
+/// that stand in a new leaf that is not: each once, in the order of their keys.
+pub fn merged_law()
+    ensures { MergedLaw }
+{}
+
+/// The blocks whose pairs pass a test are kept just where they pass it.
+pub fn kept_where_law()
+    ensures { KeptWhereLaw }
+{}
+
+/// What is known of a tree as it was tells which blocks it shares with the tree as it is: the premises of the law of the old side do.
+pub fn known_shared_law()
+    ensures { KnownSharedLaw }
+{}
+
+/// What is held after records are taken, of chunks and of root items, is what stands among them.
+pub fn lists_seen_law()
+    ensures { ListsSeenLaw }
+{}
+
+/// The chunk map of an image is the chunks of its chunk tree, where the rules on the map keep.
+pub fn map_seen_law()
+    ensures { MapSeenLaw }
+{}
+
+/// The root items of an image are those of its root tree, where the rules on their list keep.
+pub fn roots_seen_law()
+    ensures { RootsSeenLaw }
+{}
+
+/// The chunks of the new chunk tree are the old ones, without those that begin where one is gone, and those that came, in the order of
+/// their first bytes.
+pub fn chunks_merged_law()
+    ensures { ChunksMergedLaw }
+{}
+
+/// The root items of the new root tree are the old ones, without those of which the key is gone, and those that came, in the order of
+/// their keys.
+pub fn roots_merged_law()
+    ensures { RootsMergedLaw }
 {}
