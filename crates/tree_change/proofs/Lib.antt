@@ -47,3 +47,4 @@ pub mod MetWalk
 pub mod Stopping
 pub mod MeetingStops
 pub mod Premises
+pub mod OldTrees
