@@ -8,8 +8,6 @@ mod known;
 mod laws;
 mod path;
 mod starts;
-#[cfg(test)]
-mod tests;
 
 pub use change::{Change, Diff};
 pub use changed::walk_changed;

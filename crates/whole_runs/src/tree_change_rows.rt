@@ -1,9 +1,9 @@
-use crate::{Path, PathStep, Start, Starts};
 use live_index::{Live, LiveIndex};
 use node_reader::Pointer;
 use recon_disk::Steps;
 use std::alloc::Global;
 use touched_pairs::Marks;
+use tree_change::{Path, PathStep, Start, Starts};
 use verdict::{Key, NoMemory};
 
 // The step at a block of this level, from which the way goes on at this child.
