@@ -10,6 +10,3 @@ mod send;
 
 pub use checker::{Checker, Started};
 pub use laws::order_law;
-
-#[cfg(test)]
-mod tests;

@@ -63,19 +63,3 @@ impl<W: Write + Drop> Sink for StdSink<W> {
         Err(Failed)
     }
 }
-
-#[cfg(test)]
-mod tests {
-    use super::*;
-    use std::test::Fail;
-
-    #[test]
-    fn a_writer_takes_each_piece(rt: HostRuntime) -> Result<(), Fail> {
-        let mut sink = StdSink::new(Vec::new(rt.alloc()));
-        assert!(rt; sink.write(b"one ").is_ok());
-        assert!(rt; sink.write(b"").is_ok());
-        assert!(rt; sink.write(b"two").is_ok());
-        assert_eq!(rt; sink.writer.as_slice(), b"one two".as_slice());
-        Ok(())
-    }
-}

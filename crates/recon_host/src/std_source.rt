@@ -63,22 +63,3 @@ impl<R: Read + Drop> Source for StdSource<R> {
         }
     }
 }
-
-#[cfg(test)]
-mod tests {
-    use super::*;
-
-    #[test]
-    fn a_reader_gives_its_bytes_and_then_none(rt: HostRuntime) {
-        let bytes = [1u8, 2, 3];
-        let mut source = StdSource::new(bytes.as_slice());
-        let mut first = [0u8; 2];
-        assert_eq!(rt; source.read(&mut first).ok(), Some(2));
-        assert_eq!(rt; first.as_slice(), [1u8, 2].as_slice());
-        let mut rest = [0u8; 4];
-        assert_eq!(rt; source.read(&mut rest).ok(), Some(1));
-        assert_eq!(rt; rest[0], 3);
-        assert_eq!(rt; source.read(&mut rest).ok(), Some(0));
-        assert_eq!(rt; source.read(&mut rest).ok(), Some(0));
-    }
-}

@@ -6,15 +6,11 @@ mod cursor;
 mod files;
 mod index;
 mod judge;
-#[cfg(test)]
-mod judge_tests;
 mod kept;
 mod meeting;
 mod places;
 mod reach;
 mod span;
-#[cfg(test)]
-mod tests;
 
 pub use kept::SpanIndex;
 pub use span::{Run, SortName, Span, SpanSort};

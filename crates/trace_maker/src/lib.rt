@@ -16,6 +16,3 @@ pub use fault::MakeFault;
 pub use make::make_trace;
 pub use operation::Operation;
 pub use workload::plan;
-
-#[cfg(test)]
-mod tests;

@@ -9,8 +9,6 @@ mod laws;
 mod old;
 mod path;
 mod starts;
-#[cfg(test)]
-mod tests;
 
 pub use change::{Change, Diff};
 pub use changed::walk_changed;

@@ -1,5 +1,6 @@
 //! Whole runs of the program's call, over disks, traces and sinks in memory: their lines, their statuses, and what
-//! stands on the device after them and after a failed call. The crate has tests alone, above the call that they run.
+//! stands on the device after them and after a failed call. Also the checking machine, made traces and the walk of a changed
+//! tree on worked rows. The crate has tests alone, above the calls that they run.
 #![tactic(auto)]
 
 #[cfg(test)]
@@ -17,6 +18,8 @@ mod make_tests;
 #[cfg(test)]
 mod order_tests;
 #[cfg(test)]
+mod recon_core_rows;
+#[cfg(test)]
 mod record;
 #[cfg(test)]
 mod replay_tests;
@@ -25,7 +28,11 @@ mod runs;
 #[cfg(test)]
 mod trace;
 #[cfg(test)]
+mod trace_maker_rows;
+#[cfg(test)]
 mod tree;
+#[cfg(test)]
+mod tree_change_rows;
 #[cfg(test)]
 mod tree_tests;
 #[cfg(test)]

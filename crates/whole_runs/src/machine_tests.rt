@@ -14,8 +14,8 @@ use std::alloc::Global;
 use std::test::Fail;
 use verdict::{Answer, Bytes, Event, Stop};
 
-// 4,096 sevens and the superblock with a label: a write that begins that far before the superblock place.
-fn early() -> [u8; 8192] {
+/// 4,096 sevens and the superblock with a label: a write that begins that far before the superblock place.
+pub fn early() -> [u8; 8192] {
     let mut superblock = base_superblock();
     put(&mut superblock, 0x12b, b"label");
     with_checksum(&mut superblock);
@@ -24,9 +24,9 @@ fn early() -> [u8; 8192] {
     bytes
 }
 
-// What the checker says to an event.
+/// What the checker says to an event.
 #[derive(Clone, Copy, Debug, PartialEq, Eq)]
-enum Said {
+pub enum Said {
     Held,
     Passed,
     Other,
@@ -50,7 +50,14 @@ fn event_of(alloc: Global, at: u64, bytes: &[u8]) -> Option<Event>
     })
 }
 
-fn take<D: Disk>(alloc: Global, checker: &mut Checker, disk: &mut D, at: u64, bytes: &[u8]) -> Said
+/// What the checker says to a write, or to a settle where there are no bytes.
+pub fn take<D: Disk>(
+    alloc: Global,
+    checker: &mut Checker,
+    disk: &mut D,
+    at: u64,
+    bytes: &[u8],
+) -> Said
     requires length { checker.old.length ≡ D.len disk.old }
     requires below { IsBelow checker.old.length checker.old.cache }
     ensures length { checker.new.length ≡ D.len disk.new }

@@ -1,8 +1,8 @@
 ghost use Rattle.std.specs.Prelude.{◌≡◌, ◌+◌, ◌&&◌, nat_le};
 
-use crate::{Run, Span, SpanIndex, SpanSort};
 use accounts::{Ctx, Home};
 use recon_disk::Steps;
+use span_index::{Run, Span, SpanIndex, SpanSort};
 use verdict::NoMemory;
 
 const LENGTH: u64 = 0x80_0000;

@@ -1,9 +1,9 @@
-use crate::{Keeps, OldTree, Path, PathStep, Start, Starts, stops_of};
 use live_index::{Live, LiveIndex};
 use node_reader::{Expect, Pointer};
 use recon_disk::Steps;
 use std::alloc::Global;
 use touched_pairs::Marks;
+use tree_change::{Keeps, OldTree, Path, PathStep, Start, Starts, stops_of};
 use verdict::{Key, NoMemory};
 
 // The step at a block of this level, from which the way goes on at this child.
@@ -136,9 +136,7 @@ fn expected(tree: u64, address: u64, generation: u64) -> Expect {
 }
 
 #[test]
-fn a_walk_of_the_tree_as_it_was_keeps_the_blocks_at_stops(
-    rt: HostRuntime,
-) -> Result<(), NoMemory> {
+fn a_walk_of_the_tree_as_it_was_keeps_the_blocks_at_stops(rt: HostRuntime) -> Result<(), NoMemory> {
     let mut steps = Steps::new(());
     let table = table(rt.alloc(), &mut steps)?;
     let starts = Starts::new(rt.alloc());

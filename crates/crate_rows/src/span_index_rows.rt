@@ -1,5 +1,5 @@
-use crate::{SortName, Span, SpanIndex, SpanSort};
 use recon_disk::Steps;
+use span_index::{SortName, Span, SpanIndex, SpanSort};
 use std::process::Abort;
 use verdict::NoMemory;
 

@@ -1,12 +1,15 @@
-ghost use Rattle.std.specs.Prelude.{◌≡◌, ◌+◌, ◌≤◌, IfOk, OnOk, length};
+ghost use Rattle.std.specs.Prelude.{◌≡◌, ◌+◌, ◌≤◌, length};
+ghost use Rattle.std.specs.FinMap as map;
 ghost use Rattle.verdict.specs.Image.{written};
-ghost use Rattle.recon_core.specs.Standing.{IsBelow};
 
-use crate::send::let_through;
-use recon_disk::{Disk, Failed};
+use crate::bytes::{part, put};
+use crate::machine_tests::{Said, early, take};
+use image_maker::base_image;
+use recon_core::{Checker, Started};
+use recon_disk::{Disk, Failed, Steps};
 use std::alloc::Global;
-use verdict::{Bytes, HeldWrite, NoMemory};
-use write_cache::WriteCache;
+use std::test::Fail;
+use verdict::{Bytes, HeldWrite};
 
 // A disk in memory that keeps the calls that it answers with Ok: each write, and no write for a flush.
 #[derive(Drop)]
@@ -80,43 +83,35 @@ fn overwrite(bytes: &mut Vec<u8>, at: usize, from: &[u8])
     bytes[at..at + from.len()].copy_from_slice(from);
 }
 
-// A disk of zeros.
-fn disk_of_zeros(alloc: Global, len: usize) -> Result<Recorder, NoMemory>
-    ensures { IfOk result (λ disk. length disk.bytes.items ≡ len) }
+// What a checker in which nothing waits says to two short writes, to a long one and the byte behind it, and to one that
+// meets the superblock and ends where the long one begins.
+fn follow<D: Disk>(
+    alloc: Global,
+    checker: &mut Checker,
+    disk: &mut D,
+    long: &[u8],
+    behind: &[u8],
+) -> [Said; 5]
+    requires length { checker.old.length ≡ D.len disk.old }
+    requires empty { checker.old.cache ≡ map.empty }
 {
-    let Ok(bytes) = vec![in alloc; 0u8; len] else {
-        return Err(NoMemory);
-    };
-    Ok(Recorder {
-        alloc,
-        bytes,
-        calls: Vec::new(alloc),
-        reads: 0,
-        faults: 0,
-    })
+    let first = take(alloc, checker, disk, 33_554_431, &[5]);
+    let second = take(alloc, checker, disk, 69_632 + 1_048_576, behind);
+    let third = take(alloc, checker, disk, 69_632, long);
+    let fourth = take(alloc, checker, disk, 10, &[1, 2]);
+    let fifth = take(alloc, checker, disk, 65_530, &early()[4090..]);
+    [first, second, third, fourth, fifth]
 }
 
-// Bytes that wait below the end of a disk.
-fn put(cache: &mut WriteCache, end: u64, at: u64, bytes: &[u8]) -> Result<(), NoMemory>
-    requires below { IsBelow end cache.old }
-    requires inside { at + length bytes.now ≤ end }
-    ensures { OnOk result (IsBelow end cache.new) }
-{
-    cache.put(at, bytes)
-}
-
-// Sends what waits out to a disk of zeros: a run that spans the superblock place, and two short ones.
-fn sent_out(alloc: Global, end: u64, long: &[u8]) -> Result<Recorder, NoMemory>
-    requires room { 70000 + length long.now ≤ end }
-{
-    let mut disk = disk_of_zeros(alloc, end as usize)?;
-    let mut cache = WriteCache::new(alloc);
-    put(&mut cache, end, end - 1, &[5])?;
-    put(&mut cache, end, 65_530, long)?;
-    put(&mut cache, end, 10, &[1, 2])?;
-    match let_through(&mut disk, &cache) {
-        Ok(()) => Ok(disk),
-        Err(_) => Err(NoMemory),
+// Whether a checker that starts over the disk holds four of them and passes the commit of the fifth.
+fn passes<D: Disk>(alloc: Global, disk: &mut D, long: &[u8], behind: &[u8]) -> bool {
+    match Checker::start(alloc, disk, &mut Steps::new(0u8)) {
+        Ok(Started::Ready(checker)) => {
+            let mut checker = checker;
+            let said = follow(alloc, &mut checker, disk, long, behind);
+            said == [Said::Held, Said::Held, Said::Held, Said::Held, Said::Passed]
+        }
+        _ => false,
     }
 }
 
@@ -127,20 +122,31 @@ fn seen(call: &Option<HeldWrite>) -> Option<(u64, u8, usize)> {
     Some((write.at, *bytes.first()?, bytes.len()))
 }
 
+// A run that spans the superblock place, and two short ones. Of the long one all that lies in a chunk is as it was.
 #[test]
-fn a_commit_goes_out_in_rising_runs_and_the_place_last(rt: HostRuntime) -> Result<(), NoMemory> {
-    let Ok(long) = vec![in rt.alloc(); 4u8; 1_048_577 + 4102] else {
-        return Err(NoMemory);
+fn a_commit_goes_out_in_rising_runs_and_the_place_last(rt: HostRuntime) -> Result<(), Fail> {
+    let alloc = rt.alloc();
+    let base = base_image(alloc)?;
+    let image = base.as_slice();
+    let mut long = Vec::from_slice(alloc, part(image, 69_632, 1_048_576))?;
+    put(&mut long, 0, &[4]);
+    let behind = part(image, 69_632 + 1_048_576, 1);
+    let mut disk = Recorder {
+        alloc,
+        bytes: Vec::from_slice(alloc, image)?,
+        calls: Vec::new(alloc),
+        reads: 0,
+        faults: 0,
     };
-    let disk = sent_out(rt.alloc(), 1_200_000, long.as_slice())?;
+    assert!(rt; passes(alloc, &mut disk, &long, behind));
     let wanted = [
         Some((10, 1, 2)),
-        Some((65_530, 4, 6)),
+        Some((65_530, 7, 6)),
         Some((69_632, 4, 1_048_576)),
-        Some((69_632 + 1_048_576, 4, 1)),
-        Some((1_199_999, 5, 1)),
+        Some((69_632 + 1_048_576, 0, 1)),
+        Some((33_554_431, 5, 1)),
         None,
-        Some((65_536, 4, 4096)),
+        Some((65_536, early()[4096], 4096)),
         None,
     ];
     assert_eq!(rt; disk.calls.len(), wanted.len());

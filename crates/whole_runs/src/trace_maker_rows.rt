@@ -1,13 +1,65 @@
 //! The rows of the plan, and a trace of some commits. The plan of seed 7 comes from a program in another
 //! language.
 
-use crate::draw::draw;
-use crate::*;
 use recon_disk::{MemSink, MemSource};
-use std::alloc::Global;
+use std::alloc::{AllocError, Global};
 use std::test::Fail;
+use trace_maker::{MakeFault, Operation, make_trace, plan};
 use trace_reader::{Item, TraceReader};
 use verdict::{Event, HeldWrite, meets_superblock};
+
+// What the generator draws from a state, and the state behind it.
+fn draw(state: u64) -> (u64, u64) {
+    let next = state.wrapping_add(0x9e37_79b9_7f4a_7c15);
+    let first = (next ^ (next >> 30)).wrapping_mul(0xbf58_476d_1ce4_e5b9);
+    let second = (first ^ (first >> 27)).wrapping_mul(0x94d0_49bb_1331_11eb);
+    (second ^ (second >> 31), next)
+}
+
+// The entry of a list that a draw picks.
+fn picked(list: &[u64], drawn: u64) -> Option<u64> {
+    let place = drawn.checked_rem(list.len() as u64)?;
+    list.get(place as usize).copied()
+}
+
+// Whether operations are those that the draws from a seed choose: the first of each its sort, the second a directory,
+// and the third the sectors of its data.
+fn are_drawn(alloc: Global, seed: u64, ops: &[Operation]) -> Result<bool, AllocError> {
+    let mut state = seed;
+    let mut directories = vec![in alloc; 256u64]?;
+    for op in ops {
+        let (first, one) = draw(state);
+        let (second, two) = draw(one);
+        let (third, three) = draw(two);
+        let sort_drawn = first % 8;
+        let picks = |dir: u64| picked(&directories, second) == Some(dir);
+        let (is_drawn, next) = match *op {
+            Operation::Subvolume { .. } => (sort_drawn == 0, one),
+            Operation::Directory { .. } => (sort_drawn == 1, one),
+            // Also where there is no file to share or to remove.
+            Operation::File { dir, .. } => ([2, 6, 7].contains(&sort_drawn) && picks(dir), two),
+            Operation::Filled {
+                dir,
+                sectors,
+                sort,
+                ..
+            } => {
+                let sized = u64::from(sectors) == third % 8 + 1;
+                (sort_drawn == u64::from(sort) && picks(dir) && sized, three)
+            }
+            Operation::Shared { dir, .. } => (sort_drawn == 6 && picks(dir), three),
+            Operation::Removed { .. } => (sort_drawn == 7, two),
+        };
+        if !is_drawn {
+            return Ok(false);
+        }
+        if let Operation::Directory { ino } = *op {
+            directories.push(ino)?;
+        }
+        state = next;
+    }
+    Ok(true)
+}
 
 #[test]
 fn the_first_draws_are_those_of_the_generator(rt: HostRuntime) -> Result<(), Fail> {
@@ -21,6 +73,10 @@ fn the_first_draws_are_those_of_the_generator(rt: HostRuntime) -> Result<(), Fai
         let (drawn, next) = draw(state);
         assert_eq!(rt; drawn, want);
         state = next;
+    }
+    for seed in [0, 7, u64::MAX] {
+        let ops = plan(rt.alloc(), seed, 200)?;
+        assert!(rt; are_drawn(rt.alloc(), seed, &ops)?, "seed {seed}");
     }
     Ok(())
 }

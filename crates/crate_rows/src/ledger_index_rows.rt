@@ -1,0 +1,103 @@
+use accounts::{Account, Totals};
+use ledger_index::LedgerIndex;
+use recon_disk::Steps;
+use std::alloc::Global;
+use verdict::{Bytes, Key, NoMemory};
+
+// An account of directory entries whose hash is not that of its name, with a tail of this many bytes.
+fn entry(alloc: Global, length: usize) -> Result<Account, NoMemory> {
+    let Ok(tail) = Vec::from_elem(alloc, 97, length) else {
+        return Err(NoMemory);
+    };
+    Ok(Account {
+        kind: 11,
+        tree: 5,
+        block: 0,
+        key: Key {
+            objectid: 256,
+            kind: 84,
+            offset: 1,
+        },
+        detail: 257,
+        tail: Bytes::from(tail),
+    })
+}
+
+// An account of a block with numbers of 64 bits.
+fn wide(alloc: Global, block: u64) -> Account {
+    Account {
+        kind: 2,
+        tree: 5,
+        block,
+        key: Key {
+            objectid: u64::MAX,
+            kind: 178,
+            offset: u64::MAX,
+        },
+        detail: 0,
+        tail: Bytes::from(Vec::new(alloc)),
+    }
+}
+
+// The totals with these first two sums, and no other.
+fn two(first: u128, second: u128) -> Totals {
+    Totals {
+        f: [first, second, 0, 0, 0, 0, 0, 0, 0],
+    }
+}
+
+#[test]
+fn adds_and_takes(rt: HostRuntime) -> Result<(), NoMemory> {
+    let alloc = rt.alloc();
+    let mut steps = Steps::seeded((), [7; 16]);
+    let mut ledger = LedgerIndex::new(alloc);
+    let mut account = wide(alloc, 65536);
+    for _ in 0..2 {
+        assert!(rt; ledger.get(&account, &mut steps) == two(0, 0));
+        ledger.add(&account, 0, 0, &mut steps)?;
+        assert!(rt; ledger.get(&account, &mut steps) == two(0, 0));
+        ledger.add(&account, 1, 200, &mut steps)?;
+        ledger.add(&account, 1, 100, &mut steps)?;
+        ledger.add(&account, 9, 100, &mut steps)?;
+        ledger.take(&account, 9, 100, &mut steps);
+        assert!(rt; ledger.get(&account, &mut steps) == two(0, 300));
+        ledger.add(&account, 0, u64::MAX, &mut steps)?;
+        ledger.add(&account, 0, 2, &mut steps)?;
+        assert!(rt; ledger.get(&account, &mut steps) == two(18_446_744_073_709_551_617, 300));
+        ledger.take(&account, 0, 3, &mut steps);
+        ledger.take(&account, 1, 301, &mut steps);
+        assert!(rt; ledger.get(&account, &mut steps) == two(18_446_744_073_709_551_614, 0));
+        ledger.take(&account, 0, u64::MAX, &mut steps);
+        assert!(rt; ledger.get(&account, &mut steps) == two(0, 0));
+        account = entry(alloc, 30)?;
+    }
+    assert!(rt; steps.looks() == 32);
+    Ok(())
+}
+
+#[test]
+fn keeps_accounts_apart(rt: HostRuntime) -> Result<(), NoMemory> {
+    let alloc = rt.alloc();
+    let mut steps = Steps::new(());
+    let mut ledger = LedgerIndex::new(alloc);
+    let lengths = [0, 1, 12, 13, 30, 36, 37, 255];
+    for length in lengths {
+        ledger.add(&entry(alloc, length)?, 0, length as u64 + 1, &mut steps)?;
+        ledger.add(
+            &wide(alloc, length as u64),
+            1,
+            length as u64 + 2,
+            &mut steps,
+        )?;
+    }
+    for length in lengths {
+        let named = ledger.get(&entry(alloc, length)?, &mut steps);
+        assert!(rt; named == two(length as u128 + 1, 0));
+        let plain = ledger.get(&wide(alloc, length as u64), &mut steps);
+        assert!(rt; plain == two(0, length as u128 + 2));
+    }
+    let mut other = entry(alloc, 30)?;
+    other.key.offset = 2;
+    assert!(rt; ledger.get(&other, &mut steps) == two(0, 0));
+    Ok(())
+}
