@@ -51,3 +51,4 @@ pub mod Mixing
 pub mod Merged
 pub mod KnownShared
 pub mod MergedLists
+pub mod ArrayPlaces

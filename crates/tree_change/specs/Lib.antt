@@ -26,3 +26,4 @@ pub mod LastLaw
 pub mod Stopping
 pub mod MeetingLaw
 pub mod MergedLaw
+pub mod ArrayLaw

@@ -1,5 +1,6 @@
 //! Laws of the walk of a tree that keeps blocks. Each stands on a function that does nothing.
 
+ghost use Rattle.tree_change.specs.ArrayLaw.{ArrayKeptLaw, ArrayLaw};
 ghost use Rattle.tree_change.specs.ImageLaw.{ReadAlikeLaw, StoredAlikeLaw};
 ghost use Rattle.tree_change.specs.Keeping.{KeepingLaw};
 ghost use Rattle.tree_change.specs.LastLaw.{LastLaw};
@@ -225,4 +226,10 @@ pub fn chunks_merged_law()
 /// their keys.
 pub fn roots_merged_law()
     ensures { RootsMergedLaw }
+{}
+
+/// Each block of the chunk tree of an image is judged by the chunks of the system array as by all chunks: where it stands, whether it
+/// moved, whether writes touch it, and what its live pair is.
+pub fn array_law()
+    ensures { ArrayLaw }
 {}
