@@ -52,3 +52,4 @@ pub mod Merged
 pub mod KnownShared
 pub mod MergedLists
 pub mod ArrayPlaces
+pub mod ArrayKept

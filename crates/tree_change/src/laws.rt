@@ -233,3 +233,8 @@ pub fn roots_merged_law()
 pub fn array_law()
     ensures { ArrayLaw }
 {}
+
+/// What is kept of the new chunk tree by the chunks of the new system array is what is shared.
+pub fn array_kept_law()
+    ensures { ArrayKeptLaw }
+{}
