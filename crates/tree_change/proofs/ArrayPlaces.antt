@@ -122,3 +122,13 @@ as_by_all image whole array has =
         (λ v. live_at whole.sup stored v ≡ live_at whole.sup all v) (visited whole.sup stored root)
         (places_same image whole s)
         (lives_same whole.sup stored all root walk.0 walk.1 (chunk_tree image whole s.array has.walks s.arrays)))
+
+-- the live pairs by the array's chunks are those by all
+pub live_same : (image : List ℕ) (whole : Walked) (array : List Chunk) → HasArray image whole array
+    → EachByArray (λ v. live_at whole.sup (stored_in image array whole.sup.nodesize) v ≡ live_at whole.sup (stored_in image whole.chunks whole.sup.nodesize) v)
+    image whole array
+live_same image whole array has =
+    let n = whole.sup.nodesize in
+    each_map (IsAsByAll image whole array)
+    (λ v. live_at whole.sup (stored_in image array n) v ≡ live_at whole.sup (stored_in image whole.chunks n) v)
+    (visited whole.sup (stored_in image array n) (chunk_tree_root whole.sup)) (λ v h. h.live) (as_by_all image whole array has)

@@ -53,3 +53,4 @@ pub mod KnownShared
 pub mod MergedLists
 pub mod ArrayPlaces
 pub mod ArrayKept
+pub mod ArrayWalks

@@ -27,3 +27,4 @@ pub mod Stopping
 pub mod MeetingLaw
 pub mod MergedLaw
 pub mod ArrayLaw
+pub mod ArrayShifts

@@ -1,6 +1,7 @@
 //! Laws of the walk of a tree that keeps blocks. Each stands on a function that does nothing.
 
 ghost use Rattle.tree_change.specs.ArrayLaw.{ArrayKeptLaw, ArrayLaw};
+ghost use Rattle.tree_change.specs.ArrayShifts.{ArrayShiftedLaw, ArrayWalksLaw};
 ghost use Rattle.tree_change.specs.ImageLaw.{ReadAlikeLaw, StoredAlikeLaw};
 ghost use Rattle.tree_change.specs.Keeping.{KeepingLaw};
 ghost use Rattle.tree_change.specs.LastLaw.{LastLaw};
@@ -237,4 +238,15 @@ pub fn array_law()
 /// What is kept of the new chunk tree by the chunks of the new system array is what is shared.
 pub fn array_kept_law()
     ensures { ArrayKeptLaw }
+{}
+
+/// What the walks of the old and the new chunk tree give by the chunks of the new system array: the laws of one tree hold of them.
+pub fn array_walks_law()
+    ensures { ArrayWalksLaw }
+{}
+
+/// The shifted pairs of an image are those that the walk of its chunk tree meets, by the chunks of the new system array, and those that the
+/// walks of its other trees meet, by all chunks.
+pub fn array_shifted_law()
+    ensures { ArrayShiftedLaw }
 {}
