@@ -72,7 +72,7 @@ not_same : (kept : Kept) (sup : Super) (stored : Stored) (e : Expect) (last : Ke
 not_same kept sup stored e last [] first is same = elim first [ ]
 not_same kept sup stored e last (v ∷ visits) first is same =
     let gone : flat_map (pick kept nothing) (v ∷ visits) ≡ flat_map (pick kept nothing) visits =
-        ap (λ o. own_or o v.own [] ++ flat_map (pick kept nothing) visits) (ap kept first.0 ∙ is) in
+    ap (λ o. own_or o v.own [] ++ flat_map (pick kept nothing) visits) (ap kept first.0 ∙ is) in
     let lengths : length (flat_map (pick kept nothing) visits) ≡ length (v.own ++ all_own visits) = ap length (sym gone ∙ ap records_in same) in
     let both = length-append v.own (all_own visits) in
     let less = fewer kept visits in

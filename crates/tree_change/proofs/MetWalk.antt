@@ -84,7 +84,7 @@ module _ (kept : Kept) (anew : Anew) (told : Option (List ℕ)) (waiting : FinMa
       by (Some image) =
           let stored = stored_in (overlaid waiting 0 image) chunks sup.nodesize in
           let here = ap (met_or e (met_below kept anew e.level sup stored (anew e)) (met_below kept anew e.level sup stored (children_in (e.level - 1) e (block_in stored sup.fsid e)))) is
-              ∙ ap (λ b. if b then e ∷ met_below kept anew e.level sup stored (anew e) else []) below in
+          ∙ ap (λ b. if b then e ∷ met_below kept anew e.level sup stored (anew e) else []) below in
           same ∙ sym (no_more old) ∙ sym (ap (with_met old) here)
 
   -- a kept leaf is met
@@ -102,7 +102,7 @@ module _ (kept : Kept) (anew : Anew) (told : Option (List ℕ)) (waiting : FinMa
   -- a kept node is met before what is walked below it
   pub node_met : (e : Expect) (last : Key) (old now : Met) → kept e ≡ Some last → is_below last e.high ≡ true → (e.level ≡ 0 → ⊥) → now ≡ with_met old (e ∷ [])
       → MetSoFar told waiting old now (left_of e.level (anew e)) (met_in kept anew sup chunks e)
-  node_met e last old now is below node same = record { met = by told; }
+  node_met e last old now is below node same = record { met = by told }
     where
       by : (t : Option (List ℕ)) → IfSome t (λ image. with_met now (left_of e.level (anew e) (overlaid waiting 0 image)) ≡ with_met old (met_in kept anew sup chunks e (overlaid waiting 0 image)))
       by None = tt
@@ -128,7 +128,7 @@ module _ (kept : Kept) (anew : Anew) (told : Option (List ℕ)) (waiting : FinMa
   pub node_read : (e : Expect) (bytes : List ℕ) (old now : Met) → kept e ≡ None → (e.level ≡ 0 → ⊥)
       → IfSome told (λ image. block_in (stored_in (overlaid waiting 0 image) chunks sup.nodesize) sup.fsid e ≡ Ok bytes) → now ≡ old
       → MetSoFar told waiting old now (left_of e.level (children_of (e.level - 1) e (pointers_from bytes 0))) (met_in kept anew sup chunks e)
-  node_read e bytes old now is node read same = record { met = by told read; }
+  node_read e bytes old now is node read same = record { met = by told read }
     where
       by : (t : Option (List ℕ)) → IfSome t (λ image. block_in (stored_in (overlaid waiting 0 image) chunks sup.nodesize) sup.fsid e ≡ Ok bytes)
           → IfSome t (λ image. with_met now (left_of e.level (children_of (e.level - 1) e (pointers_from bytes 0)) (overlaid waiting 0 image)) ≡ with_met old (met_in kept anew sup chunks e (overlaid waiting 0 image)))
@@ -146,7 +146,7 @@ module _ (kept : Kept) (anew : Anew) (told : Option (List ℕ)) (waiting : FinMa
       → MetSoFar told waiting old before (left_of level next) whole → Meets told waiting before after (met_in kept anew sup chunks c)
       → MetSoFar told waiting old after (left_of level rest) whole
   unfolding met_in
-  met_then level c next rest old before after whole is at so here = record { met = by told so.met here; }
+  met_then level c next rest old before after whole is at so here = record { met = by told so.met here }
     where
       by : (t : Option (List ℕ)) → IfSome t (λ image. with_met before (left_of level next (overlaid waiting 0 image)) ≡ with_met old (whole (overlaid waiting 0 image)))
           → Meets t waiting before after (met_in kept anew sup chunks c)

@@ -35,12 +35,12 @@ same_tree : (tree : ℕ) → (tree == tree) ≡ true
 same_tree tree = grind (arith, nat_tests)
 
 pub stopped_none : (met : List Expect) (marks : ℕ → Bool) → ((a : ℕ) → marks a ≡ false) → AreStopped met 0 marks
-stopped_none met marks none = record { each = λ a. sym (ap (λ b. b || is_stop met a) (none a)); }
+stopped_none met marks none = record { each = λ a. sym (ap (λ b. b || is_stop met a) (none a)) }
 
 pub stopped_more : (met : List Expect) (i : ℕ) (d : Expect) (tree : ℕ) (before after : Marked) → i < length met
     → ((t a : ℕ) → after t a ≡ with_mark before tree (get_or met i d).address t a)
     → AreStopped met i (before tree) → AreStopped met (i + 1) (after tree)
-stopped_more met i d tree before after inside more so = record { each = by; }
+stopped_more met i d tree before after inside more so = record { each = by }
   where
     by : (a : ℕ) → is_stop met a ≡ (after tree a || is_stop (drop (i + 1) met) a)
     by a =

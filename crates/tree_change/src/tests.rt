@@ -136,9 +136,7 @@ fn expected(tree: u64, address: u64, generation: u64) -> Expect {
 }
 
 #[test]
-fn a_walk_of_the_tree_as_it_was_keeps_the_blocks_at_stops(
-    rt: HostRuntime,
-) -> Result<(), NoMemory> {
+fn a_walk_of_the_tree_as_it_was_keeps_the_blocks_at_stops(rt: HostRuntime) -> Result<(), NoMemory> {
     let mut steps = Steps::new(());
     let table = table(rt.alloc(), &mut steps)?;
     let starts = Starts::new(rt.alloc());
