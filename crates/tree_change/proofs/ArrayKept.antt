@@ -17,7 +17,7 @@ use Rattle.records.specs.Contents.{chunk_tree_root, named_root, root_tree_root}
 use Rattle.records.specs.WalkLaw.{visited}
 use Rattle.touched_pairs.specs.Moves.{is_moved}
 use Rattle.touched_pairs.specs.Touched.{written_in}
-use Rattle.tree_change.specs.ArrayLaw.{AreBoth, ArrayKeptLaw, EachByArray, HasArray, IsAsByAll, IsKeptByArray, chunk_tree_by, moves_by}
+use Rattle.tree_change.specs.ArrayLaw.{AreBoth, ArrayKeptLaw, EachByArray, IsAsByAll, IsKeptByArray, chunk_tree_by, moves_by}
 use Rattle.tree_change.specs.Keeping.{AreUntouched, Comes, Marks, Under, kept_of, last_if_same, live_at}
 use Rattle.tree_change.specs.LivePairs.{Walked, live_in, table_of}
 use Rattle.tree_change.specs.Shared.{is_shared}

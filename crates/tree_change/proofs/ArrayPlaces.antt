@@ -1,5 +1,5 @@
 -- The blocks of the chunk tree are judged by the chunks of the system array as by all chunks.
-use Rattle.std.proofs.Common.{◌≡◌, ℕ, List, [], ◌∷◌, ◌++◌, length, refl, ap, sym, subst, ◌∙◌}
+use Rattle.std.proofs.Common.{◌≡◌, ℕ, List, [], ◌∷◌, length, refl, ap, sym, subst, ◌∙◌}
 use Rattle.std.specs.Prelude.{Ok, map, not}
 use Rattle.std.specs.List.{AllByRecursion}
 use Rattle.verdict.specs.Chunks.{place}
@@ -9,7 +9,6 @@ use Rattle.verdict.specs.declared.place.Place.{Place}
 use Rattle.super_reader.specs.declared.Super.{Super}
 use Rattle.super_reader.specs.Superblock.{array_place}
 use Rattle.volume_items.specs.SystemArray.{array_chunks}
-use Rattle.volume_items.specs.declared.root.RootItem.{RootItem}
 use Rattle.live_index.specs.declared.live.Live.{Live}
 use Rattle.node_reader.specs.Stored.{Stored, stored_in}
 use Rattle.node_reader.specs.declared.expect.Expect.{Expect}
@@ -22,7 +21,6 @@ use Rattle.tree_change.specs.ArrayLaw.{ArrayLaw, EachByArray, HasArray, IsAsByAl
 use Rattle.tree_change.specs.Keeping.{live_at}
 use Rattle.tree_change.specs.LivePairs.{Walked}
 use Rattle.tree_change.specs.SharedLaw.{WalksAlike}
-use Rattle.tree_change.specs.TableLaw.{Tree}
 use Rattle.tree_change.proofs.Accepted.{accepts}
 use Rattle.tree_change.proofs.ArrayTree.{same_places}
 use Rattle.tree_change.proofs.Forest.{then_ok, walks}

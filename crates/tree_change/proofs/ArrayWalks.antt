@@ -9,23 +9,23 @@ use Rattle.verdict.specs.declared.place.Chunk.{Chunk}
 use Rattle.write_cache.specs.Cache.{overlaid}
 use Rattle.live_index.specs.Pairs.{Pairs}
 use Rattle.live_index.specs.declared.live.Live.{Live}
-use Rattle.node_reader.specs.Stored.{Stored, stored_in}
+use Rattle.node_reader.specs.Stored.{stored_in}
 use Rattle.node_reader.specs.declared.expect.Expect.{Expect}
 use Rattle.records.specs.Contents.{chunk_tree_root}
 use Rattle.records.specs.Walk.{Records}
 use Rattle.records.specs.WalkLaw.{visited}
 use Rattle.touched_pairs.specs.Touched.{written_in}
 use Rattle.tree_change.specs.ArrayLaw.{AreBoth, chunk_tree_by, moves_by}
-use Rattle.tree_change.specs.ArrayShifts.{ArrayShiftedLaw, ArrayWalksLaw, GivesOneTree, IsKnownByArray, IsOneTree, MovesListedBy, kept_by}
+use Rattle.tree_change.specs.ArrayShifts.{ArrayShiftedLaw, ArrayWalksLaw, IsKnownByArray, IsOneTree, MovesListedBy, kept_by}
 use Rattle.tree_change.specs.Keeping.{Marks, Stands, Under, anew_of, kept_of, live_at}
 use Rattle.tree_change.specs.LivePairs.{Walked, live_in, table_of}
 use Rattle.tree_change.specs.MovedLaw.{is_other_than, kept_in, shifted_by}
 use Rattle.tree_change.specs.Shared.{is_shared}
-use Rattle.tree_change.specs.SharedLaw.{HasTrees, KeepsShared, MarksTouched, WalksAlike, moves_between, touches_old}
+use Rattle.tree_change.specs.SharedLaw.{KeepsShared, MarksTouched, WalksAlike, moves_between, touches_old}
 use Rattle.tree_change.specs.ShiftedLaw.{MovesListed, shifted_met}
-use Rattle.tree_change.specs.TableLaw.{Tree, trees_in}
+use Rattle.tree_change.specs.TableLaw.{trees_in}
 use Rattle.tree_change.proofs.ArrayKept.{keeps_all, kept_by_array}
-use Rattle.tree_change.proofs.ArrayPlaces.{array_is, as_by_all, live_same}
+use Rattle.tree_change.proofs.ArrayPlaces.{array_is, live_same}
 use Rattle.tree_change.proofs.Forest.{stands_as, tables_stand}
 use Rattle.tree_change.proofs.KeptImage.{was}
 use Rattle.tree_change.proofs.KnownShared.{knows_shared}
@@ -34,7 +34,7 @@ use Rattle.tree_change.proofs.OldSide.{old_side}
 use Rattle.tree_change.proofs.Picking.{each_both, each_map}
 use Rattle.tree_change.proofs.ReadAlike.{listed_alike, marked_alike, stands_alike}
 use Rattle.tree_change.proofs.Shifting.{shifts}
-use Rattle.tree_change.proofs.Treed.{Steps, chunk_tree, has_trees, steps_of, trees_walk}
+use Rattle.tree_change.proofs.Treed.{chunk_tree, has_trees, steps_of, trees_walk}
 
 -- the table stands for the old chunk tree, by the new superblock
 chunk_stands : (image : List ℕ) (pending : FinMap nat_cmp ℕ) (old new : Walked) (array : List Chunk) (pairs : Pairs)

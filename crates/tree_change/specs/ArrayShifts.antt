@@ -6,8 +6,6 @@ use Rattle.std.specs.FinMap.{FinMap}
 use Rattle.verdict.specs.declared.place.Chunk.{Chunk}
 use Rattle.write_cache.specs.Cache.{overlaid}
 use Rattle.live_index.specs.Pairs.{Pairs}
-use Rattle.node_reader.specs.Stored.{Stored, stored_in}
-use Rattle.records.specs.Contents.{chunk_tree_root}
 use Rattle.touched_pairs.specs.Touched.{written_in}
 use Rattle.tree_change.specs.ArrayLaw.{AreBoth, chunk_tree_by, moves_by}
 use Rattle.tree_change.specs.Change.{shifted_in}
