@@ -54,3 +54,4 @@ pub mod MergedLists
 pub mod ArrayPlaces
 pub mod ArrayKept
 pub mod ArrayWalks
+pub mod ArrayMoves

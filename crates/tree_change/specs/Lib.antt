@@ -28,3 +28,4 @@ pub mod MeetingLaw
 pub mod MergedLaw
 pub mod ArrayLaw
 pub mod ArrayShifts
+pub mod ArrayMoves

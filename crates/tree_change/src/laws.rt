@@ -1,6 +1,7 @@
 //! Laws of the walk of a tree that keeps blocks. Each stands on a function that does nothing.
 
 ghost use Rattle.tree_change.specs.ArrayLaw.{ArrayKeptLaw, ArrayLaw};
+ghost use Rattle.tree_change.specs.ArrayMoves.{ArrayMovesLaw};
 ghost use Rattle.tree_change.specs.ArrayShifts.{ArrayShiftedLaw, ArrayWalksLaw};
 ghost use Rattle.tree_change.specs.ImageLaw.{ReadAlikeLaw, StoredAlikeLaw};
 ghost use Rattle.tree_change.specs.Keeping.{KeepingLaw};
@@ -249,4 +250,10 @@ pub fn array_walks_law()
 /// walks of its other trees meet, by all chunks.
 pub fn array_shifted_law()
     ensures { ArrayShiftedLaw }
+{}
+
+/// Blocks of the old chunk tree that are marked where they moved from the old system array to the new one are marked where they moved
+/// from all old chunks to it.
+pub fn array_moves_law()
+    ensures { ArrayMovesLaw }
 {}

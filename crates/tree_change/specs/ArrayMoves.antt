@@ -1,0 +1,24 @@
+-- The law of the marks on the old chunk tree, where the chunks of two system arrays are compared.
+use Rattle.std.specs.Prelude.{ℕ, ◌≡◌, ◌<◌, List, length}
+use Rattle.std.specs.List.{All}
+use Rattle.verdict.specs.declared.place.Chunk.{Chunk}
+use Rattle.live_index.specs.Pairs.{Pairs}
+use Rattle.node_reader.specs.Stored.{stored_in}
+use Rattle.records.specs.Contents.{chunk_tree_root}
+use Rattle.touched_pairs.specs.Marking.{AreMarkedFrom}
+use Rattle.touched_pairs.specs.Marks.{no_mark}
+use Rattle.touched_pairs.specs.Moves.{held_and_moved, is_moved}
+use Rattle.touched_pairs.specs.Spots.{at_address}
+use Rattle.tree_change.specs.ArrayLaw.{HasArray, moves_by}
+use Rattle.tree_change.specs.Keeping.{AreMarked, Marks}
+use Rattle.tree_change.specs.LivePairs.{Walked, live_in, table_of}
+
+-- Where a table has the live pairs of an image, and those are marked with all above them of which the block moved from the image's system array
+-- to a new one, just those blocks of its chunk tree are marked which moved by the new array, or which are above one that did.
+abbrev pub ArrayMovesLaw : Type 0
+ArrayMovesLaw = (image : List ℕ) (old : Walked) (old_array array : List Chunk) (pairs : Pairs) (moving : Marks)
+    → All (λ byte. byte < 256) image → HasArray image old old_array
+    → ((tree address : ℕ) → pairs tree address ≡ table_of (live_in old.seen) tree address)
+    → AreMarkedFrom pairs (at_address (held_and_moved old_array array old.sup.nodesize (length image)))
+    (at_address (is_moved old_array array old.sup.nodesize (length image))) no_mark moving
+    → AreMarked moving (moves_by old array (length image)) old.sup (stored_in image old.chunks old.sup.nodesize) (chunk_tree_root old.sup)
