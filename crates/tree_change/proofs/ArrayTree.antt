@@ -45,7 +45,7 @@ chain_of before (c ∷ cs) end none =
       subst (λ last. Chain last cs) (get_last before c) (chain_of (before ++ c ∷ []) cs end both.1),
     )
 
-array_has : (chunks array : List Chunk) → first_failing (array_rows chunks array) ≡ None
+pub array_has : (chunks array : List Chunk) → first_failing (array_rows chunks array) ≡ None
     → AllByRecursion (λ c. list_any (same_chunk c) chunks ≡ true) array
 array_has chunks [] none = tt
 array_has chunks (c ∷ array) none =

@@ -1,12 +1,13 @@
 -- What the walks of the old and the new chunk tree give, where the blocks are judged by the chunks of the new system array alone.
 use Rattle.std.proofs.Common.{◌≡◌, ℕ, Bool, true, false, List, [], ◌∷◌, ◌++◌, length, refl, ap, sym, subst, ◌∙◌, if◌then◌else◌}
-use Rattle.std.specs.Prelude.{is_some, map}
+use Rattle.std.specs.Prelude.{Ok, is_some, map}
 use Rattle.std.specs.List.{AllByRecursion, filter, flat_map}
 use Rattle.std.specs.Result.{IsOk}
 use Rattle.std.specs.Ordering.{nat_cmp}
 use Rattle.std.specs.FinMap.{FinMap}
 use Rattle.verdict.specs.declared.place.Chunk.{Chunk}
 use Rattle.write_cache.specs.Cache.{overlaid}
+use Rattle.super_reader.specs.declared.Super.{Super}
 use Rattle.live_index.specs.Pairs.{Pairs}
 use Rattle.live_index.specs.declared.live.Live.{Live}
 use Rattle.node_reader.specs.Stored.{stored_in}
@@ -16,38 +17,54 @@ use Rattle.records.specs.Walk.{Records}
 use Rattle.records.specs.WalkLaw.{visited}
 use Rattle.touched_pairs.specs.Touched.{written_in}
 use Rattle.tree_change.specs.ArrayLaw.{AreBoth, chunk_tree_by, moves_by}
-use Rattle.tree_change.specs.ArrayShifts.{ArrayShiftedLaw, ArrayWalksLaw, IsKnownByArray, IsOneTree, MovesListedBy, kept_by}
-use Rattle.tree_change.specs.Keeping.{Marks, Stands, Under, anew_of, kept_of, live_at}
-use Rattle.tree_change.specs.LivePairs.{Walked, live_in, table_of}
+use Rattle.tree_change.specs.ArrayShifts.{ArrayShiftedLaw, ArraySoundLaw, ArrayWalksLaw, IsKnownByArray, IsOneTree, MovesListedBy, kept_by}
+use Rattle.tree_change.specs.Keeping.{AreUntouched, Marks, Stands, Under, anew_of, kept_of, live_at}
+use Rattle.tree_change.specs.LivePairs.{Walked, live_in, table_of, walked}
 use Rattle.tree_change.specs.MovedLaw.{is_other_than, kept_in, shifted_by}
-use Rattle.tree_change.specs.Shared.{is_shared}
+use Rattle.tree_change.specs.Shared.{are_read_alike, is_shared}
 use Rattle.tree_change.specs.SharedLaw.{KeepsShared, MarksTouched, WalksAlike, moves_between, touches_old}
 use Rattle.tree_change.specs.ShiftedLaw.{MovesListed, shifted_met}
 use Rattle.tree_change.specs.TableLaw.{trees_in}
 use Rattle.tree_change.proofs.ArrayKept.{keeps_all, kept_by_array}
 use Rattle.tree_change.proofs.ArrayPlaces.{array_is, live_same}
 use Rattle.tree_change.proofs.Forest.{stands_as, tables_stand}
-use Rattle.tree_change.proofs.KeptImage.{was}
+use Rattle.tree_change.proofs.Images.{stored_alike}
+use Rattle.tree_change.proofs.KeptImage.{nodesize_same, was}
 use Rattle.tree_change.proofs.KnownShared.{knows_shared}
 use Rattle.tree_change.proofs.Meeting.{shows}
 use Rattle.tree_change.proofs.OldSide.{old_side}
 use Rattle.tree_change.proofs.Picking.{each_both, each_map}
 use Rattle.tree_change.proofs.ReadAlike.{listed_alike, marked_alike, stands_alike}
+use Rattle.tree_change.proofs.Sharing.{keeps}
 use Rattle.tree_change.proofs.Shifting.{shifts}
 use Rattle.tree_change.proofs.Treed.{chunk_tree, has_trees, steps_of, trees_walk}
 
--- the table stands for the old chunk tree, by the new superblock
-chunk_stands : (image : List ℕ) (pending : FinMap nat_cmp ℕ) (old new : Walked) (array : List Chunk) (pairs : Pairs)
-    → AreBoth image pending old new array
+-- the table stands for the old chunk tree, by another superblock by which blocks are read alike
+chunk_stands : (image : List ℕ) (old : Walked) (fresh : Super) (pairs : Pairs) → walked image ≡ Ok old → are_read_alike old.sup fresh ≡ true
     → ((address : ℕ) → pairs 3 address ≡ table_of (live_in old.seen) 3 address)
-    → Stands pairs new.sup (stored_in image old.chunks old.sup.nodesize) (chunk_tree_root old.sup)
-chunk_stands image pending old new array pairs both pairs_are =
-    let s = steps_of image old both.was in
+    → Stands pairs fresh (stored_in image old.chunks old.sup.nodesize) (chunk_tree_root old.sup)
+chunk_stands image old fresh pairs was alike pairs_are =
+    let s = steps_of image old was in
     let before = trees_in old.sup old.chunks old.chunks s.roots image in
-    let olds = trees_walk image old before (has_trees image old s both.was) in
+    let olds = trees_walk image old before (has_trees image old s was) in
     let tree = chunk_tree_by old.chunks old.sup image in
-    stands_alike old.sup new.sup both.alike pairs tree.0 tree.1
+    stands_alike old.sup fresh alike pairs tree.0 tree.1
     (stands_as old.sup tree (table_of (live_in old.seen)) pairs pairs_are (tables_stand old.sup before old.seen olds.0 olds.1).0)
+
+pub array_sound : ArraySoundLaw
+array_sound image pending old fresh array pairs marked moving under is alike known =
+    let was = chunk_tree_by old.chunks old.sup image in
+    let end = length image in
+    let touched = touches_old old (written_in pending) end in
+    let moved = moves_by old array end in
+    let judged = overlaid pending 0 image in
+    keeps pairs marked moving touched moved under fresh was.0 (stored_in judged array fresh.nodesize) was.1
+    (chunk_stands image old fresh pairs is alike known.pairs_are)
+    (marked_alike old.sup fresh alike marked touched was.0 was.1 known.marks)
+    (marked_alike old.sup fresh alike moving moved was.0 was.1 known.moves.marks)
+    (listed_alike old.sup fresh alike under moving was.0 was.1 known.moves.lists)
+    (subst (λ n. AreUntouched touched moved was.0 (stored_in judged array n)) (nodesize_same old.sup fresh alike)
+    (stored_alike image pending old.chunks array old.sup.nodesize))
 
 one_tree : (image : List ℕ) (pending : FinMap nat_cmp ℕ) (old new : Walked) (array : List Chunk) (pairs : Pairs) (marked moving : Marks)
     (under : Under)
@@ -59,7 +76,7 @@ one_tree image pending old new array pairs marked moving under both known =
     let end = length image in
     let kept = kept_by_array image pending old new array pairs marked under both known.pairs_are known.marks in
     record {
-      stands = chunk_stands image pending old new array pairs both known.pairs_are;
+      stands = chunk_stands image old new.sup pairs both.was both.alike known.pairs_are;
       marks = marked_alike old.sup new.sup both.alike marked (touches_old old (written_in pending) end) was.0 was.1 known.marks;
       moves = marked_alike old.sup new.sup both.alike moving (moves_by old array end) was.0 was.1 known.moves.marks;
       lists = listed_alike old.sup new.sup both.alike under moving was.0 was.1 known.moves.lists;
@@ -131,7 +148,7 @@ chunk_shifted image pending old new array pairs marked moving array_moving under
     pairs_are marks in
     let by_all : shifted_by pairs new.sup all.0 (kept_in K new.sup all.0 all.1) ≡ shifted_met K (anew_of under) pairs new all =
     shows pairs marked moving touched (moves_between old new end) under new.sup tree.0 all.0 tree.1 all.1
-    (chunk_stands image pending old new array pairs both pairs_are)
+    (chunk_stands image old new.sup pairs both.was both.alike pairs_are)
     (marked_alike old.sup new.sup both.alike marked touched tree.0 tree.1 marks)
     (marked_alike old.sup new.sup both.alike moving (moves_between old new end) tree.0 tree.1 moves.marks)
     (listed_alike old.sup new.sup both.alike under moving tree.0 tree.1 moves.lists)

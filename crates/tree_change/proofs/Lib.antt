@@ -55,3 +55,4 @@ pub mod ArrayPlaces
 pub mod ArrayKept
 pub mod ArrayWalks
 pub mod ArrayMoves
+pub mod ArrayApart

@@ -1,13 +1,13 @@
--- The law of the marks on the old chunk tree, where the chunks of two system arrays are compared.
-use Rattle.std.specs.Prelude.{ℕ, ◌≡◌, ◌<◌, List, length}
-use Rattle.std.specs.List.{All}
+-- The laws of the chunks of system arrays: the marks on the old chunk tree, where two arrays are compared; and how an array's chunks lie.
+use Rattle.std.specs.Prelude.{ℕ, ◌≡◌, ◌<◌, ◌⊎◌, true, List, length}
+use Rattle.std.specs.List.{All, AllByRecursion}
 use Rattle.verdict.specs.declared.place.Chunk.{Chunk}
 use Rattle.live_index.specs.Pairs.{Pairs}
 use Rattle.node_reader.specs.Stored.{stored_in}
 use Rattle.records.specs.Contents.{chunk_tree_root}
 use Rattle.touched_pairs.specs.Marking.{AreMarkedFrom}
 use Rattle.touched_pairs.specs.Marks.{no_mark}
-use Rattle.touched_pairs.specs.Moves.{held_and_moved, is_moved}
+use Rattle.touched_pairs.specs.Moves.{LieApart, held_and_moved, is_moved, same_chunk}
 use Rattle.touched_pairs.specs.Spots.{at_address}
 use Rattle.tree_change.specs.ArrayLaw.{HasArray, moves_by}
 use Rattle.tree_change.specs.Keeping.{AreMarked, Marks}
@@ -22,3 +22,12 @@ ArrayMovesLaw = (image : List ℕ) (old : Walked) (old_array array : List Chunk)
     → AreMarkedFrom pairs (at_address (held_and_moved old_array array old.sup.nodesize (length image)))
     (at_address (is_moved old_array array old.sup.nodesize (length image))) no_mark moving
     → AreMarked moving (moves_by old array (length image)) old.sup (stored_in image old.chunks old.sup.nodesize) (chunk_tree_root old.sup)
+
+-- two chunks have no logical address in common, or hold the same addresses at the same places
+abbrev pub LieApartOrSame : Chunk → Chunk → Type 0
+LieApartOrSame c d = LieApart c d ⊎ (same_chunk c d ≡ true)
+
+-- A system array may have a chunk twice. Where the walks of its image have no finding, any two of its chunks lie apart or are the same.
+abbrev pub ArrayApartLaw : Type 0
+ArrayApartLaw = (image : List ℕ) (whole : Walked) (array : List Chunk) → HasArray image whole array
+    → AllByRecursion (λ c. AllByRecursion (LieApartOrSame c) array) array

@@ -1,22 +1,25 @@
 -- What the walks of the old and the new chunk tree give, where the blocks are judged by the chunks of the new system array alone.
-use Rattle.std.specs.Prelude.{ℕ, ◌≡◌, List, ◌∷◌, ◌++◌, length}
+use Rattle.std.specs.Prelude.{ℕ, ◌≡◌, true, Ok, List, ◌∷◌, ◌++◌, length}
 use Rattle.std.specs.List.{AllByRecursion, flat_map}
 use Rattle.std.specs.Ordering.{nat_cmp}
 use Rattle.std.specs.FinMap.{FinMap}
 use Rattle.verdict.specs.declared.place.Chunk.{Chunk}
 use Rattle.write_cache.specs.Cache.{overlaid}
+use Rattle.super_reader.specs.declared.Super.{Super}
 use Rattle.live_index.specs.Pairs.{Pairs}
+use Rattle.node_reader.specs.Stored.{stored_in}
 use Rattle.touched_pairs.specs.Touched.{written_in}
 use Rattle.tree_change.specs.ArrayLaw.{AreBoth, chunk_tree_by, moves_by}
 use Rattle.tree_change.specs.Change.{shifted_in}
 use Rattle.tree_change.specs.Keeping.{AreListed, AreMarked, AreUntouched, Marks, Stands, Under, anew_of, kept_of}
-use Rattle.tree_change.specs.LivePairs.{Walked, live_in, table_of}
+use Rattle.tree_change.specs.LivePairs.{Walked, live_in, table_of, walked}
 use Rattle.tree_change.specs.MergedLaw.{AreShared}
 use Rattle.tree_change.specs.MovedLaw.{kept_in, shifted_by}
 use Rattle.tree_change.specs.OldSide.{TellsShared, kept_at, kept_where}
-use Rattle.tree_change.specs.Shared.{is_shared}
+use Rattle.tree_change.specs.Shared.{are_read_alike, is_shared}
 use Rattle.tree_change.specs.SharedLaw.{HasTrees, MarksTouched, moves_between, touches_old}
 use Rattle.tree_change.specs.ShiftedLaw.{MovesListed, shifted_met}
+use Rattle.tree_change.specs.SkipLaw.{IsSound}
 use Rattle.tree_change.specs.Skips.{Kept, nothing, skip_of, unkept}
 use Rattle.tree_change.specs.Stops.{stops_of}
 use Rattle.tree_change.specs.TableLaw.{Tree}
@@ -86,3 +89,11 @@ ArrayShiftedLaw = (image : List ℕ) (pending : FinMap nat_cmp ℕ) (old new : W
     ≡ shifted_met (kept_by old array (length image) pairs marked array_under) (anew_of array_under) pairs new
     (chunk_tree_by array new.sup (overlaid pending 0 image))
     ++ flat_map (shifted_met (kept_of pairs marked (moves_between old new (length image)) under) (anew_of under) pairs new) rest
+
+-- Blocks of the chunk tree are kept soundly by any chunks of a new system array, whatever is stored now: what is known is of the old image alone.
+abbrev pub ArraySoundLaw : Type 0
+ArraySoundLaw = (image : List ℕ) (pending : FinMap nat_cmp ℕ) (old : Walked) (fresh : Super) (array : List Chunk) (pairs : Pairs)
+    (marked moving : Marks) (under : Under)
+    → walked image ≡ Ok old → are_read_alike old.sup fresh ≡ true → IsKnownByArray image pending old array pairs marked moving under
+    → IsSound 3 (kept_by old array (length image) pairs marked under) nothing (anew_of under) fresh
+    (stored_in (overlaid pending 0 image) array fresh.nodesize)

@@ -1,8 +1,8 @@
 //! Laws of the walk of a tree that keeps blocks. Each stands on a function that does nothing.
 
 ghost use Rattle.tree_change.specs.ArrayLaw.{ArrayKeptLaw, ArrayLaw};
-ghost use Rattle.tree_change.specs.ArrayMoves.{ArrayMovesLaw};
-ghost use Rattle.tree_change.specs.ArrayShifts.{ArrayShiftedLaw, ArrayWalksLaw};
+ghost use Rattle.tree_change.specs.ArrayMoves.{ArrayApartLaw, ArrayMovesLaw};
+ghost use Rattle.tree_change.specs.ArrayShifts.{ArrayShiftedLaw, ArraySoundLaw, ArrayWalksLaw};
 ghost use Rattle.tree_change.specs.ImageLaw.{ReadAlikeLaw, StoredAlikeLaw};
 ghost use Rattle.tree_change.specs.Keeping.{KeepingLaw};
 ghost use Rattle.tree_change.specs.LastLaw.{LastLaw};
@@ -256,4 +256,14 @@ pub fn array_shifted_law()
 /// from all old chunks to it.
 pub fn array_moves_law()
     ensures { ArrayMovesLaw }
+{}
+
+/// Blocks of the chunk tree are kept soundly by any chunks of a new system array, whatever is stored now.
+pub fn array_sound_law()
+    ensures { ArraySoundLaw }
+{}
+
+/// Any two chunks of a system array lie apart or are the same: an array may have a chunk twice.
+pub fn array_apart_law()
+    ensures { ArrayApartLaw }
 {}
