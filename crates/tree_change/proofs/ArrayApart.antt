@@ -1,5 +1,5 @@
 -- Any two chunks of a system array lie apart or are the same.
-use Rattle.std.proofs.Common.{◌≡◌, ℕ, ◌+◌, ◌≤◌, ◌==◌, Bool, true, false, ◌&&◌, ◌||◌, ◌⊎◌, List, [], ◌∷◌, length, inl, inr, refl, ap, sym, subst, ◌∙◌, arith}
+use Rattle.std.proofs.Common.{◌≡◌, ℕ, ◌==◌, Bool, true, false, ◌&&◌, ◌||◌, List, [], ◌∷◌, length, inl, inr, refl, ap, sym, subst, ◌∙◌, arith}
 use Rattle.std.proofs.lemmas.Bool.{eqb-true}
 use Rattle.std.proofs.lemmas.Bool.Decides.{nat_tests}
 use Rattle.std.specs.Prelude.{Option, Some, None, nat_eq}
@@ -11,7 +11,6 @@ use Rattle.volume_items.specs.ChunkOrder.{by_start}
 use Rattle.volume_items.specs.MapRules.{array_rows, rows_by_start, same_chunk}
 use Rattle.touched_pairs.specs.Moves.{AreApart, LieApart, same_second}
 use Rattle.tree_change.specs.ArrayMoves.{ArrayApartLaw, LieApartOrSame}
-use Rattle.tree_change.specs.LivePairs.{Walked}
 use Rattle.tree_change.proofs.ArrayPlaces.{array_is}
 use Rattle.tree_change.proofs.ArrayTree.{array_has}
 use Rattle.tree_change.proofs.Picking.{each_map, one_of}

@@ -1,12 +1,10 @@
 -- The marks on the old chunk tree, where the chunks of two system arrays are compared.
-use Rattle.std.proofs.Common.{◌≡◌, ℕ, Bool, true, ◌&&◌, ◌||◌, List, [], ◌∷◌, length, inl, inr, refl, ap, sym, subst, ◌∙◌}
+use Rattle.std.proofs.Common.{◌≡◌, ℕ, Bool, true, ◌&&◌, List, [], ◌∷◌, length, inl, inr, refl, ap, sym, subst, ◌∙◌}
 use Rattle.std.specs.Prelude.{Option, Some, None, IfSome, Ok, is_some}
 use Rattle.std.specs.List.{AllByRecursion, list_any}
 use Rattle.std.specs.Result.{IsOk}
 use Rattle.verdict.specs.Chunks.{home}
-use Rattle.verdict.specs.declared.place.Chunk.{Chunk}
 use Rattle.super_reader.specs.declared.Super.{Super}
-use Rattle.live_index.specs.Pairs.{Pairs}
 use Rattle.live_index.specs.declared.live.Live.{Live}
 use Rattle.node_reader.specs.Stored.{Stored, stored_in}
 use Rattle.node_reader.specs.declared.expect.Expect.{Expect}
@@ -15,10 +13,10 @@ use Rattle.records.specs.Walk.{walk_of}
 use Rattle.records.specs.WalkLaw.{visited}
 use Rattle.touched_pairs.specs.Moves.{held_and_moved, is_moved}
 use Rattle.touched_pairs.specs.Spots.{at_address}
-use Rattle.tree_change.specs.ArrayLaw.{EachByArray, HasArray, IsAsByAll, chunk_tree_by, moves_by}
+use Rattle.tree_change.specs.ArrayLaw.{IsAsByAll, chunk_tree_by, moves_by}
 use Rattle.tree_change.specs.ArrayMoves.{ArrayMovesLaw}
-use Rattle.tree_change.specs.Keeping.{AreMarked, Comes, IsKnown, Marks, OneOf, Stands, comes_to}
-use Rattle.tree_change.specs.LivePairs.{Walked, live_in, table_of}
+use Rattle.tree_change.specs.Keeping.{AreMarked, IsKnown, Marks, OneOf, Stands, comes_to}
+use Rattle.tree_change.specs.LivePairs.{live_in, table_of}
 use Rattle.tree_change.specs.Marking.{AreNarrow}
 use Rattle.tree_change.specs.TableLaw.{trees_in}
 use Rattle.tree_change.proofs.Accepted.{accepts}
@@ -30,7 +28,7 @@ use Rattle.tree_change.proofs.Narrow.{narrow}
 use Rattle.tree_change.proofs.Picking.{each_both, each_map}
 use Rattle.tree_change.proofs.Tables.{Any, any_each}
 use Rattle.tree_change.proofs.Trails.{trail_below, trail_of}
-use Rattle.tree_change.proofs.Treed.{Steps, chunk_tree, has_trees, steps_of, trees_walk}
+use Rattle.tree_change.proofs.Treed.{chunk_tree, has_trees, steps_of, trees_walk}
 use Rattle.tree_change.proofs.Visiting.{Visits, comes_from, visits_from, visits_map}
 use Rattle.tree_change.proofs.Within.{Below, within}
 
