@@ -26,7 +26,8 @@ record Agree (c d : Chunk) : Type 0 where
 
 agree : (c d : Chunk) → same_chunk c d ≡ true → Agree c d
 agree c d same =
-    let parts = five (c.start == d.start) (c.length == d.length) (c.class == d.class) (c.first == d.first) (option_eq nat_eq c.second d.second) same in
+    let parts =
+    five (c.start == d.start) (c.length == d.length) (c.class == d.class) (c.first == d.first) (option_eq nat_eq c.second d.second) same in
     record {
       start = eqb-true c.start d.start parts.0;
       length_is = eqb-true c.length d.length parts.1;

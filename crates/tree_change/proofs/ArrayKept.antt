@@ -70,7 +70,8 @@ module _ (image : List ℕ) (pending : FinMap nat_cmp ℕ) (old new : Walked) (p
           alike = was image pending old new before pairs marked under both.alike now first (record { high = refl; stored = refl })
               (record { high = refl; stored = refl });
         },
-        each_map (λ other. is_other first other ≡ true) (λ (tree : Tree). tree.1.tree ≡ 3 → IsBefore old new (written_in pending) end marked by_all tree)
+        each_map (λ other. is_other first other ≡ true)
+            (λ (tree : Tree). tree.1.tree ≡ 3 → IsBefore old new (written_in pending) end marked by_all tree)
             (others_in old.sup old.chunks s.roots image) (λ tree other same. absurd (no_other tree.1.tree other same)) olds.0.0,
       )
 

@@ -97,7 +97,8 @@ array_moves image old old_array array pairs moving bytes has pairs_are from =
     let Held = λ (address : ℕ). is_some (home old_array address n) ≡ true in
     let held_mine : AllByRecursion (λ v. Held v.address) (visited old.sup mine root) =
     each_stored (λ v. Held v.address) old.sup mine root fine (λ v bytes is. held_if image old_array n v.address bytes is) in
-    let held : AllByRecursion (λ v. Held v.address) (visited old.sup tree.0 root) = subst (AllByRecursion (λ v. Held v.address)) (sym alike.blocks) held_mine in
+    let held : AllByRecursion (λ v. Held v.address) (visited old.sup tree.0 root) =
+    subst (AllByRecursion (λ v. Held v.address)) (sym alike.blocks) held_mine in
     let Is = IsAsByAll image old old_array in
     let test = held_and_moved old_array array n end in
     let Same = λ (v : Expect). test v.address ≡ moves_by old array end v.address in

@@ -123,7 +123,8 @@ as_by_all image whole array has =
 
 -- the live pairs by the array's chunks are those by all
 pub live_same : (image : List ℕ) (whole : Walked) (array : List Chunk) → HasArray image whole array
-    → EachByArray (λ v. live_at whole.sup (stored_in image array whole.sup.nodesize) v ≡ live_at whole.sup (stored_in image whole.chunks whole.sup.nodesize) v)
+    → EachByArray (λ v. live_at whole.sup (stored_in image array whole.sup.nodesize) v
+    ≡ live_at whole.sup (stored_in image whole.chunks whole.sup.nodesize) v)
     image whole array
 live_same image whole array has =
     let n = whole.sup.nodesize in

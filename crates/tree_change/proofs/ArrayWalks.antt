@@ -163,7 +163,8 @@ chunk_shifted image pending old new array pairs marked moving array_moving under
     ≡ map (live_at new.sup mine.0) (filter (λ v. is_some (mine_kept v)) es) =
     ap (λ blocks. map (live_at new.sup all.0) (filter (λ v. is_some (K v)) blocks)) alike.blocks
     ∙ filtered (λ v. is_some (K v)) (λ v. is_some (mine_kept v)) (live_at new.sup all.0) (live_at new.sup mine.0) es
-    (each_map (λ v. (Keeps v × Mine v) × Live_is v) (λ v. (is_some (K v) ≡ is_some (mine_kept v)) × (live_at new.sup all.0 v ≡ live_at new.sup mine.0 v))
+    (each_map (λ v. (Keeps v × Mine v) × Live_is v)
+    (λ v. (is_some (K v) ≡ is_some (mine_kept v)) × (live_at new.sup all.0 v ≡ live_at new.sup mine.0 v))
     es (λ v h. (h.0.0 ∙ (ap shared (sym h.1) ∙ sym h.0.1), sym h.1))
     (each_both (λ v. Keeps v × Mine v) Live_is es
     (each_both Keeps Mine es (subst (AllByRecursion Keeps) alike.blocks keeps) walks.0.tells.kept_is.each)
@@ -172,10 +173,10 @@ chunk_shifted image pending old new array pairs marked moving array_moving under
     ∙ (ap (filter (λ (live : Live). is_other_than (pairs live.tree live.address) live)) same ∙ walks.1.shifted)
 
 pub array_shifts : ArrayShiftedLaw
-array_shifts image pending old new array before rest pairs marked moving array_moving under array_under has_old has_new both pairs_are marks moves array_moves =
+array_shifts image pending old new array before rest pairs marked moving array_moving under array_under has_old has_new both known marks moves lists =
     shifts image pending old new before (chunk_tree_by new.chunks new.sup (overlaid pending 0 image) ∷ rest) pairs marked moving under
-    has_old has_new both.alike pairs_are marks moves
+    has_old has_new both.alike known marks moves
     ∙ ap (λ met. met ++ flat_map (shifted_met (kept_of pairs marked (moves_between old new (length image)) under) (anew_of under) pairs new) rest)
-    (chunk_shifted image pending old new array pairs marked moving array_moving under array_under both (pairs_are 3)
+    (chunk_shifted image pending old new array pairs marked moving array_moving under array_under both (known 3)
     (subst (AllByRecursion (MarksTouched old (written_in pending) (length image) marked)) has_old.trees_are marks).0
-    (subst (AllByRecursion (MovesListed old new (length image) moving under)) has_old.trees_are moves).0 array_moves)
+    (subst (AllByRecursion (MovesListed old new (length image) moving under)) has_old.trees_are moves).0 lists)

@@ -50,7 +50,8 @@ pub record IsOneTree (image : List ℕ) (pending : FinMap nat_cmp ℕ) (old new 
   pub moves : AreMarked moving (moves_by old array (length image)) new.sup was.0 was.1
   pub lists : AreListed under moving new.sup was.0 was.1
   pub untouched : AreUntouched (touches_old old (written_in pending) (length image)) (moves_by old array (length image)) was.0 is.0
-  pub tells : TellsShared (is_shared old new (written_in pending) (length image)) (kept_by old array (length image) pairs marked under) new.sup is.0 is.1
+  pub tells : TellsShared (is_shared old new (written_in pending) (length image)) (kept_by old array (length image) pairs marked under)
+      new.sup is.0 is.1
 
 -- What follows: which blocks the two chunk trees share; the walk of the old one, which keeps the blocks at the stops of the walk of the new
 -- one, gives the own records of just the blocks that are not shared; and the kept blocks that the walk of the new one meets show all that shifted.
