@@ -45,7 +45,7 @@ chain_of before (c ∷ cs) end none =
       subst (λ last. Chain last cs) (get_last before c) (chain_of (before ++ c ∷ []) cs end both.1),
     )
 
-array_has : (chunks array : List Chunk) → first_failing (array_rows chunks array) ≡ None
+pub array_has : (chunks array : List Chunk) → first_failing (array_rows chunks array) ≡ None
     → AllByRecursion (λ c. list_any (same_chunk c) chunks ≡ true) array
 array_has chunks [] none = tt
 array_has chunks (c ∷ array) none =
@@ -181,12 +181,12 @@ module _ (a n : ℕ) (wide : 0 < n) where
       seconds (Some x) None is = absurd (cc)
       seconds (Some x) (Some y) is = ap (λ (k : ℕ). Some k) (eqb-true x y is)
 
--- what is stored at an address by the array's chunks is stored there by all
-pub same_stored : (image : List ℕ) (chunks array : List Chunk) (n : ℕ) (bytes : List ℕ) (address : ℕ) → 0 < n
+-- where something is stored at an address by the array's chunks, all copies stand there as they do by all chunks
+pub same_places : (image : List ℕ) (chunks array : List Chunk) (n : ℕ) (bytes : List ℕ) (address : ℕ) → 0 < n
     → map_finding chunks array (length image) ≡ None
-    → stored_in image array n address ≡ Ok bytes → stored_in image chunks n address ≡ stored_in image array n address
+    → stored_in image array n address ≡ Ok bytes → place chunks address n (length image) ≡ place array address n (length image)
 unfolding stored_in
-same_stored image chunks array n bytes address wide none is = by (is_multiple address) is
+same_places image chunks array n bytes address wide none is = by (is_multiple address) is
   where
     by_home : (entry : Option Chunk) → home array address n ≡ entry → bytes_at n image (place_in entry address n (length image)) ≡ Ok bytes
         → place chunks address n (length image) ≡ place_in entry address n (length image)
@@ -196,7 +196,14 @@ same_stored image chunks array n bytes address wide none is = by (is_multiple ad
         ap (λ entry. place_in entry address n (length image)) other.1 ∙ same_placed address n wide c other.0 (length image) other.2
 
     by : (b : Bool) → (if b then bytes_at n image (place array address n (length image)) else Err NoPlace) ≡ Ok bytes
-        → (if b then bytes_at n image (place chunks address n (length image)) else Err NoPlace)
-        ≡ (if b then bytes_at n image (place array address n (length image)) else Err NoPlace)
-    by true is = ap (bytes_at n image) (by_home (home array address n) refl is)
+        → place chunks address n (length image) ≡ place array address n (length image)
+    by true is = by_home (home array address n) refl is
     by false is = absurd (cc)
+
+-- what is stored at an address by the array's chunks is stored there by all
+pub same_stored : (image : List ℕ) (chunks array : List Chunk) (n : ℕ) (bytes : List ℕ) (address : ℕ) → 0 < n
+    → map_finding chunks array (length image) ≡ None
+    → stored_in image array n address ≡ Ok bytes → stored_in image chunks n address ≡ stored_in image array n address
+unfolding stored_in
+same_stored image chunks array n bytes address wide none is =
+    ap (λ at. if is_multiple address then bytes_at n image at else Err NoPlace) (same_places image chunks array n bytes address wide none is)

@@ -39,7 +39,7 @@ of_image image whole trees has =
     by [] = tt
     by (root ∷ some) = (record { high = refl; stored = refl }, by some)
 
-nodesize_same : (a b : Super) → are_read_alike a b ≡ true → a.nodesize ≡ b.nodesize
+pub nodesize_same : (a b : Super) → are_read_alike a b ≡ true → a.nodesize ≡ b.nodesize
 nodesize_same a b alike =
     let one =
     and_parts (bytes_eq a.fsid b.fsid)

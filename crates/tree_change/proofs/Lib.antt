@@ -52,3 +52,8 @@ pub mod Merged
 pub mod KnownShared
 pub mod MergedLists
 pub mod OldTrees
+pub mod ArrayPlaces
+pub mod ArrayKept
+pub mod ArrayWalks
+pub mod ArrayMoves
+pub mod ArrayApart

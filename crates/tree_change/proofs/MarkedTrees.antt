@@ -60,7 +60,7 @@ marks_image image whole trees pairs must may marked bytes has pairs_are fit from
     (tables_stand whole.sup trees whole.seen walk.0 walk.1)
 
 -- a chunk holds a block that is stored
-held_if : (image : List ℕ) (chunks : List Chunk) (n address : ℕ) (bytes : List ℕ) → stored_in image chunks n address ≡ Ok bytes
+pub held_if : (image : List ℕ) (chunks : List Chunk) (n address : ℕ) (bytes : List ℕ) → stored_in image chunks n address ≡ Ok bytes
     → is_some (home chunks address n) ≡ true
 unfolding stored_in
 held_if image chunks n address bytes is = by (is_multiple address) (home chunks address n) is

@@ -26,3 +26,6 @@ pub mod LastLaw
 pub mod Stopping
 pub mod MeetingLaw
 pub mod MergedLaw
+pub mod ArrayLaw
+pub mod ArrayShifts
+pub mod ArrayMoves

@@ -1,5 +1,8 @@
 //! Laws of the walk of a tree that keeps blocks. Each stands on a function that does nothing.
 
+ghost use Rattle.tree_change.specs.ArrayLaw.{ArrayKeptLaw, ArrayLaw};
+ghost use Rattle.tree_change.specs.ArrayMoves.{ArrayApartLaw, ArrayMovesLaw};
+ghost use Rattle.tree_change.specs.ArrayShifts.{ArrayShiftedLaw, ArraySoundLaw, ArrayWalksLaw};
 ghost use Rattle.tree_change.specs.ImageLaw.{ReadAlikeLaw, StoredAlikeLaw};
 ghost use Rattle.tree_change.specs.Keeping.{KeepingLaw};
 ghost use Rattle.tree_change.specs.LastLaw.{LastLaw};
@@ -225,4 +228,42 @@ pub fn chunks_merged_law()
 /// their keys.
 pub fn roots_merged_law()
     ensures { RootsMergedLaw }
+{}
+
+/// Each block of the chunk tree of an image is judged by the chunks of the system array as by all chunks: where it stands, whether it
+/// moved, whether writes touch it, and what its live pair is.
+pub fn array_law()
+    ensures { ArrayLaw }
+{}
+
+/// What is kept of the new chunk tree by the chunks of the new system array is what is shared.
+pub fn array_kept_law()
+    ensures { ArrayKeptLaw }
+{}
+
+/// What the walks of the old and the new chunk tree give by the chunks of the new system array: the laws of one tree hold of them.
+pub fn array_walks_law()
+    ensures { ArrayWalksLaw }
+{}
+
+/// The shifted pairs of an image are those that the walk of its chunk tree meets, by the chunks of the new system array, and those that the
+/// walks of its other trees meet, by all chunks.
+pub fn array_shifted_law()
+    ensures { ArrayShiftedLaw }
+{}
+
+/// Blocks of the old chunk tree that are marked where they moved from the old system array to the new one are marked where they moved
+/// from all old chunks to it.
+pub fn array_moves_law()
+    ensures { ArrayMovesLaw }
+{}
+
+/// Blocks of the chunk tree are kept soundly by any chunks of a new system array, whatever is stored now.
+pub fn array_sound_law()
+    ensures { ArraySoundLaw }
+{}
+
+/// Any two chunks of a system array lie apart or are the same: an array may have a chunk twice.
+pub fn array_apart_law()
+    ensures { ArrayApartLaw }
 {}
