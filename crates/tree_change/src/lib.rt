@@ -14,7 +14,7 @@ mod tests;
 
 pub use change::{Change, Diff};
 pub use changed::walk_changed;
-pub use keeps::Keeps;
+pub use keeps::{Ended, Keeps};
 pub use known::KnownTree;
 pub use laws::{
     chunk_tree_law, gone_law, keeping_law, kept_law, kept_tree_law, last_law, listing_law,
