@@ -44,6 +44,7 @@ pub mod OldBlocks
 pub mod OldTells
 pub mod OldSupers
 pub mod MetWalk
+pub mod EndWalk
 pub mod Stopping
 pub mod MeetingStops
 pub mod Premises

@@ -6,6 +6,7 @@ pub mod SkipLaw
 pub mod Keeping
 pub mod Marking
 pub mod Meeting
+pub mod Ending
 pub mod KeepingWalk
 pub mod Under
 pub mod Known

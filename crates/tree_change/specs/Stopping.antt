@@ -7,6 +7,7 @@ use Rattle.node_reader.specs.Stored.{Stored}
 use Rattle.node_reader.specs.declared.expect.Expect.{Expect}
 use Rattle.touched_pairs.specs.Marks.{marked_by}
 use Rattle.tree_change.specs.declared.old.OldTree.{OldTree}
+use Rattle.tree_change.specs.Ending.{Held, Lasts}
 use Rattle.tree_change.specs.Keeping.{Under, anew_of, last_if_same}
 use Rattle.tree_change.specs.Meeting.{Met}
 use Rattle.tree_change.specs.OldSide.{kept_at}
@@ -29,6 +30,13 @@ listed_by_stops old = anew_of (under_of old.starts.now)
 -- the blocks that the walk meets are not held
 abbrev pub none_met : {L : Type 0} → OldTree L → Met
 none_met old = None
+
+-- no greatest keys are told, and the blocks that the walk is done with are not held
+abbrev pub none_last : {L : Type 0} → OldTree L → Lasts
+none_last old e = None
+
+abbrev pub none_ended : {L : Type 0} → OldTree L → Held
+none_ended old = None
 
 -- where just the addresses of stops pass a test, a walk that keeps the blocks at these addresses keeps those at the stops
 abbrev pub StopsLaw : Type 0

@@ -5,10 +5,10 @@ ghost use Rattle.live_index.specs.Table.{pairs_of};
 ghost use Rattle.touched_pairs.specs.Marks.{marked_by};
 ghost use Rattle.touched_pairs.specs.Moves.{move_passes};
 ghost use Rattle.tree_change.specs.Keeping.{anew_of, bound_of, is_first, is_same, or_high, start_of, starts_of};
-ghost use Rattle.tree_change.specs.Known.{kept_by, listed_by, met_by};
+ghost use Rattle.tree_change.specs.Known.{ended_by, is_last_walked, kept_by, lasts_by, listed_by, met_by};
 ghost use Rattle.tree_change.specs.Under.{under_of};
 
-use crate::keeps::Keeps;
+use crate::keeps::{Ended, Keeps};
 use crate::starts::{Start, Starts};
 use live_index::{Live, LiveIndex};
 use node_reader::Expect;
@@ -17,7 +17,8 @@ use touched_pairs::{AddressTest, Marks, Move};
 use verdict::{Key, NoMemory};
 
 /// What is known of a tree as it was: its live pairs, the marks of those that writes touch and of all above them, which blocks stand at
-/// another place now, and the children that moved or are above one that did. Each block that is asked for looks once into the table.
+/// another place now, and the children that moved or are above one that did. Each block that is
+/// asked for looks at most once into the table, and once more for its greatest key.
 #[derive(Drop)]
 pub struct KnownTree<'a, 's, L> {
     /// The live pairs.
@@ -32,6 +33,8 @@ pub struct KnownTree<'a, 's, L> {
     pub steps: &'s mut Steps<L>,
     /// The kept blocks that the walk met so far.
     pub met: &'s mut Vec<Expect>,
+    /// The blocks that the walk is done with so far, each with its greatest key.
+    pub ended: &'s mut Vec<Ended>,
 }
 
 impl<'a, 's, L> Keeps for KnownTree<'a, 's, L> {
@@ -40,6 +43,10 @@ impl<'a, 's, L> Keeps for KnownTree<'a, 's, L> {
     ghost anew = { listed_by };
 
     ghost met = { met_by };
+
+    ghost lasts = { lasts_by };
+
+    ghost ended = { ended_by };
 
     #[tactic(auto, unfolding(crate::specs::Keeping::kept_of))]
     fn kept(&mut self, e: &Expect) -> Option<Key> {
@@ -72,6 +79,30 @@ impl<'a, 's, L> Keeps for KnownTree<'a, 's, L> {
         let start = self.starts.of(e.tree, e.address)[i];
         expected(e, &start)
     }
+
+    #[tactic(auto, unfolding(crate::specs::Known::last_of))]
+    fn last(&mut self, e: &Expect) -> Option<Key> {
+        if is_last_walked(self.starts.of(e.tree, e.address)) {
+            return None;
+        }
+        let live = self.table.get(e.tree, e.address, self.steps)?;
+        Some(live.last)
+    }
+
+    #[tactic(auto, unfolding(crate::specs::Ending::with_ended))]
+    fn end(&mut self, e: &Expect, last: Key) -> Result<(), NoMemory> {
+        match self.ended.push(Ended { expect: *e, last }) {
+            Ok(()) => Ok(()),
+            Err(_) => Err(NoMemory),
+        }
+    }
+}
+
+// Whether the last child of a block is among those that are walked: no pointer follows it.
+fn is_last_walked(starts: &[Start]) -> bool
+    ensures { result ≡ is_last_walked starts.now }
+{
+    starts.iter().any(|start| start.next.is_none())
 }
 
 // What is expected of a child that is walked below a block.

@@ -12,7 +12,7 @@ mod starts;
 
 pub use change::{Change, Diff};
 pub use changed::walk_changed;
-pub use keeps::Keeps;
+pub use keeps::{Ended, Keeps};
 pub use known::KnownTree;
 pub use laws::{
     array_apart_law, array_kept_law, array_law, array_moves_law, array_shifted_law,

@@ -5,7 +5,7 @@ ghost use Rattle.live_index.specs.Table.{pairs_of};
 ghost use Rattle.touched_pairs.specs.Marks.{marked_by};
 ghost use Rattle.tree_change.specs.Keeping.{anew_of, bound_of, is_same, start_of, starts_of};
 ghost use Rattle.tree_change.specs.Stops.{is_stop};
-ghost use Rattle.tree_change.specs.Stopping.{kept_by_stops, listed_by_stops, none_met};
+ghost use Rattle.tree_change.specs.Stopping.{kept_by_stops, listed_by_stops, none_ended, none_last, none_met};
 ghost use Rattle.tree_change.specs.Under.{under_of};
 
 use crate::keeps::Keeps;
@@ -41,6 +41,10 @@ impl<'a, 's, L> Keeps for OldTree<'a, 's, L> {
 
     ghost met = { none_met };
 
+    ghost lasts = { none_last };
+
+    ghost ended = { none_ended };
+
     #[tactic(auto, unfolding(crate::specs::Stopping::kept_among))]
     fn kept(&mut self, e: &Expect) -> Option<Key> {
         if !self.stops.has(self.tree, e.address) {
@@ -68,6 +72,15 @@ impl<'a, 's, L> Keeps for OldTree<'a, 's, L> {
     fn next(&mut self, e: &Expect, i: usize) -> Expect {
         let start = self.starts.of(e.tree, e.address)[i];
         expected(e, &start)
+    }
+
+    fn last(&mut self, _e: &Expect) -> Option<Key> {
+        None
+    }
+
+    #[tactic(auto, unfolding(crate::specs::Ending::with_ended))]
+    fn end(&mut self, _e: &Expect, _last: Key) -> Result<(), NoMemory> {
+        Ok(())
     }
 }
 

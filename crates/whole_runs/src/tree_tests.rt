@@ -114,6 +114,7 @@ fn walked(
     };
     let starts = Starts::new(alloc);
     let mut met = Vec::new(alloc);
+    let mut ended = Vec::new(alloc);
     let mut known = KnownTree {
         table: &table,
         marks: &marks,
@@ -121,6 +122,7 @@ fn walked(
         starts: &starts,
         steps: &mut steps,
         met: &mut met,
+        ended: &mut ended,
     };
     let mut disk = MemDisk::new(Vec::from_slice(alloc, image)?, Vec::new(alloc));
     let source = BlockSource {
