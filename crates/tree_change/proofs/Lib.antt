@@ -45,5 +45,6 @@ pub mod OldTells
 pub mod OldSupers
 pub mod MetWalk
 pub mod EndWalk
+pub mod EndsTold
 pub mod Stopping
 pub mod MeetingStops

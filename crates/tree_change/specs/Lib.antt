@@ -23,5 +23,6 @@ pub mod MovedLaw
 pub mod ShiftedLaw
 pub mod MarksLaw
 pub mod LastLaw
+pub mod EndsLaw
 pub mod Stopping
 pub mod MeetingLaw

@@ -1,5 +1,6 @@
 //! Laws of the walk of a tree that keeps blocks. Each stands on a function that does nothing.
 
+ghost use Rattle.tree_change.specs.EndsLaw.{EndsLaw};
 ghost use Rattle.tree_change.specs.ImageLaw.{ReadAlikeLaw, StoredAlikeLaw};
 ghost use Rattle.tree_change.specs.Keeping.{KeepingLaw};
 ghost use Rattle.tree_change.specs.LastLaw.{LastLaw};
@@ -181,4 +182,10 @@ pub fn shifted_law()
 /// The same of the live pairs whose block stands elsewhere by a new list of chunks: a chunk of the image holds each.
 pub fn moves_law()
     ensures { MovesLaw }
+{}
+
+/// The walk that keeps blocks tells of each block that it comes to, behind all below it, the greatest key in it or below it as it is
+/// now, where blocks are kept by what is known of the tree as it was.
+pub fn ends_law()
+    ensures { EndsLaw }
 {}
