@@ -3,17 +3,15 @@ use Rattle.std.proofs.Common.{◌≡◌, ℕ, zero, suc, ◌+◌, ◌-◌, ◌==
 use Rattle.std.proofs.lemmas.List.{map-append}
 use Rattle.std.proofs.lemmas.Bool.{eqb-true}
 use Rattle.std.proofs.lemmas.Bool.Decides.{nat_tests}
-use Rattle.std.specs.Prelude.{Option, Some, None, IfSome, Result, Ok, Err, is_none, map}
-use Rattle.std.specs.List.{flat_map, list_any}
+use Rattle.std.specs.Prelude.{Option, Some, None, Ok, map}
+use Rattle.std.specs.List.{flat_map}
 use Rattle.std.specs.Result.{IsOk}
 use Rattle.walk_laws.specs.WalkOrder.{Ascend}
 use Rattle.walk_laws.proofs.Blocks.{block_keys}
-use Rattle.verdict.specs.OnDisk.{key_below}
 use Rattle.verdict.specs.Rules.{no_key}
 use Rattle.verdict.specs.declared.key.Key.{Key}
 use Rattle.super_reader.specs.declared.Super.{Super}
 use Rattle.live_index.specs.Pairs.{Pairs}
-use Rattle.live_index.specs.declared.live.Live.{Live}
 use Rattle.node_reader.specs.Layout.{count_of, entry_key, entry_size, item_of, pointers_of}
 use Rattle.node_reader.specs.Places.{each_from}
 use Rattle.node_reader.specs.Stored.{Stored, block_in}
@@ -21,9 +19,9 @@ use Rattle.node_reader.specs.declared.expect.Expect.{Expect}
 use Rattle.node_reader.specs.declared.expect.Pointer.{Pointer}
 use Rattle.records.specs.Walk.{child_of, children_of, high_of, walk_of}
 use Rattle.records.specs.WalkLaw.{children_in, visited}
-use Rattle.tree_change.specs.Ending.{Ends, Lasts, before_ends, each_ends, end_at, ends_and, ends_below, ends_of, ends_or, key_or, last_item, none_more, own_last, read_ends}
+use Rattle.tree_change.specs.Ending.{Ends, Lasts, before_ends, each_ends, end_at, ends_and, ends_below, ends_or, key_or, last_item, none_more, own_last, read_ends}
 use Rattle.tree_change.specs.EndsLaw.{EndsLaw, all_ended, ended_at, next_or, walked_and, walked_below}
-use Rattle.tree_change.specs.Keeping.{AreListed, AreMarked, AreUntouched, IsKnown, Marks, OneOf, Stands, Under, anew_of, comes_to, kept_of, last_in, live_at, start_of, starts_at, starts_in, starts_of}
+use Rattle.tree_change.specs.Keeping.{AreListed, AreMarked, AreUntouched, IsKnown, Marks, OneOf, Stands, Under, anew_of, comes_to, kept_of, last_in, start_of, starts_at, starts_in, starts_of}
 use Rattle.tree_change.specs.Known.{is_last_walked, last_known, last_of}
 use Rattle.tree_change.specs.LastLaw.{last_anew}
 use Rattle.tree_change.specs.Skips.{Kept, is_below, next_of, nothing}
