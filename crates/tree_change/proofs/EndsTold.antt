@@ -72,7 +72,8 @@ and_nil true = refl
 and_nil false = refl
 
 module _ (P : Expect → Type 0) (sup : Super) (stored : Stored) where
-  items_under : (level : ℕ) (e : Expect) (bytes : List ℕ) (high : Option Key) → level ≡ 0 → items_upto (trail_below level sup stored e bytes) high ≡ true
+  items_under : (level : ℕ) (e : Expect) (bytes : List ℕ) (high : Option Key) → level ≡ 0
+      → items_upto (trail_below level sup stored e bytes) high ≡ true
   unfolding trail_below
   items_under zero e bytes high is = refl
   items_under (suc level) e bytes high is = absurd (cc)
@@ -83,7 +84,8 @@ module _ (P : Expect → Type 0) (sup : Super) (stored : Stored) where
   upto_under (suc level) e bytes high is = absurd (cc)
 
   -- the greatest key of a leaf is that of its last item
-  leaf_last : (e : Expect) (a : Accepts sup stored e) → e.level ≡ 0 → Visits P (trail_of sup stored e) → last_in (walk_of sup stored e) ≡ last_item a.bytes
+  leaf_last : (e : Expect) (a : Accepts sup stored e) → e.level ≡ 0 → Visits P (trail_of sup stored e)
+      → last_in (walk_of sup stored e) ≡ last_item a.bytes
   unfolding last_item
   leaf_last e a leaf all = by (count_of a.bytes == 0) refl
     where
@@ -92,7 +94,8 @@ module _ (P : Expect → Type 0) (sup : Super) (stored : Stored) where
 
       none : count_of a.bytes ≡ 0 → (high : Option Key) → is_below (last_in (walk_of sup stored e)) high ≡ is_below no_key high
       none count high =
-          let own : items_below a.entries high ≡ true = leaf_keys sup e a.bytes a.entries high leaf a.has ∙ no_keys (entry_key a.bytes (entry_size zero)) (count_of a.bytes) high count in
+          let own : items_below a.entries high ≡ true = leaf_keys sup e a.bytes a.entries high leaf a.has
+              ∙ no_keys (entry_key a.bytes (entry_size zero)) (count_of a.bytes) high count in
           let whole : items_upto (trail_of sup stored e) high ≡ true =
               items_block P (trail_below e.level sup stored) sup stored e a high rest
               ∙ ap (λ b. b && items_upto (trail_below e.level sup stored e a.bytes) high) own ∙ items_under e.level e a.bytes high leaf in
@@ -161,7 +164,8 @@ module _ (pairs : Pairs) (marked moving : Marks) (touched moved : ℕ → Bool) 
   -- the children of a block that is read
   ended_children : (level : ℕ) → AreEnded level → (e : Expect) → e.tree ≡ root.tree → (pointers : List Pointer) (key : Key)
       → Visits A (trails (is_now level) (children_of level e pointers))
-      → each_ends (E level) key (children_of level e pointers) ≡ full (flat_map (W level) (children_of level e pointers)) (last_child level e pointers key)
+      → each_ends (E level) key (children_of level e pointers) ≡ full (flat_map (W level) (children_of level e pointers))
+          (last_child level e pointers key)
   ended_children level each e of_tree [] key more = refl
   ended_children level each e of_tree (pointer ∷ pointers) key more =
       let c = child_of level e pointer (high_of pointers e.high) in
@@ -193,7 +197,8 @@ module _ (pairs : Pairs) (marked moving : Marks) (touched moved : ℕ → Bool) 
       last_walk sup new e
       ∙ (ap (λ m. greatest_of (keys_in (is_now m e))) at
       ∙ (ap greatest_of (ap keys_in (walk_accepted (trail_below (suc n) sup new) sup new e a)
-      ∙ keys_after A (visit_of e a.bytes a.entries ∷ []) (trail_below (suc n) sup new e a.bytes) (rest_of A (trail_below (suc n) sup new) sup new e a more))
+      ∙ keys_after A (visit_of e a.bytes a.entries ∷ []) (trail_below (suc n) sup new e a.bytes) (rest_of A (trail_below
+          (suc n) sup new) sup new e a more))
       ∙ ap (λ keys. greatest_of (keys ++ keys_in (trails (is_now n) (children_of n e (pointers_of a.bytes))))) none))
 
   abbrev pub last_start : ℕ → Expect → List Start → Key → Key
@@ -208,7 +213,8 @@ module _ (pairs : Pairs) (marked moving : Marks) (touched moved : ℕ → Bool) 
   ended_starts level each e of_tree test [] key more = refl
   ended_starts level each e of_tree test (pointer ∷ pointers) key more =
       by (test pointer.address) (λ k. ended_starts level each e of_tree test pointers k
-      (visits_then_later A (is_now level (child_of level e pointer (high_of pointers e.high))) (trails (is_now level) (children_of level e pointers)) more))
+      (visits_then_later A (is_now level (child_of level e pointer (high_of pointers e.high))) (trails (is_now level)
+          (children_of level e pointers)) more))
     where
       c : Expect
       c = child_of level e pointer (high_of pointers e.high)
@@ -223,11 +229,13 @@ module _ (pairs : Pairs) (marked moving : Marks) (touched moved : ℕ → Bool) 
       here = subst (λ h. Visits A (is_now level (child_of level e pointer h))) (sym (or_high_is pointers e.high))
           (visits_then_first A (is_now level c) (trails (is_now level) (children_of level e pointers)) more)
 
-      by : (m : Bool) → ((k : Key) → each_ends (E level) k (starts_of level e S) ≡ full (flat_map (W level) (starts_of level e S)) (last_start level e S k))
+      by : (m : Bool) → ((k : Key) → each_ends (E level) k (starts_of level e S)
+          ≡ full (flat_map (W level) (starts_of level e S)) (last_start level e S k))
           → each_ends (E level) key (starts_of level e (if m then s ∷ S else S))
           ≡ full (flat_map (W level) (starts_of level e (if m then s ∷ S else S))) (last_start level e (if m then s ∷ S else S) key)
       by true rest =
-          ended_then level (start_of level e s) (starts_of level e S) (flat_map (W level) (starts_of level e S)) key (last_start level e S (greatest (start_of level e s)))
+          ended_then level (start_of level e s) (starts_of level e S) (flat_map (W level) (starts_of level e S)) key (last_start level e S
+              (greatest (start_of level e s)))
           (each (start_of level e s) refl of_tree here) (rest (greatest (start_of level e s)))
       by false rest = rest key
 
@@ -258,7 +266,8 @@ module _ (pairs : Pairs) (marked moving : Marks) (touched moved : ℕ → Bool) 
       by false rest = rest key
 
   -- the greatest key of a kept block
-  kept_greatest : (e : Expect) (last : Key) → e.tree ≡ root.tree → IsOk (walk_of sup new e) → K e ≡ Some last → (test : ℕ → Bool) (pointers : List Pointer)
+  kept_greatest : (e : Expect) (last : Key) → e.tree ≡ root.tree → IsOk (walk_of sup new e) → K e ≡ Some last → (test : ℕ
+      → Bool) (pointers : List Pointer)
       → under e.tree e.address ≡ starts_in test pointers → (key : Key)
       → key_or (T e) (last_start (e.level - 1) e (starts_in test pointers) key) ≡ greatest e
   unfolding kept_of last_of
@@ -278,7 +287,8 @@ module _ (pairs : Pairs) (marked moving : Marks) (touched moved : ℕ → Bool) 
   known : Visits Kn (trail_of sup old root)
   known = visits_from Kn sup old root stands.each
 
-  right : (m : Marks) (test : ℕ → Bool) → AreMarked m test sup old root → Visits (IsRight pairs marked moved under sup old new m test) (trail_of sup old root)
+  right : (m : Marks) (test : ℕ → Bool) → AreMarked m test sup old root
+      → Visits (IsRight pairs marked moved under sup old new m test) (trail_of sup old root)
   right m test comes =
       visits_map (λ v. Below Kn sup old v × (m v.tree v.address ≡ comes_to test sup old v))
       (IsRight pairs marked moved under sup old new m test) (trail_of sup old root)
@@ -287,7 +297,8 @@ module _ (pairs : Pairs) (marked moving : Marks) (touched moved : ℕ → Bool) 
       (visits_from (λ v. m v.tree v.address ≡ comes_to test sup old v) sup old root comes))
 
   -- what is walked below a kept block
-  kept_lists : (level : ℕ) (e : Expect) (last : Key) → e.level ≡ level → e.tree ≡ root.tree → K e ≡ Some last → (bytes : List ℕ) → new e.address ≡ Ok bytes
+  kept_lists : (level : ℕ) (e : Expect) (last : Key) → e.level ≡ level → e.tree ≡ root.tree → K e ≡ Some last → (bytes : List ℕ)
+      → new e.address ≡ Ok bytes
       → (tree : ℕ) × (under e.tree e.address ≡ starts_at level (moving tree) (Ok bytes))
   kept_lists level e last at of_tree stays bytes is =
       let F = IsFree pairs marked moved under sup old new moving in
@@ -304,7 +315,8 @@ module _ (pairs : Pairs) (marked moving : Marks) (touched moved : ℕ → Bool) 
       let v_level : v.level ≡ level = sym w.same.block.level ∙ at in
       let here : F v = here_of F (trail_below v.level sup old) sup old v w.all in
       let a = accepts F (trail_below v.level sup old) sup old v w.all in
-      let same : a.bytes ≡ bytes = bytes_same a.bytes bytes (new v.address) (new e.address) (here.alike w.still ∙ a.is) is (ap new (sym w.same.block.address)) in
+      let same : a.bytes ≡ bytes = bytes_same a.bytes bytes (new v.address) (new e.address) (here.alike w.still
+          ∙ a.is) is (ap new (sym w.same.block.address)) in
       (v.tree,
       ap (λ t. under t e.address) w.same.block.tree
       ∙ (ap (under v.tree) w.same.block.address
@@ -316,7 +328,8 @@ module _ (pairs : Pairs) (marked moving : Marks) (touched moved : ℕ → Bool) 
   ended_block : (e : Expect) (below : Key → List Expect → Ends) (walked : List Expect → List Expect) (bytes : List ℕ) (k : Option Key) → K e ≡ k
       → e.tree ≡ root.tree → block_in new sup.fsid e ≡ Ok bytes → IsOk (walk_of sup new e)
       → (k ≡ None → below (own_last e bytes) (next_of e bytes) ≡ full (walked (next_of e bytes)) (greatest e))
-      → ((last : Key) → k ≡ Some last → (end : Key) × (below no_key (anew_of under e) ≡ full (walked (anew_of under e)) end) × (key_or (T e) end ≡ greatest e))
+      → ((last : Key) → k ≡ Some last → (end : Key) × (below no_key (anew_of under e) ≡ full (walked (anew_of under e)) end) × (key_or (T e) end
+          ≡ greatest e))
       → ends_and K (anew_of under) T below sup new e ≡ full (walked_and K (anew_of under) walked sup new e) (greatest e)
   ended_block e below walked bytes None is of_tree read fine new_one kept_one =
       ap (ends_or T e (below no_key (anew_of under e)) (read_ends e below (block_in new sup.fsid e))) is
@@ -328,14 +341,17 @@ module _ (pairs : Pairs) (marked moving : Marks) (touched moved : ℕ → Bool) 
   ended_block e below walked bytes (Some last) is of_tree read fine new_one kept_one =
       let found = kept_one last refl in
       ap (ends_or T e (below no_key (anew_of under e)) (read_ends e below (block_in new sup.fsid e))) is
-      ∙ ap (λ b. if b then end_at e (key_or (T e) (below no_key (anew_of under e)).last) (below no_key (anew_of under e)).blocks else none_more no_key) (high (is_below last e.high) refl)
+      ∙ ap (λ b. if b then end_at e (key_or (T e) (below no_key (anew_of under e)).last) (below no_key
+          (anew_of under e)).blocks else none_more no_key) (high (is_below last e.high) refl)
       ∙ ap (λ (ends : Ends). end_at e (key_or (T e) ends.last) ends.blocks) found.1
       ∙ ap (λ key. end_at e key (map (ended_at sup new) (walked (anew_of under e)))) found.2
       ∙ ap (λ blocks. record { blocks = blocks; last = greatest e }) (sym (map-append (ended_at sup new) (walked (anew_of under e)) (e ∷ [])))
-      ∙ sym (ap (λ es. full (walked es ++ (e ∷ [])) (greatest e)) (ap (next_or (anew_of under e) (children_in (e.level - 1) e (block_in new sup.fsid e))) is))
+      ∙ sym (ap (λ es. full (walked es ++ (e ∷ [])) (greatest e)) (ap (next_or (anew_of under e) (children_in (e.level - 1) e
+          (block_in new sup.fsid e))) is))
     where
       sound : IsSound e.tree K nothing (anew_of under) sup new
-      sound = subst (λ t. IsSound t K nothing (anew_of under) sup new) (sym of_tree) (keeps pairs marked moving touched moved under sup old new root stands marks moves listed alike)
+      sound = subst (λ t. IsSound t K nothing (anew_of under) sup new) (sym of_tree)
+          (keeps pairs marked moving touched moved under sup old new root stands marks moves listed alike)
 
       high : (b : Bool) → is_below last e.high ≡ b → is_below last e.high ≡ true
       high true below_high = below_high
@@ -366,7 +382,8 @@ module _ (pairs : Pairs) (marked moving : Marks) (touched moved : ℕ → Bool) 
       ≡ full (flat_map (W n) (children_of m e (pointers_of a.bytes))) (greatest e)) next
       (ap (λ b. each_ends (E n) (if b then last_item a.bytes else no_key) (children_of n e (pointers_of a.bytes))) (no_leaf e.level n at)
       ∙ ended_children n (ends_at n) e of_tree (pointers_of a.bytes) no_key rest
-      ∙ ap (full (flat_map (W n) (children_of n e (pointers_of a.bytes)))) (children_last n e (pointers_of a.bytes) rest ∙ sym (node_last n e at a more))))
+      ∙ ap (full (flat_map (W n) (children_of n e (pointers_of a.bytes)))) (children_last n e (pointers_of a.bytes) rest
+          ∙ sym (node_last n e at a more))))
       (λ last stays.
       let l = kept_lists (suc n) e last at of_tree stays a.bytes a.is in
       let S = starts_in (moving l.0) (pointers_of a.bytes) in
