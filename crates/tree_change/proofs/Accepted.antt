@@ -144,7 +144,7 @@ absorbs true false f = refl
 absorbs false false f = refl
 
 -- of keys that ascend all are below a bound where the last one is
-last_decides : (entry : ℕ → Key) (at n : ℕ) (high : Option Key) → Ascend (each_from entry at (suc n)) → keys_below (each_from entry at (suc n)) high ≡ is_below (entry (at + n)) high
+pub last_decides : (entry : ℕ → Key) (at n : ℕ) (high : Option Key) → Ascend (each_from entry at (suc n)) → keys_below (each_from entry at (suc n)) high ≡ is_below (entry (at + n)) high
 unfolding each_from
 last_decides entry at zero high ascend = let same : at + 0 ≡ at = omega arith in rw same (and_nil (is_below (entry at) high))
   where

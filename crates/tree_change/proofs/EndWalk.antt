@@ -1,5 +1,5 @@
 -- The steps of a walk that tells the greatest key of each block behind all that is below it.
-use Rattle.std.proofs.Common.{◌≡◌, ℕ, zero, suc, ◌-◌, ◌==◌, List, [], ◌∷◌, ◌++◌, append_assoc, append-nil, ap, refl, sym, subst, ◌∙◌, arith, IfSome, Option, Some, None, Result, Ok, Err, true, false}
+use Rattle.std.proofs.Common.{◌≡◌, ℕ, zero, suc, ◌-◌, ◌==◌, List, [], ◌∷◌, ◌++◌, append_assoc, append-nil, ap, refl, sym, subst, ◌∙◌, arith, IfSome, Option, Some, None, Ok, true, false}
 use Rattle.std.specs.Prelude.{if◌then◌else◌}
 use Rattle.std.proofs.lemmas.Bool.Decides.{nat_tests}
 use Rattle.std.specs.Ordering.{nat_cmp}
@@ -35,7 +35,8 @@ unfolding ends_below
 ends_leaf kept anew lasts zero sup stored last next leaf = refl
 ends_leaf kept anew lasts (suc level) sup stored last next leaf = absurd (cc)
 
-ends_node : (kept : Kept) (anew : Anew) (lasts : Lasts) (level : ℕ) (sup : Super) (stored : Stored) (last : Key) (next : List Expect) → (level ≡ 0 → ⊥)
+ends_node : (kept : Kept) (anew : Anew) (lasts : Lasts) (level : ℕ) (sup : Super) (stored : Stored) (last : Key) (next : List Expect) → (level ≡ 0
+    → ⊥)
     → ends_below kept anew lasts level sup stored last next
     ≡ each_ends (ends_and kept anew lasts (ends_below kept anew lasts (level - 1) sup stored) sup stored) last next
 unfolding ends_below
@@ -100,7 +101,8 @@ module _ (kept : Kept) (anew : Anew) (lasts : Lasts) (told : Option (List ℕ)) 
       ∙ ap (read_ends e under) read
 
   -- nothing is told where the walk is whole
-  pub whole_ends : (e : Expect) (bound : Key) (old now : Held) (last : Key) → kept e ≡ Some bound → is_below bound e.high ≡ false → now ≡ old → last ≡ no_key
+  pub whole_ends : (e : Expect) (bound : Key) (old now : Held) (last : Key) → kept e ≡ Some bound → is_below bound e.high ≡ false → now ≡ old
+      → last ≡ no_key
       → HoldsLast told waiting old now last (ends_in kept anew lasts sup chunks e)
   unfolding ends_in
   whole_ends e bound old now last is below same none = by told
@@ -111,8 +113,12 @@ module _ (kept : Kept) (anew : Anew) (lasts : Lasts) (told : Option (List ℕ)) 
           let stored = stored_in (overlaid waiting 0 image) chunks sup.nodesize in
           let under = ends_below kept anew lasts e.level sup stored in
           let here = ap (ends_or lasts e (under no_key (anew e)) (read_ends e under (block_in stored sup.fsid e))) is
-          ∙ ap (λ b. if b then end_at e (key_or (lasts e) (under no_key (anew e)).last) (under no_key (anew e)).blocks else none_more no_key) below in
-          (same ∙ sym (none_held old) ∙ sym (ap (λ (ends : Ends). with_ended old ends.blocks) here), none ∙ sym (ap (λ (ends : Ends). ends.last) here))
+          ∙ ap (λ b. if b then end_at e (key_or (lasts e) (under no_key (anew e)).last) (under no_key
+          (anew e)).blocks else none_more no_key) below in (
+            same ∙ sym (none_held old) ∙ sym (ap (λ (ends : Ends). with_ended old ends.blocks) here),
+            none
+                ∙ sym (ap (λ (ends : Ends). ends.last) here),
+          )
 
   -- a block that is done with, by what it is
   held_is : (e : Expect) (old now : Held) (last : Key) (image : List ℕ) (whole : Ends) → ends_in kept anew lasts sup chunks e image ≡ whole
@@ -122,7 +128,8 @@ module _ (kept : Kept) (anew : Anew) (lasts : Lasts) (told : Option (List ℕ)) 
       (blocks ∙ sym (ap (λ (ends : Ends). with_ended old ends.blocks) is), same ∙ sym (ap (λ (ends : Ends). ends.last) is))
 
   -- a kept leaf
-  pub leaf_ends : (e : Expect) (bound : Key) (old mid now : Held) (under last : Key) (l : Lasts) → kept e ≡ Some bound → is_below bound e.high ≡ true → e.level ≡ 0
+  pub leaf_ends : (e : Expect) (bound : Key) (old mid now : Held) (under last : Key) (l : Lasts) → kept e ≡ Some bound
+      → is_below bound e.high ≡ true → e.level ≡ 0
       → l ≡ lasts → mid ≡ old → under ≡ no_key
       → now ≡ with_ended mid (record { expect = e; last = key_or (l e) under } ∷ []) → last ≡ key_or (l e) under
       → HoldsLast told waiting old now last (ends_in kept anew lasts sup chunks e)
@@ -143,7 +150,8 @@ module _ (kept : Kept) (anew : Anew) (lasts : Lasts) (told : Option (List ℕ)) 
       by (Some image) =
           let x = overlaid waiting 0 image in
           held_is e old now last x (end_keeping e (lasts e) (none_more no_key))
-          (kept_is e bound x is below ∙ ap (end_keeping e (lasts e)) (ends_leaf kept anew lasts e.level sup (stored_in x chunks sup.nodesize) no_key (anew e) leaf))
+          (kept_is e bound x is below ∙ ap (end_keeping e (lasts e)) (ends_leaf kept anew lasts e.level sup
+          (stored_in x chunks sup.nodesize) no_key (anew e) leaf))
           same same_last
 
   -- a leaf that is read
@@ -164,7 +172,8 @@ module _ (kept : Kept) (anew : Anew) (lasts : Lasts) (told : Option (List ℕ)) 
           let own : own_last e bytes ≡ last = ap (λ n. if n == 0 then last_item bytes else no_key) leaf ∙ sym same_last in
           held_is e old now last x (end_with e (none_more last))
           (new_is e x bytes is r
-          ∙ ap (end_with e) (ends_leaf kept anew lasts e.level sup (stored_in x chunks sup.nodesize) (own_last e bytes) (next_of e bytes) leaf ∙ ap none_more own))
+          ∙ ap (end_with e) (ends_leaf kept anew lasts e.level sup (stored_in x chunks sup.nodesize) (own_last e bytes) (next_of e bytes) leaf
+          ∙ ap none_more own))
           same refl
 
   -- the loop over blocks below one begins
@@ -172,23 +181,27 @@ module _ (kept : Kept) (anew : Anew) (lasts : Lasts) (told : Option (List ℕ)) 
       → EndsSoFar told waiting old now (left_ends level next last) (left_ends level next no_key)
   ends_start level next old now last same none = record { ends = by told }
     where
-      by : (t : Option (List ℕ)) → IfSome t (λ image. Joins old now (left_ends level next last (overlaid waiting 0 image)) (left_ends level next no_key (overlaid waiting 0 image)))
+      by : (t : Option (List ℕ)) → IfSome t (λ image. Joins old now (left_ends level next last (overlaid waiting 0 image))
+          (left_ends level next no_key (overlaid waiting 0 image)))
       by None = tt
       by (Some image) =
           let x = overlaid waiting 0 image in
           record {
-            blocks = ap (λ held. with_ended held (left_ends level next last x).blocks) same ∙ ap (λ key. with_ended old (left_ends level next key x).blocks) none;
+            blocks = ap (λ held. with_ended held (left_ends level next last x).blocks) same
+                ∙ ap (λ key. with_ended old (left_ends level next key x).blocks) none;
             last = ap (λ key. (left_ends level next key x).last) none;
           }
 
   ends_then : (level : ℕ) (c : Expect) (next rest : List Expect) (old before after : Held) (last found : Key) (whole : List ℕ → Ends)
       → next ≡ c ∷ rest → c.level ≡ level - 1
-      → EndsSoFar told waiting old before (left_ends level next last) whole → HoldsLast told waiting before after found (ends_in kept anew lasts sup chunks c)
+      → EndsSoFar told waiting old before (left_ends level next last) whole
+      → HoldsLast told waiting before after found (ends_in kept anew lasts sup chunks c)
       → EndsSoFar told waiting old after (left_ends level rest found) whole
   unfolding ends_in
   ends_then level c next rest old before after last found whole is at so here = record { ends = by told so.ends here }
     where
-      by : (t : Option (List ℕ)) → IfSome t (λ image. Joins old before (left_ends level next last (overlaid waiting 0 image)) (whole (overlaid waiting 0 image)))
+      by : (t : Option (List ℕ)) → IfSome t (λ image. Joins old before (left_ends level next last (overlaid waiting 0 image)) (whole
+          (overlaid waiting 0 image)))
           → HoldsLast t waiting before after found (ends_in kept anew lasts sup chunks c)
           → IfSome t (λ image. Joins old after (left_ends level rest found (overlaid waiting 0 image)) (whole (overlaid waiting 0 image)))
       by None s h = tt
@@ -222,7 +235,8 @@ module _ (kept : Kept) (anew : Anew) (lasts : Lasts) (told : Option (List ℕ)) 
       (subst (λ i. HoldsLast i waiting mid after found (ends_in k a l sup chunks c)) same here)))))
 
   -- none is left below a kept node
-  pub kept_ends : (e : Expect) (bound : Key) (next : List Expect) (old now after : Held) (found last : Key) (l : Lasts) → kept e ≡ Some bound → is_below bound e.high ≡ true
+  pub kept_ends : (e : Expect) (bound : Key) (next : List Expect) (old now after : Held) (found last : Key) (l : Lasts) → kept e ≡ Some bound
+      → is_below bound e.high ≡ true
       → (e.level ≡ 0 → ⊥) → next ≡ []
       → EndsSoFar told waiting old now (left_ends e.level next found) (left_ends e.level (anew e) no_key)
       → l ≡ lasts → after ≡ with_ended now (record { expect = e; last = key_or (l e) found } ∷ []) → last ≡ key_or (l e) found
@@ -235,7 +249,8 @@ module _ (kept : Kept) (anew : Anew) (lasts : Lasts) (told : Option (List ℕ)) 
       same : last ≡ key_or (lasts e) found
       same = subst (λ (f : Lasts). last ≡ key_or (f e) found) of_lasts was
 
-      by : (t : Option (List ℕ)) → IfSome t (λ image. Joins old now (left_ends e.level next found (overlaid waiting 0 image)) (left_ends e.level (anew e) no_key (overlaid waiting 0 image)))
+      by : (t : Option (List ℕ)) → IfSome t (λ image. Joins old now (left_ends e.level next found (overlaid waiting 0 image)) (left_ends e.level
+          (anew e) no_key (overlaid waiting 0 image)))
           → HoldsLast t waiting old after last (ends_in kept anew lasts sup chunks e)
       by None s = tt
       by (Some image) s =
@@ -244,20 +259,23 @@ module _ (kept : Kept) (anew : Anew) (lasts : Lasts) (told : Option (List ℕ)) 
           let joins : Joins old now (none_more found) under = subst (λ es. Joins old now (left_ends e.level es found x) under) none s in
           let key = ap (key_or (lasts e)) joins.last in
           held_is e old after last x (end_keeping e (lasts e) under)
-          (kept_is e bound x is below ∙ ap (end_keeping e (lasts e)) (ends_node kept anew lasts e.level sup (stored_in x chunks sup.nodesize) no_key (anew e) node))
+          (kept_is e bound x is below ∙ ap (end_keeping e (lasts e)) (ends_node kept anew lasts e.level sup
+          (stored_in x chunks sup.nodesize) no_key (anew e) node))
           (joined old now after e (key_or (lasts e) found) found under joins blocks ∙ ap (λ k. with_ended old (end_at e k under.blocks).blocks) key)
           (same ∙ key)
 
   -- none is left below a node that is read
   pub read_node_ends : (e : Expect) (bytes : List ℕ) (next : List Expect) (old now after : Held) (last : Key) → kept e ≡ None
-      → (e.level ≡ 0 → ⊥) → IfSome told (λ image. block_in (stored_in (overlaid waiting 0 image) chunks sup.nodesize) sup.fsid e ≡ Ok bytes) → next ≡ []
+      → (e.level ≡ 0 → ⊥) → IfSome told (λ image. block_in (stored_in (overlaid waiting 0 image) chunks sup.nodesize) sup.fsid e ≡ Ok bytes)
+      → next ≡ []
       → EndsSoFar told waiting old now (left_ends e.level next last) (left_ends e.level (children_of (e.level - 1) e (pointers_from bytes 0)) no_key)
       → after ≡ with_ended now (record { expect = e; last = last } ∷ [])
       → HoldsLast told waiting old after last (ends_in kept anew lasts sup chunks e)
   read_node_ends e bytes next old now after last is node read none so blocks = by told read so.ends
     where
       by : (t : Option (List ℕ)) → IfSome t (λ image. block_in (stored_in (overlaid waiting 0 image) chunks sup.nodesize) sup.fsid e ≡ Ok bytes)
-          → IfSome t (λ image. Joins old now (left_ends e.level next last (overlaid waiting 0 image)) (left_ends e.level (children_of (e.level - 1) e (pointers_from bytes 0)) no_key (overlaid waiting 0 image)))
+          → IfSome t (λ image. Joins old now (left_ends e.level next last (overlaid waiting 0 image)) (left_ends e.level (children_of
+          (e.level - 1) e (pointers_from bytes 0)) no_key (overlaid waiting 0 image)))
           → HoldsLast t waiting old after last (ends_in kept anew lasts sup chunks e)
       by None r s = tt
       by (Some image) r s =

@@ -139,7 +139,7 @@ node_keys : (e : Expect) (pointers : List Pointer) → item_keys (pointer_record
 node_keys e [] = refl
 node_keys e (pointer ∷ pointers) = node_keys e pointers
 
-node_own : (sup : Super) (e : Expect) (bytes : List ℕ) (entries : List Seen) → (e.level == 0) ≡ false
+pub node_own : (sup : Super) (e : Expect) (bytes : List ℕ) (entries : List Seen) → (e.level == 0) ≡ false
     → entry_records sup e bytes ≡ Ok entries → item_keys (entries ++ []) ≡ []
 node_own sup e bytes entries node is =
     let here : Ok (pointer_records e (pointers_of bytes)) ≡ entry_records sup e bytes = rw node refl in

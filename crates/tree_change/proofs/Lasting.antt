@@ -68,7 +68,7 @@ items_then : (P : Expect → Type 0) (first later : Trail) (high : Option Key) �
 items_then P (Err finding) later high all = elim all [ ]
 items_then P (Ok visits) later high all = items_after P visits later high (visits_later P visits later all)
 
-items_block : (P : Expect → Type 0) (below : Expect → List ℕ → Trail) (sup : Super) (stored : Stored) (e : Expect) (a : Accepts sup stored e) (high : Option Key) → Visits P (below e a.bytes)
+pub items_block : (P : Expect → Type 0) (below : Expect → List ℕ → Trail) (sup : Super) (stored : Stored) (e : Expect) (a : Accepts sup stored e) (high : Option Key) → Visits P (below e a.bytes)
     → items_upto (trail_and below sup stored e) high ≡ (items_below a.entries high && items_upto (below e a.bytes) high)
 items_block P below sup stored e a high all =
     ap (λ t. items_upto t high) (walk_accepted below sup stored e a)
@@ -86,7 +86,7 @@ leaf_items at (item ∷ items) entries high is =
     let rest = one_own item at (item_record at item.key item.bytes) (each (λ item. just (leaf_record at item)) items) entries is in
     sym (ap (λ es. items_below es high) rest.3) ∙ ap (λ b. is_below item.key high && b) (leaf_items at items rest.1 high rest.2)
 
-leaf_keys : (sup : Super) (e : Expect) (bytes : List ℕ) (entries : List Seen) (high : Option Key) → e.level ≡ zero → entry_records sup e bytes ≡ Ok entries → items_below entries high ≡ keys_below (keys_at zero bytes) high
+pub leaf_keys : (sup : Super) (e : Expect) (bytes : List ℕ) (entries : List Seen) (high : Option Key) → e.level ≡ zero → entry_records sup e bytes ≡ Ok entries → items_below entries high ≡ keys_below (keys_at zero bytes) high
 unfolding leaf_records
 leaf_keys sup e bytes entries high at is =
     let leaf : (e.level == 0) ≡ true = rw at refl in

@@ -45,6 +45,7 @@ pub mod OldTells
 pub mod OldSupers
 pub mod MetWalk
 pub mod EndWalk
+pub mod EndsTold
 pub mod Stopping
 pub mod MeetingStops
 pub mod Premises

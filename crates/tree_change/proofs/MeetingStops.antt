@@ -83,7 +83,7 @@ not_ok : (finding : Finding) → IsOk {T = List Seen} {E = Finding} (Err finding
 not_ok finding h = cc
 
 -- where blocks are kept soundly, the whole walk from a kept block on whose greatest key is too great has a finding
-no_walk : (kept : Kept) (anew : Anew) (sup : Super) (stored : Stored) (e : Expect) (last : Key) → IsSound e.tree kept nothing anew sup stored
+pub no_walk : (kept : Kept) (anew : Anew) (sup : Super) (stored : Stored) (e : Expect) (last : Key) → IsSound e.tree kept nothing anew sup stored
     → kept e ≡ Some last → is_below last e.high ≡ false → IsOk (walk_of sup stored e) → ⊥
 no_walk kept anew sup stored e last sound is above fine = by (trail_of sup stored e) refl (tells sup stored e)
   where

@@ -24,6 +24,7 @@ pub mod MovedLaw
 pub mod ShiftedLaw
 pub mod MarksLaw
 pub mod LastLaw
+pub mod EndsLaw
 pub mod Stopping
 pub mod MeetingLaw
 pub mod MergedLaw
