@@ -267,6 +267,8 @@ pub fn array_sound_law()
 /// Any two chunks of a system array lie apart or are the same: an array may have a chunk twice.
 pub fn array_apart_law()
     ensures { ArrayApartLaw }
+{}
+
 /// The walk that keeps blocks tells of each block that it comes to, behind all below it, the greatest key in it or below it as it is
 /// now, where blocks are kept by what is known of the tree as it was.
 pub fn ends_law()
