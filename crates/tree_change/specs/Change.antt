@@ -21,35 +21,18 @@ use Rattle.records.specs.Owned.{owned_part}
 use Rattle.records.specs.Part.{Located}
 use Rattle.records.specs.Seen.{Seen}
 use Rattle.records.specs.Seen.Seen.{ItemSeen}
-use Rattle.tree_change.specs.LivePairs.{Walked, live_in, table_of, walked}
-use Rattle.tree_change.specs.Shared.{are_alike, is_shared, unshared_in}
+use Rattle.shared_trees.specs.LivePairs.{Walked, live_in, table_of, walked}
+use Rattle.shared_trees.specs.Shared.{are_alike, is_shared, unshared_in}
 use Rattle.touched_pairs.specs.Touched.{Written, written_in}
+use Rattle.shared_trees.specs.MergedLaw.{IsInOrder}
+use Rattle.shared_trees.specs.ShiftedLaw.{shifted_in}
+use Rattle.shared_trees.specs.Unshared.{items_in}
+use Rattle.tree_change.specs.Gathered.{located_item}
+use Rattle.tree_change.specs.Merging.{root_at}
 use Rattle.tree_change.specs.declared.change.Change.{Change}
 use Rattle.tree_change.specs.declared.change.Diff.{Diff}
 use Rattle.tree_change.specs.declared.change.Diff.TheVariants.{Found, Change as Changed}
 use Rattle.records.specs.declared.owned.ItemAt.{ItemAt}
-
--- an item of a leaf that is one of these pairs
-abbrev pub item_of_pairs : List Live → Seen → Option Located
-item_of_pairs lives (ItemSeen one) = if list_any (λ live. live.tree == one.tree && live.address == one.block) lives then Some one else None
-item_of_pairs lives other = None
-
--- the items among records that stand in the leaves of these pairs
-abbrev pub items_in : List Live → List Seen → List Located
-items_in lives seen = filter_map (item_of_pairs lives) seen
-
--- what an owned item says, and where
-abbrev pub located_item : ItemAt → Located
-located_item item = record { tree = item.tree; block = item.block; key = item.key; part = owned_part item.part }
-
--- whether the node above a pair or its greatest key is another than that of the alike one among these
-abbrev pub is_shifted : List Live → Live → Bool
-is_shifted before live = list_any (λ one. are_alike one live && not (one.parent == live.parent && key_same one.last live.last)) before
-
--- the pairs of the new image that are shared, and whose node above or greatest key was another
-abbrev pub shifted_in : Walked → Walked → Written → ℕ → List Live
-shifted_in old new written end =
-    filter (λ live. is_shared old new written end live && is_shifted (live_in old.seen) live) (live_in new.seen)
 
 -- whether a pair comes before another by address and tree, and an item before another by tree and key
 abbrev pub is_before : Live → Live → Bool
@@ -57,11 +40,6 @@ is_before a b = comes_before a.address a.tree b.address b.tree
 
 abbrev pub item_before : Located → Located → Bool
 item_before a b = nat_lt a.tree b.tree || (a.tree == b.tree && key_below a.key b.key)
-
--- a list has these, each before all later ones
-pub record IsInOrder {A : Type 0} (before : A → A → Bool) (whole list : List A) : Type 0 where
-  pub all : IsPermutation whole list
-  pub ascends : AllPairs (λ a b. before a b ≡ true) list
 
 -- What changes from an old image to a new one on a device of end bytes: the pairs that are not shared, of the old image and of the new
 -- one; the shared ones that are shifted, with what is known of them now; the items of the leaves that are not shared; the new chunks
@@ -78,10 +56,6 @@ abbrev pub IsDifference : List ℕ → List ℕ → Written → Diff → Type 0
 IsDifference image judged written (Found finding) = contents judged ≡ Err finding
 IsDifference image judged written (Changed change) =
     (old : Walked) × (new : Walked) × (walked image ≡ Ok old) × (walked judged ≡ Ok new) × IsChange old new written (length image) change
-
--- what a root item says of where its tree begins
-abbrev pub root_at : RootItem → RootAt
-root_at root = record { key = root.key; address = root.bytenr; generation = root.generation; level = root.level }
 
 -- what is known of an image that is accepted is what it holds: its superblock, its chunks, its root items in the order of their keys,
 -- whether an inode's data has no checksums, and the table of its live pairs

@@ -3,7 +3,8 @@ use node_reader::{Expect, Pointer};
 use recon_disk::Steps;
 use std::alloc::Global;
 use touched_pairs::Marks;
-use tree_change::{Keeps, OldTree, Path, PathStep, Start, Starts, stops_of};
+use shared_trees::{Keeps, OldTree, Start, Starts, stops_of};
+use tree_change::{Path, PathStep};
 use verdict::{Key, NoMemory};
 
 // The step at a block of this level, from which the way goes on at this child.

@@ -12,7 +12,7 @@ use std::process::Abort;
 use std::test::Fail;
 use super_reader::read_super;
 use touched_pairs::{Move, touched_pairs};
-use tree_change::{KnownTree, Starts, walk_changed};
+use shared_trees::{KnownTree, Starts, walk_changed};
 use verdict::kinds::{INODE_ITEM, INODE_REF};
 use verdict::{Chunk, Family, Key, NoMemory};
 use write_cache::WriteCache;

@@ -1,0 +1,117 @@
+-- Where the calls that mark and list by a table of live pairs keep their promises, the trees of an image are marked and listed.
+use Rattle.std.proofs.Common.{◌≡◌, ℕ, ◌+◌, ◌<◌, ◌≤◌, Bool, true, false, List, [], ◌∷◌, length, inl, inr, arith, if◌then◌else◌}
+use Rattle.std.specs.Prelude.{Option, Some, None, Ok, nat_le}
+use Rattle.std.specs.List.{All, AllByRecursion}
+use Rattle.std.specs.Ordering.{nat_cmp}
+use Rattle.std.specs.FinMap.{FinMap}
+use Rattle.verdict.specs.declared.place.Chunk.{Chunk}
+use Rattle.verdict.proofs.Tables.{joined_none}
+use Rattle.write_cache.specs.Cache.{overlaid}
+use Rattle.volume_items.specs.ChunkOrder.{all_by_start, by_start, put_by_start}
+use Rattle.volume_items.specs.MapRules.{array_rows, rows_by_start}
+use Rattle.live_index.specs.Pairs.{Pairs}
+use Rattle.touched_pairs.specs.Marking.{AreMarkedFrom}
+use Rattle.touched_pairs.specs.Marks.{no_mark}
+use Rattle.touched_pairs.specs.Moves.{AreApart, LieApart, held_and_moved}
+use Rattle.touched_pairs.specs.Spots.{at_address}
+use Rattle.touched_pairs.specs.Touched.{written_in}
+use Rattle.shared_trees.specs.Keeping.{AreMarked, Marks, Stands, Under}
+use Rattle.shared_trees.specs.LivePairs.{Walked, live_in, table_of, walked}
+use Rattle.shared_trees.specs.Listed.{AreListedBy}
+use Rattle.shared_trees.specs.SharedLaw.{HasTrees, MarksTouched, moves_between, touches_old}
+use Rattle.shared_trees.specs.ShiftedLaw.{MovesListed}
+use Rattle.shared_trees.specs.TableLaw.{Tree}
+use Rattle.shared_trees.proofs.ArrayTree.{Chain, above, chain_of, put_each}
+use Rattle.shared_trees.proofs.Forest.{stands_as, tables_stand}
+use Rattle.shared_trees.proofs.Listing.{lists}
+use Rattle.shared_trees.proofs.MarkedTrees.{marks_image, moves_image}
+use Rattle.shared_trees.proofs.Picking.{each_both, each_map}
+use Rattle.shared_trees.proofs.Treed.{map_kept, nodesize_some, steps_of, trees_walk}
+
+flip : (c d : Chunk) → LieApart c d → LieApart d c
+flip c d (inl is) = inr is
+flip c d (inr is) = inl is
+
+-- chunks each of which begins where the one before it ends, or above, lie apart
+chain_apart : (last : Option Chunk) (chunks : List Chunk) → Chain last chunks → AreApart chunks
+chain_apart last [] chain = tt
+chain_apart last (c ∷ cs) chain = (
+  each_map (λ d. c.start + c.length ≤ d.start) (LieApart c) cs (λ d low. inl low) (above (c.start + c.length) c cs chain.1 (omega arith)),
+  chain_apart (Some c) cs chain.1,
+)
+
+-- chunks of which one is put at its place lie apart without it, and from it
+put_apart : (c : Chunk) (sorted : List Chunk) → AreApart (put_by_start c sorted) → AllByRecursion (LieApart c) sorted × AreApart sorted
+put_apart c [] apart = (tt, tt)
+put_apart c (d ∷ sorted) apart = by (nat_le d.start c.start) apart (put_apart c sorted)
+  where
+    by : (b : Bool) → AreApart (if b then d ∷ put_by_start c sorted else c ∷ d ∷ sorted)
+        → (AreApart (put_by_start c sorted) → AllByRecursion (LieApart c) sorted × AreApart sorted)
+        → AllByRecursion (LieApart c) (d ∷ sorted) × AreApart (d ∷ sorted)
+    by true apart rest =
+        let here = put_each (LieApart d) c sorted apart.0 in
+        let more = rest apart.1 in
+        ((flip d c here.0, more.0), (here.1, more.1))
+    by false apart rest = apart
+
+-- where chunks by start lie apart, they lie apart in any order
+all_apart : (sorted chunks : List Chunk) → AreApart (all_by_start sorted chunks)
+    → AllByRecursion (λ d. AllByRecursion (LieApart d) sorted) chunks × AreApart sorted × AreApart chunks
+unfolding all_by_start
+all_apart sorted [] apart = (tt, apart, tt)
+all_apart sorted (c ∷ chunks) apart =
+    let more = all_apart (put_by_start c sorted) chunks apart in
+    let here = put_apart c sorted more.1 in (
+      (
+        here.0,
+        each_map (λ d. AllByRecursion (LieApart d) (put_by_start c sorted)) (λ d. AllByRecursion (LieApart d) sorted) chunks
+            (λ d all. (put_each (LieApart d) c sorted all).1) more.0,
+      ),
+      here.1,
+      (
+        each_map (λ d. AllByRecursion (LieApart d) (put_by_start c sorted)) (LieApart c) chunks
+            (λ d all. flip d c (put_each (LieApart d) c sorted all).0) more.0,
+        more.2,
+      ),
+    )
+
+-- the chunks of an image lie apart
+pub chunks_apart : (image : List ℕ) (whole : Walked) → walked image ≡ Ok whole → AreApart whole.chunks
+chunks_apart image whole walks =
+    let steps = steps_of image whole walks in
+    let none = map_kept whole.sup steps.array whole.chunks image steps.chunks_are in
+    let both = joined_none (array_rows whole.chunks steps.array) (rows_by_start [] (by_start whole.chunks) (length image)) none in
+    (all_apart [] whole.chunks (chain_apart None (by_start whole.chunks) (chain_of [] (by_start whole.chunks) (length image) both.1))).2
+
+-- From what the calls promise that mark the pairs that writes touch and those whose block moved, and that list the moved children, by the
+-- table of the old pairs: all old trees are marked, and their moved children are listed.
+pub premises : (image : List ℕ) (pending : FinMap nat_cmp ℕ) (old new : Walked) (before : List Tree) (pairs : Pairs) (marked moving : Marks)
+    (under : Under)
+    → All (λ byte. byte < 256) image → HasTrees image old before → walked (overlaid pending 0 image) ≡ Ok new
+    → ((tree address : ℕ) → pairs tree address ≡ table_of (live_in old.seen) tree address)
+    → AreMarkedFrom pairs (at_address (touches_old old (written_in pending) (length image)))
+    (at_address (touches_old old (written_in pending) (length image))) no_mark marked
+    → (AreApart new.chunks → 0 < old.sup.nodesize
+    → AreMarkedFrom pairs (at_address (held_and_moved old.chunks new.chunks old.sup.nodesize (length image)))
+    (at_address (moves_between old new (length image))) no_mark moving)
+    → AreListedBy pairs moving under
+    → AllByRecursion (MarksTouched old (written_in pending) (length image) marked) before
+    × AllByRecursion (MovesListed old new (length image) moving under) before
+premises image pending old new before pairs marked moving under bytes has walks pairs_are touched moved listed =
+    let table = table_of (live_in old.seen) in
+    let walk = trees_walk image old before has in
+    let test = at_address (touches_old old (written_in pending) (length image)) in
+    let from = moved (chunks_apart (overlaid pending 0 image) new walks)
+    (nodesize_some image old.sup (steps_of image old has.walks).sup_is) in
+    let moves = moves_image image old before pairs new.chunks (length image) moving bytes has pairs_are from in
+    let stand = tables_stand old.sup before old.seen walk.0 walk.1 in (
+      marks_image image old before pairs test test marked bytes has pairs_are (λ tree address some is. is) touched,
+      each_map (λ (tree : Tree). Stands table old.sup tree.0 tree.1
+          × AreMarked moving (moves_between old new (length image)) old.sup tree.0 tree.1) (MovesListed old new (length image) moving under) before
+          (λ tree h. record {
+            marks = h.1;
+            lists = lists pairs moving under old.sup tree.0 tree.1 (stands_as old.sup tree table pairs (pairs_are tree.1.tree) h.0) listed;
+          })
+          (each_both (λ (tree : Tree). Stands table old.sup tree.0 tree.1)
+          (λ tree. AreMarked moving (moves_between old new (length image)) old.sup tree.0 tree.1) before stand moves),
+    )

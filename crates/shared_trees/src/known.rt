@@ -1,0 +1,183 @@
+//! What is known of a tree as it was, and which of its blocks are kept by it.
+
+ghost use Rattle.std.specs.Prelude.{◌≡◌, ◌+◌, ◌-◌, ◌∷◌, ◌<◌, length, drop};
+ghost use Rattle.live_index.specs.Table.{pairs_of};
+ghost use Rattle.touched_pairs.specs.Marks.{marked_by};
+ghost use Rattle.touched_pairs.specs.Moves.{move_passes};
+ghost use Rattle.shared_trees.specs.Keeping.{anew_of, bound_of, is_first, is_same, last_if_same, or_high, start_of, starts_of};
+ghost use Rattle.shared_trees.specs.Known.{ended_by, is_last_walked, kept_by, lasts_by, listed_by, met_by};
+ghost use Rattle.shared_trees.specs.Under.{under_of};
+
+use crate::keeps::{Ended, Keeps};
+use crate::starts::{Start, Starts};
+use live_index::{Live, LiveIndex};
+use node_reader::Expect;
+use recon_disk::Steps;
+use touched_pairs::{AddressTest, Marks, Move};
+use verdict::{Key, NoMemory};
+
+/// What is known of a tree as it was: its live pairs, the marks of those that writes touch and of all above them, which blocks stand at
+/// another place now, and the children that moved or are above one that did. Each block that is
+/// asked for looks at most once into the table, and once more for its greatest key.
+#[derive(Drop)]
+pub struct KnownTree<'a, 's, L> {
+    /// The live pairs.
+    pub table: &'a LiveIndex<L>,
+    /// The pairs that a write touches, and all above them.
+    pub marks: &'a Marks,
+    /// Which blocks stand at another place.
+    pub moves: &'a Move<'a>,
+    /// The children that are walked below kept blocks.
+    pub starts: &'a Starts,
+    /// The counter of looks into the table.
+    pub steps: &'s mut Steps<L>,
+    /// The kept blocks that the walk met so far.
+    pub met: &'s mut Vec<Expect>,
+    /// The blocks that the walk is done with so far, each with its greatest key.
+    pub ended: &'s mut Vec<Ended>,
+}
+
+impl<'a, 's, L> Keeps for KnownTree<'a, 's, L> {
+    ghost keeps = { kept_by };
+
+    ghost anew = { listed_by };
+
+    ghost met = { met_by };
+
+    ghost lasts = { lasts_by };
+
+    ghost ended = { ended_by };
+
+    #[tactic(auto, unfolding(crate::specs::Keeping::kept_of))]
+    fn kept(&mut self, e: &Expect) -> Option<Key> {
+        if self.marks.has(e.tree, e.address) || self.moves.passes(e.address) {
+            return None;
+        }
+        bound_known(self.table, self.starts, e, self.steps)
+    }
+
+    #[tactic(auto, unfolding(crate::specs::Meeting::with_met))]
+    fn meet(&mut self, e: &Expect) -> Result<(), NoMemory> {
+        match self.met.push(*e) {
+            Ok(()) => Ok(()),
+            Err(_) => Err(NoMemory),
+        }
+    }
+
+    fn count(&self, e: &Expect) -> usize {
+        count_below(self.starts, e)
+    }
+
+    fn next(&mut self, e: &Expect, i: usize) -> Expect {
+        next_below(self.starts, e, i)
+    }
+
+    #[tactic(auto, unfolding(crate::specs::Known::last_of))]
+    fn last(&mut self, e: &Expect) -> Option<Key> {
+        if is_last_walked(self.starts.of(e.tree, e.address)) {
+            return None;
+        }
+        let live = self.table.get(e.tree, e.address, self.steps)?;
+        Some(live.last)
+    }
+
+    #[tactic(auto, unfolding(crate::specs::Ending::with_ended))]
+    fn end(&mut self, e: &Expect, last: Key) -> Result<(), NoMemory> {
+        match self.ended.push(Ended { expect: *e, last }) {
+            Ok(()) => Ok(()),
+            Err(_) => Err(NoMemory),
+        }
+    }
+}
+
+// The greatest key that is sure to stand in the block that is expected, or below it, where a table knows it as it is expected.
+pub(crate) fn bound_known<L>(
+    table: &LiveIndex<L>,
+    starts: &Starts,
+    e: &Expect,
+    steps: &mut Steps<L>,
+) -> Option<Key>
+    ensures value { result ≡ last_if_same e.now (under_of starts.now (e.now).tree (e.now).address)
+        (pairs_of table.now (e.now).tree (e.now).address) }
+{
+    let live = table.get(e.tree, e.address, steps)?;
+    if is_same(e, &live) {
+        Some(bound(starts.of(e.tree, e.address), live.last))
+    } else {
+        None
+    }
+}
+
+// How many children are listed below the block that is expected.
+#[tactic(auto, using(crate::proofs::Knowing::starts_length))]
+pub(crate) fn count_below(starts: &Starts, e: &Expect) -> usize
+    ensures { result ≡ length (anew_of (under_of starts.now) e.now) }
+{
+    starts.of(e.tree, e.address).len()
+}
+
+// What is expected of one of these, by its number in their order.
+#[tactic(auto, using(crate::proofs::Knowing::starts_length, crate::proofs::Knowing::starts_more))]
+pub(crate) fn next_below(starts: &Starts, e: &Expect, i: usize) -> Expect
+    requires inside { i < length (anew_of (under_of starts.now) e.now) }
+    ensures next { drop i (anew_of (under_of starts.now) e.now)
+        ≡ result ∷ drop (i + 1) (anew_of (under_of starts.now) e.now) }
+    ensures level { result.level ≡ e.now.level - 1 }
+{
+    let start = starts.of(e.tree, e.address)[i];
+    expected(e, &start)
+}
+
+// Whether the last child of a block is among those that are walked: no pointer follows it.
+fn is_last_walked(starts: &[Start]) -> bool
+    ensures { result ≡ is_last_walked starts.now }
+{
+    starts.iter().any(|start| start.next.is_none())
+}
+
+// What is expected of a child that is walked below a block.
+fn expected(e: &Expect, start: &Start) -> Expect
+    ensures { result ≡ start_of (e.now.level - 1) e.now start.now }
+{
+    Expect {
+        tree: e.tree,
+        address: start.pointer.address,
+        generation: start.pointer.generation,
+        level: e.level.saturating_sub(1),
+        low: Some(start.pointer.key),
+        high: start.next.or(e.high),
+        parent: e.address,
+    }
+}
+
+// The greatest key that is sure to stand in a block or below it, of which this was the greatest.
+#[tactic(auto, using(crate::proofs::Knowing::bound_here, crate::proofs::Knowing::bound_later))]
+fn bound(starts: &[Start], last: Key) -> Key
+    ensures { result ≡ bound_of starts.now last }
+{
+    for start in starts {
+        match start.next {
+            None => return start.pointer.key,
+            Some(_) => {}
+        }
+    }
+    last
+}
+
+// Whether the block that is expected is the one that is known.
+fn is_same(e: &Expect, live: &Live) -> bool
+    ensures { result ≡ is_same e.now live.now }
+{
+    e.level == live.level && e.generation == live.generation && is_first(e, live)
+}
+
+// Whether the first key of a block is the one that is expected. A root expects none, and has no high key. An empty leaf, whose first key
+// is above its greatest one, is a root alone.
+fn is_first(e: &Expect, live: &Live) -> bool
+    ensures { result ≡ is_first live.now e.now.low e.now.high }
+{
+    match e.low {
+        None => e.high.is_none(),
+        Some(low) => live.first == low && live.last >= live.first,
+    }
+}

@@ -1,7 +1,0 @@
-use Rattle.std.proofs.Common.{◌≡◌, drop}
-use Rattle.tree_change.specs.Keeping.{bound_of}
-use Rattle.tree_change.proofs.known.bound.Given as goal
-
--- the children that are left decide
-abbrev pub invariant-loop-start : goal.invariant-loop-start
-invariant-loop-start l = bound_of (drop l.start-index l.starts) l.last ≡ bound_of l.starts l.last

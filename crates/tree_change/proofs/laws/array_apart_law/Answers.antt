@@ -1,5 +1,0 @@
-use Rattle.tree_change.proofs.ArrayApart.{array_apart}
-use Rattle.tree_change.proofs.laws.array_apart_law.Goals as goal
-
-pub returns : goal.returns
-returns c = array_apart

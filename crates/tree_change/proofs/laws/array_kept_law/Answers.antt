@@ -1,5 +1,0 @@
-use Rattle.tree_change.proofs.ArrayKept.{kept_by_array}
-use Rattle.tree_change.proofs.laws.array_kept_law.Goals as goal
-
-pub returns : goal.returns
-returns c = kept_by_array

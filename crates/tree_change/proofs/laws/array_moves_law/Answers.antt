@@ -1,5 +1,0 @@
-use Rattle.tree_change.proofs.ArrayMoves.{array_moves}
-use Rattle.tree_change.proofs.laws.array_moves_law.Goals as goal
-
-pub returns : goal.returns
-returns c = array_moves

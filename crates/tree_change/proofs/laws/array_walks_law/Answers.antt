@@ -1,5 +1,0 @@
-use Rattle.tree_change.proofs.ArrayWalks.{array_walks}
-use Rattle.tree_change.proofs.laws.array_walks_law.Goals as goal
-
-pub returns : goal.returns
-returns c = array_walks

@@ -1,5 +1,0 @@
-use Rattle.tree_change.proofs.OldTells.{gone}
-use Rattle.tree_change.proofs.laws.gone_law.Goals as goal
-
-pub returns : goal.returns
-returns c = gone

@@ -1,5 +1,0 @@
-use Rattle.tree_change.proofs.KnownShared.{knows_shared}
-use Rattle.tree_change.proofs.laws.known_shared_law.Goals as goal
-
-pub returns : goal.returns
-returns c = knows_shared

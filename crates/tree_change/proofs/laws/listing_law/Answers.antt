@@ -1,5 +1,0 @@
-use Rattle.tree_change.proofs.Listing.{lists}
-use Rattle.tree_change.proofs.laws.listing_law.Goals as goal
-
-pub returns : goal.returns
-returns c = lists

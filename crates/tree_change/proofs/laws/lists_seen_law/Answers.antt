@@ -1,5 +1,0 @@
-use Rattle.tree_change.proofs.MergedLists.{lists_seen}
-use Rattle.tree_change.proofs.laws.lists_seen_law.Goals as goal
-
-pub returns : goal.returns
-returns c = lists_seen

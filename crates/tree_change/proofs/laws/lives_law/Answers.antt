@@ -1,5 +1,0 @@
-use Rattle.tree_change.proofs.Lives.{lives_are}
-use Rattle.tree_change.proofs.laws.lives_law.Goals as goal
-
-pub returns : goal.returns
-returns c = lives_are

@@ -1,5 +1,0 @@
-use Rattle.tree_change.proofs.MarkedTrees.{moves_image}
-use Rattle.tree_change.proofs.laws.moves_law.Goals as goal
-
-pub returns : goal.returns
-returns c = moves_image

@@ -1,5 +1,0 @@
-use Rattle.tree_change.proofs.OldSide.{old_side}
-use Rattle.tree_change.proofs.laws.old_side_law.Goals as goal
-
-pub returns : goal.returns
-returns c = old_side

@@ -1,5 +1,0 @@
-use Rattle.tree_change.proofs.Images.{read_alike}
-use Rattle.tree_change.proofs.laws.read_alike_law.Goals as goal
-
-pub returns : goal.returns
-returns c = read_alike

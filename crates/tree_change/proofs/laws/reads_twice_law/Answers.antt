@@ -1,5 +1,0 @@
-use Rattle.tree_change.proofs.OldBlocks.{reads_twice}
-use Rattle.tree_change.proofs.laws.reads_twice_law.Goals as goal
-
-pub returns : goal.returns
-returns c = reads_twice

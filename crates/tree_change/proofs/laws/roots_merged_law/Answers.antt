@@ -1,5 +1,0 @@
-use Rattle.tree_change.proofs.MergedLists.{roots_merge}
-use Rattle.tree_change.proofs.laws.roots_merged_law.Goals as goal
-
-pub returns : goal.returns
-returns c = roots_merge

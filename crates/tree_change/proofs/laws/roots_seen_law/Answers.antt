@@ -1,5 +1,0 @@
-use Rattle.tree_change.proofs.MergedLists.{roots_are_seen}
-use Rattle.tree_change.proofs.laws.roots_seen_law.Goals as goal
-
-pub returns : goal.returns
-returns c = roots_are_seen

@@ -1,5 +1,0 @@
-use Rattle.tree_change.proofs.Images.{stored_alike}
-use Rattle.tree_change.proofs.laws.stored_alike_law.Goals as goal
-
-pub returns : goal.returns
-returns c = stored_alike

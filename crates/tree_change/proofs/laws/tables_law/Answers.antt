@@ -1,5 +1,0 @@
-use Rattle.tree_change.proofs.Forest.{tables_stand}
-use Rattle.tree_change.proofs.laws.tables_law.Goals as goal
-
-pub returns : goal.returns
-returns c = tables_stand

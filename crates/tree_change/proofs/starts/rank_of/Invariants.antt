@@ -1,7 +1,0 @@
-use Rattle.std.proofs.Common.{◌≡◌, ◌+◌, drop}
-use Rattle.tree_change.specs.Listing.{rank_of}
-use Rattle.tree_change.proofs.starts.rank_of.Given as goal
-
--- all that were looked at come before it
-abbrev pub invariant-loop-i : goal.invariant-loop-i
-invariant-loop-i l = rank_of l.start l.starts ≡ l.i + rank_of l.start (drop l.i l.starts)
