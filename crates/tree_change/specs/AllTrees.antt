@@ -1,10 +1,9 @@
 -- What changes in all trees of an image, from what changes in each.
-use Rattle.std.specs.Prelude.{ℕ, ◌≡◌, ◌==◌, ◌+◌, true, List, [], ◌∷◌, ◌++◌, length, map, Option, Some, None, Result, Ok, Err, if◌then◌else◌}
+use Rattle.std.specs.Prelude.{ℕ, ◌≡◌, ◌==◌, ◌+◌, ◌⊎◌, Bool, true, List, [], ◌∷◌, ◌++◌, length, map, Option, Some, None, Result, Ok, Err, if◌then◌else◌}
 use Rattle.std.specs.List.{AllByRecursion, list_any}
 use Rattle.std.specs.List.Sorted.{IsPermutation}
 use Rattle.std.specs.Ordering.{nat_cmp}
 use Rattle.std.specs.FinMap.{FinMap}
-use Rattle.std.specs.Prelude.{Bool}
 use Rattle.verdict.specs.Rules.{and_then}
 use Rattle.verdict.specs.declared.finding.Finding.{Finding}
 use Rattle.verdict.specs.declared.place.Chunk.{Chunk}
@@ -82,7 +81,7 @@ gone_all pairs known was news (root ∷ olds) =
 pub record KnowsTrees (image : List ℕ) (pending : FinMap nat_cmp ℕ) (old : Walked) (trees : List Tree) (is : Side) (known : Known) : Type 0 where
   pub alike : are_read_alike old.sup is.sup ≡ true
   pub pairs_are : (tree address : ℕ) → known.pairs tree address ≡ table_of (live_in old.seen) tree address
-  pub moved_is : (address : ℕ) → known.moved address ≡ is_moved old.chunks is.chunks old.sup.nodesize (length image) address
+  pub moved_is : known.moved ≡ is_moved old.chunks is.chunks old.sup.nodesize (length image)
   pub marks : AllByRecursion (MarksTouched old (written_in pending) (length image) known.marked) trees
   pub moving : Marks
   pub moves : AllByRecursion (MovesListedBy old is.chunks (length image) moving known.under) trees

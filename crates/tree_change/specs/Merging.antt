@@ -1,8 +1,7 @@
 -- Lists that are merged of what was, without what is gone, and of what came, in order.
-use Rattle.std.specs.Prelude.{◌≡◌, false, not, List, ◌++◌, Option, Some, None}
+use Rattle.std.specs.Prelude.{◌≡◌, Bool, false, not, List, ◌++◌, Option, Some, None}
 use Rattle.std.specs.List.{AllPairs, filter, filter_map, list_any}
 use Rattle.std.specs.List.Sorted.{IsPermutation}
-use Rattle.std.specs.Prelude.{Bool}
 use Rattle.verdict.specs.OnDisk.{key_below, key_same}
 use Rattle.verdict.specs.declared.place.Chunk.{Chunk}
 use Rattle.volume_items.specs.declared.root.RootItem.{RootItem}

@@ -1,5 +1,5 @@
 -- What changes in one tree, by the definitions: its pairs that are not shared or that are shifted, and the items of the first.
-use Rattle.std.specs.Prelude.{ℕ, ◌≡◌, ◌==◌, ◌+◌, ◌&&◌, true, false, not, List, [], ◌∷◌, length, Option, Some, None, IfSome, Ok, Err, Bool}
+use Rattle.std.specs.Prelude.{ℕ, ◌≡◌, ◌==◌, ◌+◌, ◌⊎◌, Bool, ◌&&◌, true, false, not, List, [], ◌∷◌, length, map, Option, Some, None, IfSome, Ok, Err}
 use Rattle.std.specs.List.{AllByRecursion, filter}
 use Rattle.std.specs.Ordering.{nat_cmp}
 use Rattle.std.specs.FinMap.{FinMap}
@@ -44,7 +44,7 @@ alone is seen = record { sup = is.sup; chunks = is.chunks; seen = seen }
 pub record KnowsTree (image : List ℕ) (pending : FinMap nat_cmp ℕ) (old : Walked) (is : Side) (known : Known) (before : Option Expect) : Type 0 where
   pub alike : are_read_alike old.sup is.sup ≡ true
   pub pairs_are : (tree address : ℕ) → known.pairs tree address ≡ table_of (live_in old.seen) tree address
-  pub moved_is : (address : ℕ) → known.moved address ≡ is_moved old.chunks is.chunks old.sup.nodesize (length image) address
+  pub moved_is : known.moved ≡ is_moved old.chunks is.chunks old.sup.nodesize (length image)
   pub marks : IfSome before (λ e. MarksTouched old (written_in pending) (length image) known.marked (old_tree image old e))
   pub moving : Marks
   pub moves : IfSome before (λ e. MovesListedBy old is.chunks (length image) moving known.under (old_tree image old e))
