@@ -17,14 +17,12 @@ use Rattle.shared_trees.specs.ArrayLaw.{IsAsByAll, chunk_tree_by, moves_by}
 use Rattle.shared_trees.specs.ArrayMoves.{ArrayMovesLaw}
 use Rattle.shared_trees.specs.Keeping.{AreMarked, IsKnown, Marks, OneOf, Stands, comes_to}
 use Rattle.shared_trees.specs.LivePairs.{live_in, table_of}
-use Rattle.shared_trees.specs.Marking.{AreNarrow}
 use Rattle.shared_trees.specs.TableLaw.{trees_in}
 use Rattle.shared_trees.proofs.Accepted.{accepts}
 use Rattle.shared_trees.proofs.ArrayPlaces.{array_is, array_walk, as_by_all}
 use Rattle.shared_trees.proofs.Climbing.{marks}
 use Rattle.shared_trees.proofs.Forest.{stands_as, tables_stand}
 use Rattle.shared_trees.proofs.MarkedTrees.{held_if}
-use Rattle.shared_trees.proofs.Narrow.{narrow}
 use Rattle.shared_trees.proofs.Picking.{each_both, each_map}
 use Rattle.shared_trees.proofs.Tables.{Any, any_each}
 use Rattle.shared_trees.proofs.Trails.{trail_below, trail_of}
@@ -77,7 +75,7 @@ known_at P sup stored tree address live (e ∷ es) all (inl here) = subst P here
 known_at P sup stored tree address live (e ∷ es) all (inr later) = known_at P sup stored tree address live es all.1 later
 
 pub array_moves : ArrayMovesLaw
-array_moves image old old_array array pairs moving bytes has pairs_are from =
+array_moves image old old_array array pairs moving are has pairs_are from =
     let s = steps_of image old has.walks in
     let n = old.sup.nodesize in
     let end = length image in
@@ -88,9 +86,6 @@ array_moves image old old_array array pairs moving bytes has pairs_are from =
     let olds = trees_walk image old before (has_trees image old s has.walks) in
     let stands : Stands pairs old.sup tree.0 tree.1 =
     stands_as old.sup tree (table_of (live_in old.seen)) pairs (pairs_are 3) (tables_stand old.sup before old.seen olds.0 olds.1).0 in
-    let are : AreNarrow pairs =
-    λ id address some. narrow image old bytes has.walks id address
-    (ap (λ (entry : Option Live). is_some entry) (sym (pairs_are id address)) ∙ some) in
     let alike = chunk_tree image old old_array has.walks has.array_is in
     let fine : IsOk (walk_of old.sup mine root) =
     subst (λ a. IsOk (walk_of old.sup (stored_in image a n) root)) (array_is image old old_array s has) (rw (array_walk image old s).1 refl) in

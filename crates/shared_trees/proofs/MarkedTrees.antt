@@ -18,7 +18,6 @@ use Rattle.touched_pairs.specs.Moves.{held_and_moved, is_moved}
 use Rattle.touched_pairs.specs.Spots.{at_address}
 use Rattle.shared_trees.specs.Keeping.{AreMarked, Marks, Stands, live_at}
 use Rattle.shared_trees.specs.LivePairs.{Walked, live_in, table_of}
-use Rattle.shared_trees.specs.Marking.{AreNarrow}
 use Rattle.shared_trees.specs.MarksLaw.{MarksLaw, MovesLaw}
 use Rattle.shared_trees.specs.TableLaw.{Tree}
 use Rattle.shared_trees.proofs.Accepted.{accepts}
@@ -26,7 +25,6 @@ use Rattle.shared_trees.proofs.Bounds.{and_parts}
 use Rattle.shared_trees.proofs.Climbing.{marks}
 use Rattle.shared_trees.proofs.Forest.{all_lives, lives_all, lives_of, stands_as, tables_stand}
 use Rattle.shared_trees.proofs.KeptImage.{IsOfImage, of_image}
-use Rattle.shared_trees.proofs.Narrow.{narrow}
 use Rattle.shared_trees.proofs.Picking.{each_both, each_map, is_there, one_of, table_some}
 use Rattle.shared_trees.proofs.Tables.{Any, any_each}
 use Rattle.shared_trees.proofs.Trails.{trail_below, trail_of}
@@ -46,12 +44,9 @@ both_from pairs must may marked fit from = record {
 }
 
 pub marks_image : MarksLaw
-marks_image image whole trees pairs must may marked bytes has pairs_are fit from =
+marks_image image whole trees pairs must may marked are has pairs_are fit from =
     let table = table_of (live_in whole.seen) in
     let walk = trees_walk image whole trees has in
-    let are : AreNarrow pairs =
-    λ tree address some. narrow image whole bytes has.walks tree address
-    (ap (λ (entry : Option Live). is_some entry) (sym (pairs_are tree address)) ∙ some) in
     each_map (λ (tree : Tree). Stands table whole.sup tree.0 tree.1)
     (λ tree. AreMarked marked (may tree.1.tree) whole.sup tree.0 tree.1) trees
     (λ tree stands. marks pairs may may marked whole.sup tree.0 tree.1
@@ -120,7 +115,7 @@ module _ (image : List ℕ) (whole : Walked) where
       subst (λ a. is_held a ≡ true) (eqb-true pick.0.address address (and_parts (pick.0.tree == id) (pick.0.address == address) pick.2).1) pick.1
 
 pub moves_image : MovesLaw
-moves_image image whole trees pairs new end moving bytes has pairs_are from =
+moves_image image whole trees pairs new end moving are has pairs_are from =
     let table = table_of (live_in whole.seen) in
     let walk = trees_walk image whole trees has in
     let held =
@@ -129,7 +124,7 @@ moves_image image whole trees pairs new end moving bytes has pairs_are from =
     (tables_stand whole.sup trees whole.seen walk.0 walk.1) (of_image image whole trees has)) in
     let lives = subst (AllByRecursion (IsHeld image whole)) (sym (lives_all whole.sup trees whole.seen walk.0 walk.1)) held in
     marks_image image whole trees pairs (at_address (held_and_moved whole.chunks new whole.sup.nodesize end))
-    (at_address (is_moved whole.chunks new whole.sup.nodesize end)) moving bytes has pairs_are
+    (at_address (is_moved whole.chunks new whole.sup.nodesize end)) moving are has pairs_are
     (λ tree address some moved.
     let here : is_held image whole address ≡ true =
     held_entry image whole (live_in whole.seen) lives tree address (table tree address) refl

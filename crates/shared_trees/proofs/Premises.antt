@@ -1,25 +1,26 @@
 -- Where the calls that mark and list by a table of live pairs keep their promises, the trees of an image are marked and listed.
 use Rattle.std.proofs.Common.{◌≡◌, ℕ, ◌+◌, ◌<◌, ◌≤◌, Bool, true, false, List, [], ◌∷◌, length, inl, inr, arith, if◌then◌else◌}
 use Rattle.std.specs.Prelude.{Option, Some, None, Ok, nat_le}
-use Rattle.std.specs.List.{All, AllByRecursion}
+use Rattle.std.specs.List.{AllByRecursion}
 use Rattle.std.specs.Ordering.{nat_cmp}
 use Rattle.std.specs.FinMap.{FinMap}
 use Rattle.verdict.specs.declared.place.Chunk.{Chunk}
 use Rattle.verdict.proofs.Tables.{joined_none}
 use Rattle.write_cache.specs.Cache.{overlaid}
 use Rattle.volume_items.specs.ChunkOrder.{all_by_start, by_start, put_by_start}
-use Rattle.volume_items.specs.MapRules.{array_rows, rows_by_start}
+use Rattle.volume_items.specs.MapRules.{array_rows, map_finding, rows_by_start}
 use Rattle.live_index.specs.Pairs.{Pairs}
 use Rattle.touched_pairs.specs.Marking.{AreMarkedFrom}
 use Rattle.touched_pairs.specs.Marks.{no_mark}
-use Rattle.touched_pairs.specs.Moves.{AreApart, LieApart, held_and_moved}
+use Rattle.touched_pairs.specs.Moves.{AreApart, LieApart, held_and_moved, is_moved}
 use Rattle.touched_pairs.specs.Spots.{at_address}
 use Rattle.touched_pairs.specs.Touched.{written_in}
 use Rattle.shared_trees.specs.Keeping.{AreMarked, Marks, Stands, Under}
 use Rattle.shared_trees.specs.LivePairs.{Walked, live_in, table_of, walked}
 use Rattle.shared_trees.specs.Listed.{AreListedBy}
-use Rattle.shared_trees.specs.SharedLaw.{HasTrees, MarksTouched, moves_between, touches_old}
-use Rattle.shared_trees.specs.ShiftedLaw.{MovesListed}
+use Rattle.shared_trees.specs.Marking.{AreNarrow}
+use Rattle.shared_trees.specs.SharedLaw.{HasTrees, MarksTouched, touches_old}
+use Rattle.shared_trees.specs.ArrayShifts.{MovesListedBy}
 use Rattle.shared_trees.specs.TableLaw.{Tree}
 use Rattle.shared_trees.proofs.ArrayTree.{Chain, above, chain_of, put_each}
 use Rattle.shared_trees.proofs.Forest.{stands_as, tables_stand}
@@ -75,43 +76,44 @@ all_apart sorted (c ∷ chunks) apart =
       ),
     )
 
+-- chunks lie apart where the rules on the map keep
+pub map_apart : (chunks array : List Chunk) (end : ℕ) → map_finding chunks array end ≡ None → AreApart chunks
+map_apart chunks array end none =
+    let both = joined_none (array_rows chunks array) (rows_by_start [] (by_start chunks) end) none in
+    (all_apart [] chunks (chain_apart None (by_start chunks) (chain_of [] (by_start chunks) end both.1))).2
+
 -- the chunks of an image lie apart
 pub chunks_apart : (image : List ℕ) (whole : Walked) → walked image ≡ Ok whole → AreApart whole.chunks
 chunks_apart image whole walks =
     let steps = steps_of image whole walks in
-    let none = map_kept whole.sup steps.array whole.chunks image steps.chunks_are in
-    let both = joined_none (array_rows whole.chunks steps.array) (rows_by_start [] (by_start whole.chunks) (length image)) none in
-    (all_apart [] whole.chunks (chain_apart None (by_start whole.chunks) (chain_of [] (by_start whole.chunks) (length image) both.1))).2
+    map_apart whole.chunks steps.array (length image) (map_kept whole.sup steps.array whole.chunks image steps.chunks_are)
 
--- From what the calls promise that mark the pairs that writes touch and those whose block moved, and that list the moved children, by the
--- table of the old pairs: all old trees are marked, and their moved children are listed.
-pub premises : (image : List ℕ) (pending : FinMap nat_cmp ℕ) (old new : Walked) (before : List Tree) (pairs : Pairs) (marked moving : Marks)
-    (under : Under)
-    → All (λ byte. byte < 256) image → HasTrees image old before → walked (overlaid pending 0 image) ≡ Ok new
+-- From what the calls promise that mark the pairs that writes touch and those whose block moved by other chunks, and that list the moved
+-- children, by the table of the old pairs: all old trees are marked, and their moved children are listed.
+pub premises_by : (image : List ℕ) (pending : FinMap nat_cmp ℕ) (old : Walked) (new : List Chunk) (before : List Tree) (pairs : Pairs)
+    (marked moving : Marks) (under : Under)
+    → AreNarrow pairs → HasTrees image old before
     → ((tree address : ℕ) → pairs tree address ≡ table_of (live_in old.seen) tree address)
     → AreMarkedFrom pairs (at_address (touches_old old (written_in pending) (length image)))
     (at_address (touches_old old (written_in pending) (length image))) no_mark marked
-    → (AreApart new.chunks → 0 < old.sup.nodesize
-    → AreMarkedFrom pairs (at_address (held_and_moved old.chunks new.chunks old.sup.nodesize (length image)))
-    (at_address (moves_between old new (length image))) no_mark moving)
+    → AreMarkedFrom pairs (at_address (held_and_moved old.chunks new old.sup.nodesize (length image)))
+    (at_address (is_moved old.chunks new old.sup.nodesize (length image))) no_mark moving
     → AreListedBy pairs moving under
     → AllByRecursion (MarksTouched old (written_in pending) (length image) marked) before
-    × AllByRecursion (MovesListed old new (length image) moving under) before
-premises image pending old new before pairs marked moving under bytes has walks pairs_are touched moved listed =
+    × AllByRecursion (MovesListedBy old new (length image) moving under) before
+premises_by image pending old new before pairs marked moving under are has pairs_are touched from listed =
     let table = table_of (live_in old.seen) in
     let walk = trees_walk image old before has in
     let test = at_address (touches_old old (written_in pending) (length image)) in
-    let from = moved (chunks_apart (overlaid pending 0 image) new walks)
-    (nodesize_some image old.sup (steps_of image old has.walks).sup_is) in
-    let moves = moves_image image old before pairs new.chunks (length image) moving bytes has pairs_are from in
+    let moved = is_moved old.chunks new old.sup.nodesize (length image) in
+    let moves = moves_image image old before pairs new (length image) moving are has pairs_are from in
     let stand = tables_stand old.sup before old.seen walk.0 walk.1 in (
-      marks_image image old before pairs test test marked bytes has pairs_are (λ tree address some is. is) touched,
-      each_map (λ (tree : Tree). Stands table old.sup tree.0 tree.1
-          × AreMarked moving (moves_between old new (length image)) old.sup tree.0 tree.1) (MovesListed old new (length image) moving under) before
+      marks_image image old before pairs test test marked are has pairs_are (λ tree address some is. is) touched,
+      each_map (λ (tree : Tree). Stands table old.sup tree.0 tree.1 × AreMarked moving moved old.sup tree.0 tree.1)
+          (MovesListedBy old new (length image) moving under) before
           (λ tree h. record {
             marks = h.1;
             lists = lists pairs moving under old.sup tree.0 tree.1 (stands_as old.sup tree table pairs (pairs_are tree.1.tree) h.0) listed;
           })
-          (each_both (λ (tree : Tree). Stands table old.sup tree.0 tree.1)
-          (λ tree. AreMarked moving (moves_between old new (length image)) old.sup tree.0 tree.1) before stand moves),
+          (each_both (λ (tree : Tree). Stands table old.sup tree.0 tree.1) (λ tree. AreMarked moving moved old.sup tree.0 tree.1) before stand moves),
     )

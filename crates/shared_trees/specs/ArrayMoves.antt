@@ -1,6 +1,6 @@
 -- The laws of the chunks of system arrays: the marks on the old chunk tree, where two arrays are compared; and how an array's chunks lie.
-use Rattle.std.specs.Prelude.{ℕ, ◌≡◌, ◌<◌, ◌⊎◌, true, List, length}
-use Rattle.std.specs.List.{All, AllByRecursion}
+use Rattle.std.specs.Prelude.{ℕ, ◌≡◌, ◌⊎◌, true, List, length}
+use Rattle.std.specs.List.{AllByRecursion}
 use Rattle.verdict.specs.declared.place.Chunk.{Chunk}
 use Rattle.live_index.specs.Pairs.{Pairs}
 use Rattle.node_reader.specs.Stored.{stored_in}
@@ -12,12 +12,13 @@ use Rattle.touched_pairs.specs.Spots.{at_address}
 use Rattle.shared_trees.specs.ArrayLaw.{HasArray, moves_by}
 use Rattle.shared_trees.specs.Keeping.{AreMarked, Marks}
 use Rattle.shared_trees.specs.LivePairs.{Walked, live_in, table_of}
+use Rattle.shared_trees.specs.Marking.{AreNarrow}
 
--- Where a table has the live pairs of an image, and those are marked with all above them of which the block moved from the image's system array
+-- Where a table has the live pairs of an image, with ids and addresses of 64 bits, and those are marked with all above them of which the block moved from the image's system array
 -- to a new one, just those blocks of its chunk tree are marked which moved by the new array, or which are above one that did.
 abbrev pub ArrayMovesLaw : Type 0
 ArrayMovesLaw = (image : List ℕ) (old : Walked) (old_array array : List Chunk) (pairs : Pairs) (moving : Marks)
-    → All (λ byte. byte < 256) image → HasArray image old old_array
+    → AreNarrow pairs → HasArray image old old_array
     → ((tree address : ℕ) → pairs tree address ≡ table_of (live_in old.seen) tree address)
     → AreMarkedFrom pairs (at_address (held_and_moved old_array array old.sup.nodesize (length image)))
     (at_address (is_moved old_array array old.sup.nodesize (length image))) no_mark moving

@@ -1,6 +1,6 @@
 -- The law of the marks on the trees of an image.
-use Rattle.std.specs.Prelude.{ℕ, ◌≡◌, ◌<◌, true, List, is_some}
-use Rattle.std.specs.List.{All, AllByRecursion}
+use Rattle.std.specs.Prelude.{ℕ, ◌≡◌, true, List, is_some}
+use Rattle.std.specs.List.{AllByRecursion}
 use Rattle.verdict.specs.declared.place.Chunk.{Chunk}
 use Rattle.live_index.specs.Pairs.{Pairs}
 use Rattle.touched_pairs.specs.Marking.{AreMarkedFrom}
@@ -9,14 +9,15 @@ use Rattle.touched_pairs.specs.Moves.{held_and_moved, is_moved}
 use Rattle.touched_pairs.specs.Spots.{at_address}
 use Rattle.shared_trees.specs.Keeping.{AreMarked, Marks}
 use Rattle.shared_trees.specs.LivePairs.{Walked, live_in, table_of}
+use Rattle.shared_trees.specs.Marking.{AreNarrow}
 use Rattle.shared_trees.specs.SharedLaw.{HasTrees}
 use Rattle.shared_trees.specs.TableLaw.{Tree}
 
--- Where a table has the live pairs of an image, just those blocks of each of its trees are marked with all above them which may be, if
+-- Where a table has the live pairs of an image, with ids and addresses of 64 bits, just those blocks of each of its trees are marked with all above them which may be, if
 -- each live pair that may be must be.
 abbrev pub MarksLaw : Type 0
 MarksLaw = (image : List ℕ) (whole : Walked) (trees : List Tree) (pairs : Pairs) (must may marked : Marks)
-    → All (λ byte. byte < 256) image → HasTrees image whole trees
+    → AreNarrow pairs → HasTrees image whole trees
     → ((tree address : ℕ) → pairs tree address ≡ table_of (live_in whole.seen) tree address)
     → ((tree address : ℕ) → is_some (pairs tree address) ≡ true → may tree address ≡ true → must tree address ≡ true)
     → AreMarkedFrom pairs must may no_mark marked
@@ -26,7 +27,7 @@ MarksLaw = (image : List ℕ) (whole : Walked) (trees : List Tree) (pairs : Pair
 -- of a tree is held by one.
 abbrev pub MovesLaw : Type 0
 MovesLaw = (image : List ℕ) (whole : Walked) (trees : List Tree) (pairs : Pairs) (new : List Chunk) (end : ℕ) (moving : Marks)
-    → All (λ byte. byte < 256) image → HasTrees image whole trees
+    → AreNarrow pairs → HasTrees image whole trees
     → ((tree address : ℕ) → pairs tree address ≡ table_of (live_in whole.seen) tree address)
     → AreMarkedFrom pairs (at_address (held_and_moved whole.chunks new whole.sup.nodesize end))
     (at_address (is_moved whole.chunks new whole.sup.nodesize end)) no_mark moving

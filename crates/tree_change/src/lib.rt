@@ -5,6 +5,7 @@ mod change;
 mod gather;
 mod laws;
 mod path;
+mod walks;
 
 pub use change::{Change, Diff};
 pub use laws::{all_trees_law, gone_trees_law, named_law, one_tree_law};

@@ -1,0 +1,110 @@
+//! The walks of one tree: of the tree as it is, which keeps what is shared, and of the tree as it was, which stops there.
+
+ghost use Rattle.std.specs.Prelude.{◌≡◌, ◌+◌, ◌*◌, ◌≤◌, length, true, IfOk, IfSome};
+ghost use Rattle.verdict.specs.Trees.{is_node_size};
+ghost use Rattle.recon_disk.specs.Keeping.{Kept};
+ghost use Rattle.block_source.specs.Gives.{Gives, is_disk_halt};
+ghost use Rattle.block_source.specs.Takes.{handing};
+ghost use Rattle.tree_change.specs.Gathered.{gathers};
+ghost use Rattle.tree_change.specs.Walks.{new_walk, old_walk};
+ghost use Rattle.tree_change.specs.Told.{known_by, new_by, side_with};
+
+use crate::gather::Gathered;
+use block_source::{BlockSource, Halt};
+use live_index::LiveIndex;
+use node_reader::Expect;
+use recon_disk::{Disk, Steps};
+use shared_trees::{Ended, KnownTree, OldTree, Starts, stops_of, walk_changed};
+use std::alloc::Global;
+use touched_pairs::{Marks, Move};
+
+/// What is known of trees as they were: their live pairs, the marks of those that writes touch and of all above them, which blocks
+/// stand elsewhere now, and the children that moved or are above one that did.
+#[derive(Clone, Copy)]
+pub(crate) struct KnownTrees<'a, L> {
+    /// The live pairs.
+    pub(crate) table: &'a LiveIndex<L>,
+    /// The pairs that a write touches, and all above them.
+    pub(crate) marks: &'a Marks,
+    /// Which blocks stand elsewhere.
+    pub(crate) moves: &'a Move<'a>,
+    /// The children that are walked below kept blocks.
+    pub(crate) starts: &'a Starts,
+}
+
+/// What the walk of a tree as it is gives.
+#[derive(Drop)]
+pub(crate) struct NewTree {
+    /// The blocks and items that are not kept.
+    pub(crate) read: Gathered,
+    /// The kept blocks that it met.
+    pub(crate) met: Vec<Expect>,
+    /// The blocks that it is done with, each with its greatest key.
+    pub(crate) ended: Vec<Ended>,
+}
+
+/// Walks a tree as it is, and keeps what is known of it as it was.
+#[tactic(auto, using(crate::proofs::Telling::new_steps))]
+pub(crate) fn walk_new<D: Disk, L>(
+    alloc: Global,
+    disk: &mut D,
+    source: &BlockSource<'_>,
+    known: &KnownTrees<'_, L>,
+    steps: &mut Steps<L>,
+    e: &Expect,
+) -> Result<NewTree, Halt>
+    requires size { is_node_size source.now.sup.now.nodesize ≡ true }
+    requires end { source.now.end ≡ D.len disk.old }
+    ensures gives { Gives D.Disk disk.old source.now.cache.now (handing new_by result)
+        (λ image. new_walk (known_by known.now) (side_with source.now image) e.now) }
+    ensures reads { IfOk result (λ made. IfSome (D.bytes disk.old) (λ _.
+        D.reads disk.new ≤ D.reads disk.old + 2 * length made.read.blocks.items)) }
+    ensures kept { Kept D.Disk disk.old disk.new (is_disk_halt result) }
+{
+    let mut read = Gathered::new(alloc);
+    let mut met = Vec::new(alloc);
+    let mut ended = Vec::new(alloc);
+    let mut keeps = KnownTree {
+        table: known.table,
+        marks: known.marks,
+        moves: known.moves,
+        starts: known.starts,
+        steps,
+        met: &mut met,
+        ended: &mut ended,
+    };
+    walk_changed(alloc, disk, source, &mut keeps, e, &mut read)?;
+    Ok(NewTree { read, met, ended })
+}
+
+/// Walks a tree as it was, which stops at these blocks of the tree as it is.
+#[tactic(auto, using(crate::proofs::Telling::old_steps))]
+pub(crate) fn walk_old<D: Disk, L>(
+    alloc: Global,
+    disk: &mut D,
+    source: &BlockSource<'_>,
+    known: &KnownTrees<'_, L>,
+    met: &[Expect],
+    steps: &mut Steps<L>,
+    e: &Expect,
+) -> Result<Gathered, Halt>
+    requires size { is_node_size source.now.sup.now.nodesize ≡ true }
+    requires end { source.now.end ≡ D.len disk.old }
+    ensures gives { Gives D.Disk disk.old source.now.cache.now (handing gathers result)
+        (λ image. old_walk (known_by known.now) met.now (side_with source.now image) e.now) }
+    ensures reads { IfOk result (λ read. IfSome (D.bytes disk.old) (λ _.
+        D.reads disk.new ≤ D.reads disk.old + 2 * length read.blocks.items)) }
+    ensures kept { Kept D.Disk disk.old disk.new (is_disk_halt result) }
+{
+    let stops = stops_of(alloc, e.tree, met)?;
+    let mut read = Gathered::new(alloc);
+    let mut keeps = OldTree {
+        tree: e.tree,
+        table: known.table,
+        stops: &stops,
+        starts: known.starts,
+        steps,
+    };
+    walk_changed(alloc, disk, source, &mut keeps, e, &mut read)?;
+    Ok(read)
+}
