@@ -25,7 +25,7 @@ listed_by known = anew_of (under_of known.starts.now)
 
 -- the kept blocks that were met
 abbrev pub met_by : {L : Type 0} → KnownTree L → Met
-met_by known = Some known.met.now.items
+met_by known = Some known.met.items
 
 -- whether the last child of a block is among those that are walked: no pointer follows it
 abbrev pub is_last_walked : List Start → Bool
@@ -46,4 +46,4 @@ lasts_by known = last_of (pairs_of known.table.now) (under_of known.starts.now)
 
 -- the blocks that the walk is done with
 abbrev pub ended_by : {L : Type 0} → KnownTree L → Held
-ended_by known = Some known.ended.now.items
+ended_by known = Some known.ended.items

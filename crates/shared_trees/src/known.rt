@@ -32,9 +32,9 @@ pub struct KnownTree<'a, 's, L> {
     /// The counter of looks into the table.
     pub steps: &'s mut Steps<L>,
     /// The kept blocks that the walk met so far.
-    pub met: &'s mut Vec<Expect>,
+    pub met: Vec<Expect>,
     /// The blocks that the walk is done with so far, each with its greatest key.
-    pub ended: &'s mut Vec<Ended>,
+    pub ended: Vec<Ended>,
 }
 
 impl<'a, 's, L> Keeps for KnownTree<'a, 's, L> {

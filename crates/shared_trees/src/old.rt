@@ -20,20 +20,20 @@ use verdict::{Key, NoMemory};
 /// What is known of a tree as it was, and where its walk stops: at the blocks that the walk of the tree as it is met. Each block that
 /// is asked for looks at most once into the table.
 #[derive(Drop)]
-pub struct OldTree<'a, 's, L> {
+pub struct OldTree<'a, 's, 'm, L> {
     /// The id under which the stops are marked.
     pub tree: u64,
     /// The live pairs.
     pub table: &'a LiveIndex<L>,
     /// The stops.
-    pub stops: &'a Marks,
+    pub stops: &'m Marks,
     /// The children that are walked below kept blocks.
     pub starts: &'a Starts,
     /// The counter of looks into the table.
     pub steps: &'s mut Steps<L>,
 }
 
-impl<'a, 's, L> Keeps for OldTree<'a, 's, L> {
+impl<'a, 's, 'm, L> Keeps for OldTree<'a, 's, 'm, L> {
     ghost keeps = { kept_by_stops };
 
     ghost anew = { listed_by_stops };

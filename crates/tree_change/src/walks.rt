@@ -44,7 +44,7 @@ pub(crate) struct NewTree {
 }
 
 /// Walks a tree as it is, and keeps what is known of it as it was.
-#[tactic(auto, using(crate::proofs::Telling::new_steps))]
+#[tactic(auto, using(crate::proofs::Gathering::gathered_none), unfolding(crate::specs::Walks::new_walk, shared_trees::specs::Meeting::with_met, shared_trees::specs::Ending::with_ended))]
 pub(crate) fn walk_new<D: Disk, L>(
     alloc: Global,
     disk: &mut D,
@@ -62,23 +62,25 @@ pub(crate) fn walk_new<D: Disk, L>(
     ensures kept { Kept D.Disk disk.old disk.new (is_disk_halt result) }
 {
     let mut read = Gathered::new(alloc);
-    let mut met = Vec::new(alloc);
-    let mut ended = Vec::new(alloc);
     let mut keeps = KnownTree {
         table: known.table,
         marks: known.marks,
         moves: known.moves,
         starts: known.starts,
-        steps,
-        met: &mut met,
-        ended: &mut ended,
+        steps: &mut *steps,
+        met: Vec::new(alloc),
+        ended: Vec::new(alloc),
     };
     walk_changed(alloc, disk, source, &mut keeps, e, &mut read)?;
-    Ok(NewTree { read, met, ended })
+    Ok(NewTree {
+        read,
+        met: keeps.met,
+        ended: keeps.ended,
+    })
 }
 
 /// Walks a tree as it was, which stops at these blocks of the tree as it is.
-#[tactic(auto, using(crate::proofs::Telling::old_steps))]
+#[tactic(auto, unfolding(crate::specs::Walks::old_walk))]
 pub(crate) fn walk_old<D: Disk, L>(
     alloc: Global,
     disk: &mut D,
@@ -103,7 +105,7 @@ pub(crate) fn walk_old<D: Disk, L>(
         table: known.table,
         stops: &stops,
         starts: known.starts,
-        steps,
+        steps: &mut *steps,
     };
     walk_changed(alloc, disk, source, &mut keeps, e, &mut read)?;
     Ok(read)

@@ -1,0 +1,22 @@
+use Rattle.shared_trees.specs.KeepingWalk.{skip_in}
+use Rattle.tree_change.specs.Gathered.{gathers}
+use Rattle.tree_change.specs.Told.{known_by}
+use Rattle.tree_change.specs.Walks.{kept_by, listed_by}
+use Rattle.tree_change.proofs.Telling.{new_ok, reads_ok}
+use Rattle.tree_change.proofs.walks.walk_new.Goals as goal
+
+pub returns-clause-gives : goal.returns-clause-gives
+returns-clause-gives g c =
+    new_ok (g.D.Disk.bytes c.args.disk.now) c.args.source.now.cache.now (known_by c.args.known.now) c.args.source.now.sup.now
+    c.args.source.now.map.now c.args.e.now _ _ _ _ _ _
+    c.new-read.ensures c.new.ensures.items c.new-2.ensures.items
+    c.in_ok-walk_changed.ensures.taken c.in_ok-walk_changed.ensures.met c.in_ok-walk_changed.ensures.ended
+
+pub returns-clause-reads : goal.returns-clause-reads
+returns-clause-reads g c =
+    let known = known_by c.args.known.now in
+    let source = c.args.source.now in
+    reads_ok (g.D.Disk.bytes c.args.disk.now) source.cache.now source
+    (skip_in (kept_by known) (listed_by known) source.sup.now source.map.now c.args.e.now) (gathers c.new-read.result)
+    (gathers c.walk_changed.new.into) _ _
+    c.new-read.ensures c.in_ok-walk_changed.ensures.taken c.in_ok-walk_changed.ensures.reads
