@@ -1,2 +1,3 @@
-pub mod Whole
+pub mod Ended
 pub mod Nothing
+pub mod Whole

@@ -1,5 +1,5 @@
 use Rattle.tree_change.specs.OneTree.{NothingTreeLaw}
-use Rattle.tree_change.proofs.Whole.{ends_same}
+use Rattle.tree_change.proofs.Ended.{ends_whole}
 
 pub nothing_tree : NothingTreeLaw
 nothing_tree = absurd (cc)
