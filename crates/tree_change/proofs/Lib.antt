@@ -1,3 +1,4 @@
 pub mod Ended
+pub mod Free
 pub mod Nothing
 pub mod Whole
