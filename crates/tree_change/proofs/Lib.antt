@@ -1,4 +1,5 @@
 pub mod Ended
 pub mod Free
 pub mod Nothing
+pub mod Olds
 pub mod Whole
