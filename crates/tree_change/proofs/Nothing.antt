@@ -7,6 +7,7 @@ use Rattle.std.specs.List.Sorted.{IsPermutation}
 use Rattle.std.specs.Ordering.{nat_cmp}
 use Rattle.std.specs.FinMap.{FinMap}
 use Rattle.std.specs.Result.{IsOk}
+use Rattle.verdict.specs.Rules.{and_then}
 use Rattle.verdict.specs.declared.finding.Finding.{Finding}
 use Rattle.verdict.specs.declared.place.Chunk.{Chunk}
 use Rattle.volume_items.specs.declared.root_at.RootAt.{RootAt}
@@ -105,5 +106,124 @@ module _ (is : Side) (known : Known) (none : (tree address : ℕ) → known.pair
       by (inl failed) = sym (new_skip now) ∙ failed
       by (inr s) = elim (ok_never (made now s.0) finding s.2) [ ]
 
+module _ (image : List ℕ) (pending : FinMap nat_cmp ℕ) (old : Walked) (trees : List Tree) (pairs : Pairs) (is : Side) (known : Known)
+    (has : HasTrees image old trees) (pairs_are : (tree address : ℕ) → pairs tree address ≡ table_of (live_in old.seen) tree address)
+    (nothing_is : KnowsNothing old is known) where
+  -- no pair is shared
+  free : (news : List Seen) (live : Live) → shares image pending old is news live ≡ false
+  unfolding is_shared
+  free news live = and_false _ _ nothing_is.other
+
+  -- the old tree, or none
+  record OldIs (before : Option Expect) (all : Gathers) : Type 0 where
+    olds : List Seen
+    records : HasRecords image old before olds
+    same : all ≡ gathered olds
+    of : (shared : Live → Bool) → ((live : Live) → shared live ≡ false)
+        → AreOfPairs pairs (filter (λ live. not (shared live)) (live_in olds)) olds olds
+
+  stands : (e : Expect) → IsAmong (old_tree image old e) trees → Stands pairs old.sup (old_tree image old e).0 e
+  stands e one =
+      stands_as old.sup (old_tree image old e) (table_of (live_in old.seen)) pairs (pairs_are e.tree)
+      (among (λ tree. Stands (table_of (live_in old.seen)) old.sup tree.0 tree.1) (old_tree image old e) trees one (old_stands image old trees has))
+
+  stopped : (stops : List Expect) → KeepsNone (kept_at known.pairs stops known.under)
+  stopped stops = none_at known.pairs stops known.under nothing_is.none
+
+  old_is : (now : Expect) (before : Option Expect) (stops : List Expect) → IsOldOf image old trees now before → (all : Gathers)
+      → old_or_none known stops (side_of image old) before ≡ Ok all → OldIs before all
+  unfolding walk_in live_in
+  old_is now None stops was all at =
+      record { olds = []; records = refl; same = sym (same_ok no_tree all at); of = λ shared free. record { blocks = refl; count = refl; items = refl } }
+  old_is now (Some e) stops was all at =
+      let given = old_given known stops image old (stopped stops) e all at in
+      record {
+        olds = given.0;
+        records = given.1;
+        same = given.2;
+        of = λ shared free. all_of shared free old.sup (old_tree image old e).0 e given.0 given.1 pairs (stands e was.1);
+      }
+
+  old_never : (now : Expect) (before : Option Expect) (stops : List Expect) → IsOldOf image old trees now before → (finding : Finding)
+      → old_or_none known stops (side_of image old) before ≡ Err finding → ⊥
+  old_never now None stops was finding at = ok_never no_tree finding at
+  old_never now (Some e) stops was finding at = old_fine known stops image old (stopped stops) e (stands e was.1).each.fine finding at
+
+  in_order : {A : Type 0} (before : A → A → Bool) (left list : List A) → left ≡ list → IsInOrder before list list → IsInOrder before left list
+  in_order before left list same order = subst (λ some. IsInOrder before some list) (sym same) order
+
+  changes : (now : Expect) (before : Option Expect) (new : NewWalk) (all : Gathers) (n : NewIs is known nothing_is.none now new) (o : OldIs before all)
+      → ChangesTree image pending old is now o.olds n.news (parts_of pairs (whole is known nothing_is.none now n.news n.walk) (gathered o.olds))
+  changes now before new all n o =
+      let shared = shares image pending old is n.news in
+      let stored = now_stored is known nothing_is.none in
+      let table = table_of (live_in n.news) in
+      let for = tree_table is.sup stored now n.news n.walk in
+      let ended = map (ended_at is.sup stored) (behind_all is.sup stored table now for) in
+      let f = free n.news in
+      let was = o.of shared f in
+      let came = all_of shared f is.sup stored now n.news n.walk table for in
+      let old_blocks : pairs_at pairs (blocks_seen o.olds) ≡ filter (λ live. not (shared live)) (live_in o.olds) =
+      sym (pairs_seen pairs o.olds) ∙ was.blocks in
+      let new_blocks : lives_of ended (blocks_seen n.news) ≡ filter (λ live. not (shared live)) (live_in n.news) =
+      lives_told is.sup stored ended now n.news n.walk (lasts_told is.sup stored table now for) ∙ sym (all_free shared f (live_in n.news)) in
+      record {
+        old_blocks = old_blocks;
+        new_blocks = new_blocks;
+        moved = sym (none_shared shared f (is_shifted (live_in o.olds)) (live_in n.news));
+        old_items = was.items ∙ ap (λ lives. items_in lives o.olds) (sym old_blocks);
+        new_items = came.items ∙ ap (λ lives. items_in lives n.news) (sym new_blocks);
+        count =
+            ap (λ k. k + length (blocks_seen n.news)) (sym (count_seen o.olds) ∙ (was.count ∙ ap length (sym old_blocks)))
+            ∙ ap (λ k. length (pairs_at pairs (blocks_seen o.olds)) + k) (sym (count_seen n.news) ∙ (came.count ∙ ap length (sym new_blocks)));
+        chunks = λ tree. in_order begins_before (chunks_left (chunks_seen o.olds) (items o.olds) (items n.news)) (chunks_seen n.news)
+            (chunks_all o.olds n.news)
+            (record { all = IsPermutation-refl (chunks_seen n.news); ascends = chunks_ascend shared f is.sup stored now n.news n.walk tree });
+        roots = λ tree. in_order named_before (roots_left (map root_at (roots_seen o.olds)) (items o.olds) (items n.news)) (map root_at (roots_seen n.news))
+            (roots_all o.olds n.news)
+            (record {
+              all = IsPermutation-refl (map root_at (roots_seen n.news));
+              ascends = named_ascend (roots_seen n.news) (roots_ascend shared f is.sup stored now n.news n.walk tree);
+            });
+      }
+
+  -- what follows the walk of the tree as it is
+  abbrev then_old : Option Expect → NewWalk → Result Parts Finding
+  then_old before new = and_then (old_or_none known new.met (side_of image old) before) (λ all. fine_step (parts_of pairs new all))
+
+  failed : (before : Option Expect) (now : Expect) → IsOldOf image old trees now before → (finding : Finding)
+      → tree_parts pairs known (side_of image old) is before now ≡ Err finding → walk_in is.sup is.chunks now is.image ≡ Err finding
+  unfolding tree_parts walk_in
+  failed before now was finding at = by (step_err (new_walk known is now) (then_old before) finding at)
+    where
+      later : (new : NewWalk) → (old_or_none known new.met (side_of image old) before ≡ Err finding)
+          ⊎ ((all : Gathers) × (old_or_none known new.met (side_of image old) before ≡ Ok all) × (fine_step (parts_of pairs new all) ≡ Err finding)) → ⊥
+      later new (inl at) = old_never now before new.met was finding at
+      later new (inr s) = ok_never (parts_of pairs new s.0) finding s.2
+
+      by : (new_walk known is now ≡ Err finding) ⊎ ((new : NewWalk) × (new_walk known is now ≡ Ok new) × (then_old before new ≡ Err finding))
+          → walk_of is.sup (now_stored is known nothing_is.none) now ≡ Err finding
+      by (inl at) = new_found is known nothing_is.none now finding at
+      by (inr s) =
+          elim (later s.0 (step_err (old_or_none known s.0.met (side_of image old) before) (λ all. fine_step (parts_of pairs s.0 all)) finding s.2)) [ ]
+
+  gives : (before : Option Expect) (now : Expect) → IsOldOf image old trees now before → GivesTree image pending old pairs is known before now
+  unfolding tree_parts walk_in
+  gives before now was = record {
+    found = failed before now was;
+    parts = λ parts at.
+        let s = step_ok (new_walk known is now) (then_old before) parts at in
+        let t = step_ok (old_or_none known s.0.met (side_of image old) before) (λ all. fine_step (parts_of pairs s.0 all)) parts s.2 in
+        let n = new_given is known nothing_is.none now s.0 s.1 in
+        let o = old_is now before s.0.met was t.0 t.1 in
+        (
+          o.olds, n.news, o.records, n.walk,
+          subst (ChangesTree image pending old is now o.olds n.news)
+              (ap (λ new. parts_of pairs new (gathered o.olds)) (sym n.same) ∙ (ap (parts_of pairs s.0) (sym o.same) ∙ same_ok (parts_of pairs s.0 t.0) parts t.2))
+              (changes now before s.0 t.0 n o),
+        );
+  }
+
 pub nothing_tree : NothingTreeLaw
-nothing_tree = absurd (cc)
+nothing_tree image pending old trees pairs is known before now has pairs_are over root was nothing_is =
+    gives image pending old trees pairs is known has pairs_are nothing_is before now was
