@@ -1,5 +1,6 @@
 pub mod Ended
 pub mod Free
+pub mod Gone
 pub mod Nothing
 pub mod Olds
 pub mod Whole
