@@ -18,6 +18,11 @@ pub fn named_law()
     ensures { NamedLaw }
 {}
 
+/// The same, where it is so with each tree.
+pub fn named_from_law()
+    ensures { OneTreeLaw → NamedLaw }
+{}
+
 /// The walks of trees that are gone have no finding.
 pub fn gone_trees_law()
     ensures { GoneLaw }

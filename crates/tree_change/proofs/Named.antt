@@ -1,0 +1,179 @@
+-- The first finding of the trees that are named now is that of their whole walks, where it is so with each tree.
+use Rattle.std.proofs.Common.{◌≡◌, ℕ, ◌-◌, ◌==◌, Bool, true, false, List, [], ◌∷◌, ◌++◌, ◌⊎◌, inl, inr, length, refl, ap, sym, subst, ◌∙◌, if◌then◌else◌}
+use Rattle.std.proofs.lemmas.Bool.{eqb-true}
+use Rattle.std.specs.Prelude.{Option, Some, None, Result, Ok, Err, map}
+use Rattle.std.specs.List.{AllByRecursion}
+use Rattle.std.specs.Ordering.{nat_cmp}
+use Rattle.std.specs.FinMap.{FinMap}
+use Rattle.verdict.specs.Rules.{and_then}
+use Rattle.verdict.specs.declared.finding.Finding.{Finding}
+use Rattle.verdict.specs.declared.key.Key.{Key}
+use Rattle.write_cache.specs.Cache.{overlaid}
+use Rattle.super_reader.specs.declared.Super.{Super}
+use Rattle.volume_items.specs.declared.root.RootItem.{RootItem}
+use Rattle.live_index.specs.Pairs.{Pairs}
+use Rattle.node_reader.specs.Stored.{Stored, stored_in}
+use Rattle.node_reader.specs.declared.expect.Expect.{Expect}
+use Rattle.records.specs.Contents.{chunk_tree_root, named_root, root_tree_root, tree_records}
+use Rattle.records.specs.Seen.{Seen}
+use Rattle.records.specs.Walk.{Records, behind, each, then_records, walk_in, walk_of}
+use Rattle.records.specs.WalkLaw.{visited}
+use Rattle.touched_pairs.specs.Moves.{is_moved}
+use Rattle.touched_pairs.specs.Touched.{written_in}
+use Rattle.shared_trees.specs.ArrayShifts.{MovesListedBy}
+use Rattle.shared_trees.specs.Ending.{ends_in}
+use Rattle.shared_trees.specs.Keeping.{AreUntouched, Stands, anew_of, kept_of}
+use Rattle.shared_trees.specs.KeepingWalk.{skip_in}
+use Rattle.shared_trees.specs.LivePairs.{Walked, live_in, table_of}
+use Rattle.shared_trees.specs.Meeting.{met_in}
+use Rattle.shared_trees.specs.Shared.{are_read_alike}
+use Rattle.shared_trees.specs.SharedLaw.{MarksTouched, touches_old}
+use Rattle.shared_trees.specs.SkipLaw.{IsSound}
+use Rattle.shared_trees.specs.Skips.{Kept, nothing, unkept}
+use Rattle.shared_trees.specs.TableLaw.{Tree, trees_in}
+use Rattle.shared_trees.proofs.Forest.{stands_as}
+use Rattle.shared_trees.proofs.Images.{stored_alike}
+use Rattle.shared_trees.proofs.KeptImage.{nodesize_same}
+use Rattle.shared_trees.proofs.ReadAlike.{listed_alike, marked_alike, stands_alike}
+use Rattle.shared_trees.proofs.Rooted.{step_ok}
+use Rattle.shared_trees.proofs.Sharing.{keeps}
+use Rattle.shared_trees.proofs.Sifting.{starts_level}
+use Rattle.shared_trees.proofs.Skipping.{skips, unkept_in, unkept_is}
+use Rattle.shared_trees.proofs.Trails.{Tells, Trail, all_own, tells, trail_of}
+use Rattle.tree_change.specs.AllTrees.{IsOver, KnowsTrees, NamedLaw, has_id, named_parts, no_parts, root_named, with_parts}
+use Rattle.tree_change.specs.Gathered.{Gathers, blocks_seen}
+use Rattle.tree_change.specs.Merging.{root_at}
+use Rattle.tree_change.specs.OneTree.{GivesTree, IsAmong, IsOldOf, IsTree, KnowsNothing, KnowsTree, OneTreeLaw, old_tree, side_of}
+use Rattle.tree_change.specs.Walks.{Known, NewWalk, Parts, Side, kept_by, lasts_by, listed_by, new_walk, no_tree, old_or_none, parts_of, tree_parts}
+use Rattle.tree_change.proofs.Olds.{among, fine_step, gathered, ok_never, old_stands, same_ok, step_err}
+use Rattle.tree_change.proofs.Whole.{KeepsNone, none_of}
+
+-- records have the finding of others, and where they have none the others have none
+pub record IsLike (some whole : Records) : Type 0 where
+  pub found : (finding : Finding) → some ≡ Err finding → whole ≡ Err finding
+  pub fine : (records : List Seen) → some ≡ Ok records → (all : List Seen) × (whole ≡ Ok all)
+
+-- what is left of a walk has the finding of the walk
+pub left_like : (kept : Kept) (sup : Super) (stored : Stored) (e : Expect) → IsLike (unkept kept nothing sup stored e) (walk_of sup stored e)
+left_like kept sup stored e =
+    subst (λ left. IsLike left (walk_of sup stored e)) (sym (unkept_is kept nothing sup stored e)) (by (trail_of sup stored e) (tells sup stored e))
+  where
+    by : (trail : Trail) → Tells sup stored trail (walk_of sup stored e) (visited sup stored e)
+        → IsLike (unkept_in kept nothing trail) (walk_of sup stored e)
+    by (Err finding) t = record { found = λ other at. t.0 ∙ at; fine = λ records at. absurd (cc) }
+    by (Ok visits) t = record { found = λ finding at. absurd (cc); fine = λ records at. (all_own visits, t.0) }
+
+-- where no block is kept, blocks are kept soundly
+none_sound : (kept : Kept) (known : Known) (tree : ℕ) (sup : Super) (stored : Stored) → KeepsNone kept
+    → IsSound tree kept nothing (anew_of known.under) sup stored
+none_sound kept known tree sup stored none = record {
+  gives = λ v last same is. absurd (not_some (kept v) last (none v) is);
+  next = λ v. starts_level (v.level - 1) v (known.under v.tree v.address);
+}
+  where
+    not_some : (here : Option Key) (last : Key) → here ≡ None → here ≡ Some last → ⊥
+    not_some here last none some = cc
+
+-- a walk of a tree as it is, of which blocks are kept soundly
+module _ (known : Known) (is : Side) (now : Expect) where
+  abbrev now_stored : Stored
+  now_stored = stored_in is.image is.chunks is.sup.nodesize
+
+  abbrev Sound : Type 0
+  Sound = IsSound now.tree (kept_by known) nothing (listed_by known) is.sup now_stored
+
+  abbrev walk : Records
+  walk = walk_of is.sup now_stored now
+
+  abbrev skip : Records
+  skip = skip_in (kept_by known) (listed_by known) is.sup is.chunks now is.image
+
+  skip_like : Sound → IsLike skip walk
+  unfolding skip_in
+  skip_like sound =
+      subst (λ some. IsLike some walk) (sym (skips (kept_by known) nothing (listed_by known) is.sup now_stored now sound))
+      (left_like (kept_by known) is.sup now_stored now)
+
+  abbrev made : List Seen → NewWalk
+  made records = record {
+    read = gathered records;
+    met = met_in (kept_by known) (listed_by known) is.sup is.chunks now is.image;
+    ended = (ends_in (kept_by known) (listed_by known) (lasts_by known) is.sup is.chunks now is.image).blocks;
+  }
+
+  new_found : Sound → (finding : Finding) → new_walk known is now ≡ Err finding → walk ≡ Err finding
+  unfolding new_walk
+  new_found sound finding at = by (step_err skip (λ records. fine_step (made records)) finding at)
+    where
+      by : (skip ≡ Err finding) ⊎ ((records : List Seen) × (skip ≡ Ok records) × (fine_step (made records) ≡ Err finding)) → walk ≡ Err finding
+      by (inl failed) = (skip_like sound).found finding failed
+      by (inr s) = elim (ok_never (made s.0) finding s.2) [ ]
+
+  new_fine : Sound → (new : NewWalk) → new_walk known is now ≡ Ok new → (all : List Seen) × (walk ≡ Ok all)
+  unfolding new_walk
+  new_fine sound new at =
+      let s = step_ok skip (λ records. fine_step (made records)) new at in
+      (skip_like sound).fine s.0 s.1
+
+  -- what is walked of a tree that is has the finding of its whole walk
+  record IsFound (pairs : Pairs) (was : Side) (before : Option Expect) : Type 0 where
+    found : (finding : Finding) → tree_parts pairs known was is before now ≡ Err finding → walk_in is.sup is.chunks now is.image ≡ Err finding
+    fine : (parts : Parts) → tree_parts pairs known was is before now ≡ Ok parts
+        → (all : List Seen) × (walk_in is.sup is.chunks now is.image ≡ Ok all)
+
+  -- so it is where no old tree is walked
+  found_none : (pairs : Pairs) (was : Side) → Sound → IsFound pairs was None
+  unfolding tree_parts walk_in
+  found_none pairs was sound = record {
+    found = λ finding at. by finding (step_err (new_walk known is now) (λ new. fine_step (parts_of pairs new no_tree)) finding at);
+    fine = λ parts at.
+        let s = step_ok (new_walk known is now) (λ new. fine_step (parts_of pairs new no_tree)) parts at in
+        new_fine sound s.0 s.1;
+  }
+    where
+      by : (finding : Finding) → (new_walk known is now ≡ Err finding)
+          ⊎ ((new : NewWalk) × (new_walk known is now ≡ Ok new) × (fine_step (parts_of pairs new no_tree) ≡ Err finding)) → walk ≡ Err finding
+      by finding (inl failed) = new_found sound finding failed
+      by finding (inr s) = elim (ok_never (parts_of pairs s.0 no_tree) finding s.2) [ ]
+
+  found_given : (image : List ℕ) (pending : FinMap nat_cmp ℕ) (old : Walked) (pairs : Pairs) (before : Option Expect)
+      → GivesTree image pending old pairs is known before now → IsFound pairs (side_of image old) before
+  found_given image pending old pairs before gives = record {
+    found = gives.found;
+    fine = λ parts at. let given = gives.parts parts at in (given.1, given.3);
+  }
+
+abbrev some_expect : Expect → Option Expect
+some_expect e = Some e
+
+same_some : (a b : Expect) → some_expect a ≡ some_expect b → a ≡ b
+same_some a b is = cc
+
+-- the roots of trees by their names
+module _ (stored : Stored) (id : ℕ) where
+  abbrev named_tree : RootItem → Tree
+  named_tree root = (stored, named_root root)
+
+  named_some : (roots : List RootItem) (e : Expect) → root_named (map root_at roots) id ≡ Some e
+      → (e.tree ≡ id) × IsAmong (stored, e) (map named_tree roots)
+  named_some [] e at = absurd (cc)
+  named_some (root ∷ roots) e at = by (root.key.objectid == id) refl at (named_some roots e)
+    where
+      by : (b : Bool) → (root.key.objectid == id) ≡ b → (if b then Some (named_root root) else root_named (map root_at roots) id) ≡ Some e
+          → (root_named (map root_at roots) id ≡ Some e → (e.tree ≡ id) × IsAmong (stored, e) (map named_tree roots))
+          → (e.tree ≡ id) × IsAmong (stored, e) (map named_tree (root ∷ roots))
+      by true is at rest =
+          let same = same_some (named_root root) e at in
+          (ap (λ (x : Expect). x.tree) (sym same) ∙ eqb-true root.key.objectid id is, inl (ap (λ (x : Expect). (stored, x)) (sym same)))
+      by false is at rest = let r = rest at in (r.0, inr r.1)
+
+  named_none : (roots : List RootItem) → root_named (map root_at roots) id ≡ None
+      → AllByRecursion (λ (tree : Tree). (tree.1.tree == id) ≡ false) (map named_tree roots)
+  named_none [] at = tt
+  named_none (root ∷ roots) at = by (root.key.objectid == id) refl at (named_none roots)
+    where
+      by : (b : Bool) → (root.key.objectid == id) ≡ b → (if b then Some (named_root root) else root_named (map root_at roots) id) ≡ None
+          → (root_named (map root_at roots) id ≡ None → AllByRecursion (λ (tree : Tree). (tree.1.tree == id) ≡ false) (map named_tree roots))
+          → AllByRecursion (λ (tree : Tree). (tree.1.tree == id) ≡ false) (map named_tree (root ∷ roots))
+      by true is at rest = absurd (cc)
+      by false is at rest = (is, rest at)
