@@ -177,3 +177,181 @@ module _ (stored : Stored) (id : ℕ) where
           → AllByRecursion (λ (tree : Tree). (tree.1.tree == id) ≡ false) (map named_tree (root ∷ roots))
       by true is at rest = absurd (cc)
       by false is at rest = (is, rest at)
+
+-- what is known of a tree as it was keeps blocks soundly
+pub known_sound : (image : List ℕ) (pending : FinMap nat_cmp ℕ) (old : Walked) (is : Side) (known : Known) (e : Expect)
+    → KnowsTree image pending old is known (Some e) → Stands (table_of (live_in old.seen)) old.sup (old_tree image old e).0 e
+    → is.image ≡ overlaid pending 0 image
+    → IsSound e.tree (kept_by known) nothing (listed_by known) is.sup (stored_in is.image is.chunks is.sup.nodesize)
+known_sound image pending old is known e k stands over =
+    let was = (old_tree image old e).0 in
+    let now = stored_in is.image is.chunks is.sup.nodesize in
+    let judged = overlaid pending 0 image in
+    let touched = touches_old old (written_in pending) (length image) in
+    let moved = is_moved old.chunks is.chunks old.sup.nodesize (length image) in
+    let there : stored_in judged is.chunks old.sup.nodesize ≡ now =
+    ap (stored_in judged is.chunks) (nodesize_same old.sup is.sup k.alike) ∙ ap (λ bytes. stored_in bytes is.chunks is.sup.nodesize) (sym over) in
+    let untouched : AreUntouched touched moved was now =
+    subst (AreUntouched touched moved was) there (stored_alike image pending old.chunks is.chunks old.sup.nodesize) in
+    subst (λ m. IsSound e.tree (kept_of known.pairs known.marked m known.under) nothing (anew_of known.under) is.sup now) (sym k.moved_is)
+    (keeps known.pairs known.marked k.moving touched moved known.under is.sup was now e
+    (stands_alike old.sup is.sup k.alike known.pairs was e
+    (stands_as old.sup (old_tree image old e) (table_of (live_in old.seen)) known.pairs (k.pairs_are e.tree) stands))
+    (marked_alike old.sup is.sup k.alike known.marked touched was e k.marks)
+    (marked_alike old.sup is.sup k.alike k.moving moved was e k.moves.marks)
+    (listed_alike old.sup is.sup k.alike known.under k.moving was e k.moves.lists)
+    untouched)
+
+-- what is known of all old trees is known of one of them, and of none
+knows_some : (image : List ℕ) (pending : FinMap nat_cmp ℕ) (old : Walked) (trees : List Tree) (is : Side) (known : Known) (e : Expect)
+    → KnowsTrees image pending old trees is known → IsAmong (old_tree image old e) trees → KnowsTree image pending old is known (Some e)
+knows_some image pending old trees is known e k one = record {
+  alike = k.alike;
+  pairs_are = k.pairs_are;
+  moved_is = k.moved_is;
+  marks = among (MarksTouched old (written_in pending) (length image) known.marked) (old_tree image old e) trees one k.marks;
+  moving = k.moving;
+  moves = among (MovesListedBy old is.chunks (length image) k.moving known.under) (old_tree image old e) trees one k.moves;
+}
+
+knows_none : (image : List ℕ) (pending : FinMap nat_cmp ℕ) (old : Walked) (trees : List Tree) (is : Side) (known : Known)
+    → KnowsTrees image pending old trees is known → KnowsTree image pending old is known None
+knows_none image pending old trees is known k =
+    record { alike = k.alike; pairs_are = k.pairs_are; moved_is = k.moved_is; marks = tt; moving = k.moving; moves = tt }
+
+module _ (law : OneTreeLaw) (image : List ℕ) (pending : FinMap nat_cmp ℕ) (old : Walked) (olds : List RootItem) (trees : List Tree) (pairs : Pairs)
+    (is : Side) (known : Known) (over : IsOver image pending old olds trees pairs is known) where
+  abbrev was : Side
+  was = side_of image old
+
+  abbrev named_before : ℕ → Option Expect
+  named_before id = root_named (map root_at olds) id
+
+  abbrev Found : RootItem → Option Expect → Type 0
+  Found root before = IsFound known is (named_root root) pairs was before
+
+  -- each tree that a root item names is found so, by the old tree of its id
+  found_some : (root : RootItem) (e : Expect) → named_before root.key.objectid ≡ Some e → Found root (Some e)
+  found_some root e at =
+      let some = named_some (stored_in image old.chunks old.sup.nodesize) root.key.objectid olds e at in
+      let one : IsAmong (old_tree image old e) trees = subst (IsAmong (old_tree image old e)) (sym over.trees_are) (inr (inr some.1)) in
+      found_given known is (named_root root) image pending old pairs (Some e)
+      (law image pending old trees pairs is known (Some e) (named_root root) (record {
+        has = over.has;
+        pairs_are = over.pairs_are;
+        over = over.over;
+        root = (refl, refl);
+        was = (some.0, one);
+        known_is = by one over.known_is;
+      }))
+    where
+      by : IsAmong (old_tree image old e) trees → KnowsTrees image pending old trees is known ⊎ KnowsNothing old is known
+          → KnowsTree image pending old is known (Some e) ⊎ KnowsNothing old is known
+      by one (inl k) = inl (knows_some image pending old trees is known e k one)
+      by one (inr k) = inr k
+
+  -- no root item names the chunk tree or the root tree; their walks would be found so too
+  found_other : (root : RootItem) (e : Expect) → IsAmong (old_tree image old e) trees → e.tree ≡ root.key.objectid → Found root None
+  found_other root e one same =
+      found_none known is (named_root root) pairs was
+      (subst (λ id. IsSound id (kept_by known) nothing (listed_by known) is.sup (stored_in is.image is.chunks is.sup.nodesize)) same (by over.known_is))
+    where
+      by : KnowsTrees image pending old trees is known ⊎ KnowsNothing old is known
+          → IsSound e.tree (kept_by known) nothing (listed_by known) is.sup (stored_in is.image is.chunks is.sup.nodesize)
+      by (inl k) =
+          known_sound image pending old is known e (knows_some image pending old trees is known e k one)
+          (among (λ tree. Stands (table_of (live_in old.seen)) old.sup tree.0 tree.1) (old_tree image old e) trees one
+          (old_stands image old trees over.has)) over.over
+      by (inr k) =
+          none_sound (kept_by known) known e.tree is.sup (stored_in is.image is.chunks is.sup.nodesize)
+          (none_of known.pairs known.marked known.moved known.under k.none)
+
+  found_new : (root : RootItem) → named_before root.key.objectid ≡ None → (3 == root.key.objectid) ≡ false → (1 == root.key.objectid) ≡ false
+      → Found root None
+  found_new root at chunk first =
+      found_given known is (named_root root) image pending old pairs None
+      (law image pending old trees pairs is known None (named_root root) (record {
+        has = over.has;
+        pairs_are = over.pairs_are;
+        over = over.over;
+        root = (refl, refl);
+        was = subst (AllByRecursion (λ (tree : Tree). (tree.1.tree == root.key.objectid) ≡ false)) (sym over.trees_are)
+            (chunk, (first, named_none (stored_in image old.chunks old.sup.nodesize) root.key.objectid olds at));
+        known_is = by over.known_is;
+      }))
+    where
+      by : KnowsTrees image pending old trees is known ⊎ KnowsNothing old is known
+          → KnowsTree image pending old is known None ⊎ KnowsNothing old is known
+      by (inl k) = inl (knows_none image pending old trees is known k)
+      by (inr k) = inr k
+
+  found_each : (root : RootItem) (before : Option Expect) → named_before root.key.objectid ≡ before → Found root before
+  found_each root (Some e) at = found_some root e at
+  found_each root None at = by (3 == root.key.objectid) (1 == root.key.objectid) refl refl
+    where
+      by : (a b : Bool) → (3 == root.key.objectid) ≡ a → (1 == root.key.objectid) ≡ b → Found root None
+      by true b chunk first =
+          found_other root (chunk_tree_root old.sup) (subst (IsAmong (old_tree image old (chunk_tree_root old.sup))) (sym over.trees_are) (inl refl))
+          (eqb-true 3 root.key.objectid chunk)
+      by false true chunk first =
+          found_other root (root_tree_root old.sup)
+          (subst (IsAmong (old_tree image old (root_tree_root old.sup))) (sym over.trees_are) (inr (inl refl)))
+          (eqb-true 1 root.key.objectid first)
+      by false false chunk first = found_new root at chunk first
+
+  abbrev parts_from : List RootItem → Result Parts Finding
+  parts_from news = named_parts pairs known was is (map root_at olds) (map root_at news)
+
+  abbrev records_from : List RootItem → Records
+  records_from news = tree_records is.sup is.chunks news is.image
+
+  -- all of them
+  record AreFound (news : List RootItem) : Type 0 where
+    found : (finding : Finding) → parts_from news ≡ Err finding → records_from news ≡ Err finding
+    fine : (parts : Parts) → parts_from news ≡ Ok parts → (records : List Seen) × (records_from news ≡ Ok records)
+
+  found_first : (root : RootItem) (news : List RootItem) → Found root (named_before root.key.objectid) → AreFound news → AreFound (root ∷ news)
+  unfolding named_parts behind
+  found_first root news one more = record {
+    found = λ finding at. first finding (step_err here with_rest finding at);
+    fine = λ parts at.
+        let s = step_ok here with_rest parts at in
+        let t = step_ok (parts_from news) (λ rest. fine_step (with_parts s.0 rest)) parts s.2 in
+        both (one.fine s.0 s.1) (more.fine t.0 t.1);
+  }
+    where
+      here : Result Parts Finding
+      here = tree_parts pairs known was is (named_before root.key.objectid) (named_root root)
+
+      with_rest : Parts → Result Parts Finding
+      with_rest parts = and_then (parts_from news) (λ rest. fine_step (with_parts parts rest))
+
+      whole : Records
+      whole = walk_in is.sup is.chunks (named_root root) is.image
+
+      later : (parts : Parts) (finding : Finding) → (all : List Seen) × (whole ≡ Ok all)
+          → (parts_from news ≡ Err finding)
+          ⊎ ((rest : Parts) × (parts_from news ≡ Ok rest) × (fine_step (with_parts parts rest) ≡ Err finding))
+          → then_records whole (records_from news) ≡ Err finding
+      later parts finding fine (inl failed) = rw (fine.1, more.found finding failed) refl
+      later parts finding fine (inr s) = elim (ok_never (with_parts parts s.0) finding s.2) [ ]
+
+      first : (finding : Finding) → (here ≡ Err finding) ⊎ ((parts : Parts) × (here ≡ Ok parts) × (with_rest parts ≡ Err finding))
+          → then_records whole (records_from news) ≡ Err finding
+      first finding (inl failed) = rw (one.found finding failed) refl
+      first finding (inr s) =
+          later s.0 finding (one.fine s.0 s.1) (step_err (parts_from news) (λ rest. fine_step (with_parts s.0 rest)) finding s.2)
+
+      both : (all : List Seen) × (whole ≡ Ok all) → (records : List Seen) × (records_from news ≡ Ok records)
+          → (records : List Seen) × (then_records whole (records_from news) ≡ Ok records)
+      both a b = (a.0 ++ b.0, rw (a.1, b.1) refl)
+
+  found_all : (news : List RootItem) → AreFound news
+  unfolding named_parts
+  found_all [] = record { found = λ finding at. elim (ok_never no_parts finding at) [ ]; fine = λ parts at. ([], refl) }
+  found_all (root ∷ news) = found_first root news (found_each root (named_before root.key.objectid) refl) (found_all news)
+
+pub named : OneTreeLaw → NamedLaw
+named law image pending old olds trees pairs is known news over =
+    let all = found_all law image pending old olds trees pairs is known over news in
+    (all.found, all.fine)

@@ -1,5 +1,5 @@
-use Rattle.tree_change.proofs.Named.{left_like}
+use Rattle.tree_change.proofs.Named.{named}
 use Rattle.tree_change.proofs.laws.named_from_law.Goals as goal
 
 pub returns : goal.returns
-returns c = absurd (cc)
+returns c = named
