@@ -2,9 +2,8 @@
 use Rattle.std.proofs.Common.{◌≡◌, ℕ, zero, suc, ◌-◌, ◌==◌, Bool, true, false, List, [], ◌∷◌, ◌++◌, ◌⊎◌, inl, inr, refl, ap, sym, subst, ◌∙◌, arith, if◌then◌else◌}
 use Rattle.std.proofs.lemmas.Bool.{eqb-true}
 use Rattle.std.proofs.lemmas.Bool.Decides.{nat_tests}
-use Rattle.std.specs.Prelude.{Option, Some, None, Result, Ok, Err, map}
+use Rattle.std.specs.Prelude.{Some, Result, Ok, Err, map}
 use Rattle.std.specs.List.{AllByRecursion, flat_map, fold, list_any}
-use Rattle.std.specs.Result.{IsOk}
 use Rattle.verdict.specs.Rules.{no_key}
 use Rattle.verdict.specs.declared.finding.Finding.{Finding}
 use Rattle.verdict.specs.declared.key.Key.{Key}
@@ -16,12 +15,11 @@ use Rattle.node_reader.specs.Stored.{Stored, block_in}
 use Rattle.node_reader.specs.declared.expect.Expect.{Expect}
 use Rattle.records.specs.Walk.{children_of, walk_of}
 use Rattle.records.specs.WalkLaw.{children_in, visited, visited_from}
-use Rattle.shared_trees.specs.Ending.{Ends, Lasts, ends_of}
+use Rattle.shared_trees.specs.Ending.{Lasts, ends_of}
 use Rattle.shared_trees.specs.EndsLaw.{all_ended, ended_at, next_or, walked_and, walked_below, walked_of}
-use Rattle.shared_trees.specs.Keeping.{AreListed, AreMarked, Marks, OneOf, Stands, Under, anew_of, comes_to, kept_of, last_in, live_at, starts_at, starts_in}
+use Rattle.shared_trees.specs.Keeping.{Marks, OneOf, Stands, Under, anew_of, comes_to, kept_of, last_in, live_at, starts_at, starts_in}
 use Rattle.shared_trees.specs.Known.{last_of}
 use Rattle.shared_trees.specs.Skips.{Anew, Kept}
-use Rattle.shared_trees.specs.declared.keeps.Ended.{Ended}
 use Rattle.shared_trees.proofs.Climbing.{some_live}
 use Rattle.shared_trees.proofs.EndsTold.{ends}
 use Rattle.shared_trees.proofs.Forest.{of_root}
@@ -202,8 +200,10 @@ module _ (sup : Super) (stored : Stored) where
 
   each_in : (es : List Expect) → AllByRecursion (λ v. OneOf (λ w. w.address ≡ v.address) es) es
   each_in [] = tt
-  each_in (e ∷ es) =
-      (inl refl, each_map (λ v. OneOf (λ w. w.address ≡ v.address) es) (λ v. OneOf (λ w. w.address ≡ v.address) (e ∷ es)) es (λ v h. inr h) (each_in es))
+  each_in (e ∷ es) = (
+    inl refl,
+    each_map (λ v. OneOf (λ w. w.address ≡ v.address) es) (λ v. OneOf (λ w. w.address ≡ v.address) (e ∷ es)) es (λ v h. inr h) (each_in es),
+  )
 
   module _ (pairs : Pairs) (root : Expect) (stands : Stands pairs sup stored root) where
     abbrev pub K : Kept
@@ -234,7 +234,8 @@ module _ (sup : Super) (stored : Stored) where
         (sym p.1 ∙ (ap (λ t. pairs t w.address) (p.0 ∙ sym q.0) ∙ (ap (pairs v.tree) at ∙ q.1))))
 
     -- the key that is told last of a block's address is the greatest in it or below it
-    pub lasts_told : AllByRecursion (λ v. last_at (map (ended_at sup stored) behind_all) v.address ≡ last_in (walk_of sup stored v)) (visited sup stored root)
+    pub lasts_told : AllByRecursion (λ v. last_at (map (ended_at sup stored) behind_all) v.address ≡ last_in (walk_of sup stored v))
+        (visited sup stored root)
     lasts_told =
         let es = visited sup stored root in
         let of = each_both (λ v. v.tree ≡ root.tree) (λ v. pairs v.tree v.address ≡ Some (live_at sup stored v)) es

@@ -1,5 +1,5 @@
 -- Two walks of which no block is shared: all of the first is gone, and all of the second came.
-use Rattle.std.proofs.Common.{◌≡◌, ℕ, zero, suc, ◌<◌, ◌==◌, Bool, true, false, not, ◌&&◌, ◌||◌, List, [], ◌∷◌, ◌++◌, length, refl, ap, sym, subst, ◌∙◌, arith, if◌then◌else◌}
+use Rattle.std.proofs.Common.{◌≡◌, ℕ, suc, ◌<◌, ◌==◌, Bool, true, false, not, ◌&&◌, ◌||◌, List, [], ◌∷◌, ◌++◌, length, refl, ap, sym, subst, ◌∙◌, arith}
 use Rattle.std.proofs.lemmas.Bool.Decides.{nat_tests}
 use Rattle.std.proofs.lemmas.Grind.{common_steps}
 use Rattle.std.proofs.lemmas.List.{get_or-map, length-map}
@@ -8,10 +8,8 @@ use Rattle.std.specs.Prelude.{Option, Some, None, is_some, Ok, map}
 use Rattle.std.specs.List.{AllByRecursion, AllPairs, cons_option, filter, filter_map, list_any}
 use Rattle.verdict.specs.OnDisk.{key_same}
 use Rattle.verdict.specs.declared.key.Key.{Key}
-use Rattle.verdict.specs.declared.place.Chunk.{Chunk}
 use Rattle.super_reader.specs.declared.Super.{Super}
 use Rattle.volume_items.specs.declared.root.RootItem.{RootItem}
-use Rattle.volume_items.specs.declared.root_at.RootAt.{RootAt}
 use Rattle.live_index.specs.Pairs.{Pairs}
 use Rattle.live_index.specs.declared.live.Live.{Live}
 use Rattle.node_reader.specs.Stored.{Stored}
@@ -23,19 +21,19 @@ use Rattle.records.specs.Walk.{block_at, walk_of}
 use Rattle.records.specs.WalkLaw.{visited}
 use Rattle.shared_trees.specs.Keeping.{Comes, Stands, last_in, live_at}
 use Rattle.shared_trees.specs.LivePairs.{live_in}
-use Rattle.shared_trees.specs.MergedLaw.{AreRead, AreShared, IsInOrder, begins_before, begins_with, chunk_in, chunks_seen, items, root_before, root_in, roots_seen}
+use Rattle.shared_trees.specs.MergedLaw.{AreRead, begins_before, chunks_seen, items, root_before, root_in, roots_seen}
 use Rattle.shared_trees.specs.OldSide.{kept_where}
 use Rattle.shared_trees.specs.Skips.{Kept, nothing, unkept}
 use Rattle.shared_trees.specs.Unshared.{AreOfPairs, is_block_seen, pair_seen}
 use Rattle.shared_trees.specs.declared.keeps.Ended.{Ended}
-use Rattle.shared_trees.proofs.Lives.{NoBlocks, entries_none, lives_are, ok_same}
+use Rattle.shared_trees.proofs.Lives.{NoBlocks, entries_none, lives_are}
 use Rattle.shared_trees.proofs.Merged.{read_of, walks_of}
 use Rattle.shared_trees.proofs.MergedLists.{chunks_merge, roots_merge}
 use Rattle.shared_trees.proofs.OldBlocks.{unshared_are}
 use Rattle.shared_trees.proofs.Trails.{Matches, Visit, all_own}
 use Rattle.shared_trees.proofs.Picking.{each_map}
 use Rattle.tree_change.specs.Gathered.{block_seen, blocks_seen}
-use Rattle.tree_change.specs.Merging.{chunks_among, chunks_left, has_named, named_before, root_at, root_at_of, roots_among, roots_left}
+use Rattle.tree_change.specs.Merging.{chunks_left, has_named, named_before, root_at, root_at_of, roots_among, roots_left}
 use Rattle.tree_change.specs.Walks.{last_at, live_with, lives_of, pairs_at}
 use Rattle.tree_change.proofs.Whole.{KeepsNone, unkept_whole}
 
@@ -157,10 +155,11 @@ module _ {A : Type 0} (same : A → A → Bool) (itself : (a : A) → same a a �
 
   each_among : (xs : List A) → AllByRecursion (λ x. list_any (λ one. same one x) xs ≡ true) xs
   each_among [] = tt
-  each_among (x ∷ xs) =
-      (ap (λ b. b || list_any (λ one. same one x) xs) (itself x),
-      each_map (λ y. list_any (λ one. same one y) xs ≡ true) (λ y. (same x y || list_any (λ one. same one y) xs) ≡ true) xs
-      (λ y is. or_right (same x y) (list_any (λ one. same one y) xs) is) (each_among xs))
+  each_among (x ∷ xs) = (
+    ap (λ b. b || list_any (λ one. same one x) xs) (itself x),
+    each_map (λ y. list_any (λ one. same one y) xs ≡ true) (λ y. (same x y || list_any (λ one. same one y) xs) ≡ true) xs
+        (λ y is. or_right (same x y) (list_any (λ one. same one y) xs) is) (each_among xs),
+  )
     where
       or_right : (a b : Bool) → b ≡ true → (a || b) ≡ true
       or_right true b is = refl

@@ -1,5 +1,5 @@
 -- The walks of trees that are gone are whole walks of old trees, which have no finding.
-use Rattle.std.proofs.Common.{◌≡◌, ℕ, Bool, true, false, List, [], ◌∷◌, ◌⊎◌, inl, inr, refl, subst, if◌then◌else◌}
+use Rattle.std.proofs.Common.{◌≡◌, ℕ, Bool, true, false, List, [], ◌∷◌, ◌⊎◌, inl, inr, subst, if◌then◌else◌}
 use Rattle.std.specs.Prelude.{Result, Ok, Err, map}
 use Rattle.std.specs.List.{AllByRecursion, list_any}
 use Rattle.std.specs.Result.{IsOk}

@@ -16,7 +16,7 @@ use Rattle.node_reader.specs.Stored.{Stored, stored_in}
 use Rattle.node_reader.specs.declared.expect.Expect.{Expect}
 use Rattle.records.specs.Contents.{chunk_tree_root, named_root, root_tree_root, tree_records}
 use Rattle.records.specs.Seen.{Seen}
-use Rattle.records.specs.Walk.{Records, behind, each, then_records, walk_in, walk_of}
+use Rattle.records.specs.Walk.{Records, behind, then_records, walk_in, walk_of}
 use Rattle.records.specs.WalkLaw.{visited}
 use Rattle.touched_pairs.specs.Moves.{is_moved}
 use Rattle.touched_pairs.specs.Touched.{written_in}
@@ -26,11 +26,10 @@ use Rattle.shared_trees.specs.Keeping.{AreUntouched, Stands, anew_of, kept_of}
 use Rattle.shared_trees.specs.KeepingWalk.{skip_in}
 use Rattle.shared_trees.specs.LivePairs.{Walked, live_in, table_of}
 use Rattle.shared_trees.specs.Meeting.{met_in}
-use Rattle.shared_trees.specs.Shared.{are_read_alike}
 use Rattle.shared_trees.specs.SharedLaw.{MarksTouched, touches_old}
 use Rattle.shared_trees.specs.SkipLaw.{IsSound}
 use Rattle.shared_trees.specs.Skips.{Kept, nothing, unkept}
-use Rattle.shared_trees.specs.TableLaw.{Tree, trees_in}
+use Rattle.shared_trees.specs.TableLaw.{Tree}
 use Rattle.shared_trees.proofs.Forest.{stands_as}
 use Rattle.shared_trees.proofs.Images.{stored_alike}
 use Rattle.shared_trees.proofs.KeptImage.{nodesize_same}
@@ -40,12 +39,11 @@ use Rattle.shared_trees.proofs.Sharing.{keeps}
 use Rattle.shared_trees.proofs.Sifting.{starts_level}
 use Rattle.shared_trees.proofs.Skipping.{skips, unkept_in, unkept_is}
 use Rattle.shared_trees.proofs.Trails.{Tells, Trail, all_own, tells, trail_of}
-use Rattle.tree_change.specs.AllTrees.{IsOver, KnowsTrees, NamedLaw, has_id, named_parts, no_parts, root_named, with_parts}
-use Rattle.tree_change.specs.Gathered.{Gathers, blocks_seen}
+use Rattle.tree_change.specs.AllTrees.{IsOver, KnowsTrees, NamedLaw, named_parts, no_parts, root_named, with_parts}
 use Rattle.tree_change.specs.Merging.{root_at}
-use Rattle.tree_change.specs.OneTree.{GivesTree, IsAmong, IsOldOf, IsTree, KnowsNothing, KnowsTree, OneTreeLaw, old_tree, side_of}
-use Rattle.tree_change.specs.Walks.{Known, NewWalk, Parts, Side, kept_by, lasts_by, listed_by, new_walk, no_tree, old_or_none, parts_of, tree_parts}
-use Rattle.tree_change.proofs.Olds.{among, fine_step, gathered, ok_never, old_stands, same_ok, step_err}
+use Rattle.tree_change.specs.OneTree.{GivesTree, IsAmong, KnowsNothing, KnowsTree, OneTreeLaw, old_tree, side_of}
+use Rattle.tree_change.specs.Walks.{Known, NewWalk, Parts, Side, kept_by, lasts_by, listed_by, new_walk, no_tree, parts_of, tree_parts}
+use Rattle.tree_change.proofs.Olds.{among, fine_step, gathered, ok_never, old_stands, step_err}
 use Rattle.tree_change.proofs.Whole.{KeepsNone, none_of}
 
 -- records have the finding of others, and where they have none the others have none
@@ -254,7 +252,8 @@ module _ (law : OneTreeLaw) (image : List ℕ) (pending : FinMap nat_cmp ℕ) (o
   found_other : (root : RootItem) (e : Expect) → IsAmong (old_tree image old e) trees → e.tree ≡ root.key.objectid → Found root None
   found_other root e one same =
       found_none known is (named_root root) pairs was
-      (subst (λ id. IsSound id (kept_by known) nothing (listed_by known) is.sup (stored_in is.image is.chunks is.sup.nodesize)) same (by over.known_is))
+      (subst (λ id. IsSound id (kept_by known) nothing (listed_by known) is.sup (stored_in is.image is.chunks is.sup.nodesize)) same
+      (by over.known_is))
     where
       by : KnowsTrees image pending old trees is known ⊎ KnowsNothing old is known
           → IsSound e.tree (kept_by known) nothing (listed_by known) is.sup (stored_in is.image is.chunks is.sup.nodesize)

@@ -1,22 +1,18 @@
 -- What changes in a tree where nothing is known of it as it was: the whole of it.
-use Rattle.std.proofs.Common.{◌≡◌, ℕ, ◌+◌, Bool, true, false, not, ◌&&◌, List, [], ◌∷◌, ◌⊎◌, inl, inr, length, refl, ap, sym, subst, ◌∙◌}
+use Rattle.std.proofs.Common.{◌≡◌, ℕ, ◌+◌, Bool, true, false, not, ◌&&◌, List, [], ◌⊎◌, inl, inr, length, refl, ap, sym, subst, ◌∙◌}
 use Rattle.std.proofs.lemmas.List.Sorted.{IsPermutation-refl}
 use Rattle.std.specs.Prelude.{Option, Some, None, Result, Ok, Err, map}
 use Rattle.std.specs.List.{filter}
-use Rattle.std.specs.List.Sorted.{IsPermutation}
 use Rattle.std.specs.Ordering.{nat_cmp}
 use Rattle.std.specs.FinMap.{FinMap}
-use Rattle.std.specs.Result.{IsOk}
 use Rattle.verdict.specs.Rules.{and_then}
 use Rattle.verdict.specs.declared.finding.Finding.{Finding}
-use Rattle.verdict.specs.declared.place.Chunk.{Chunk}
-use Rattle.volume_items.specs.declared.root_at.RootAt.{RootAt}
 use Rattle.live_index.specs.Pairs.{Pairs}
 use Rattle.live_index.specs.declared.live.Live.{Live}
 use Rattle.node_reader.specs.Stored.{Stored, stored_in}
 use Rattle.node_reader.specs.declared.expect.Expect.{Expect}
 use Rattle.records.specs.Seen.{Seen}
-use Rattle.records.specs.Walk.{Records, walk_in, walk_of}
+use Rattle.records.specs.Walk.{walk_in, walk_of}
 use Rattle.shared_trees.specs.Ending.{ends_in}
 use Rattle.shared_trees.specs.EndsLaw.{ended_at}
 use Rattle.shared_trees.specs.Keeping.{Stands}
@@ -24,7 +20,7 @@ use Rattle.shared_trees.specs.KeepingWalk.{skip_in}
 use Rattle.shared_trees.specs.LivePairs.{Walked, live_in, table_of}
 use Rattle.shared_trees.specs.Meeting.{met_in}
 use Rattle.shared_trees.specs.MergedLaw.{IsInOrder, begins_before, chunks_seen, items, roots_seen}
-use Rattle.shared_trees.specs.OldSide.{IsRoot, kept_at}
+use Rattle.shared_trees.specs.OldSide.{kept_at}
 use Rattle.shared_trees.specs.Shared.{is_shared}
 use Rattle.shared_trees.specs.SharedLaw.{HasTrees}
 use Rattle.shared_trees.specs.ShiftedLaw.{is_shifted}
@@ -69,7 +65,9 @@ module _ (is : Side) (known : Known) (none : (tree address : ℕ) → known.pair
   whole now news walk = record {
     read = gathered news;
     met = [];
-    ended = map (ended_at is.sup now_stored) (behind_all is.sup now_stored (table_of (live_in news)) now (tree_table is.sup now_stored now news walk));
+    ended =
+        map (ended_at is.sup now_stored)
+        (behind_all is.sup now_stored (table_of (live_in news)) now (tree_table is.sup now_stored now news walk));
   }
 
   made_whole : (now : Expect) (news : List Seen) (walk : walk_of is.sup now_stored now ≡ Ok news) → made now news ≡ whole now news walk
@@ -134,7 +132,12 @@ module _ (image : List ℕ) (pending : FinMap nat_cmp ℕ) (old : Walked) (trees
       → old_or_none known stops (side_of image old) before ≡ Ok all → OldIs before all
   unfolding walk_in live_in
   old_is now None stops was all at =
-      record { olds = []; records = refl; same = sym (same_ok no_tree all at); of = λ shared free. record { blocks = refl; count = refl; items = refl } }
+      record {
+        olds = [];
+        records = refl;
+        same = sym (same_ok no_tree all at);
+        of = λ shared free. record { blocks = refl; count = refl; items = refl };
+      }
   old_is now (Some e) stops was all at =
       let given = old_given known stops image old (stopped stops) e all at in
       record {
@@ -152,7 +155,8 @@ module _ (image : List ℕ) (pending : FinMap nat_cmp ℕ) (old : Walked) (trees
   in_order : {A : Type 0} (before : A → A → Bool) (left list : List A) → left ≡ list → IsInOrder before list list → IsInOrder before left list
   in_order before left list same order = subst (λ some. IsInOrder before some list) (sym same) order
 
-  changes : (now : Expect) (before : Option Expect) (new : NewWalk) (all : Gathers) (n : NewIs is known nothing_is.none now new) (o : OldIs before all)
+  changes : (now : Expect) (before : Option Expect) (new : NewWalk) (all : Gathers) (n : NewIs is known nothing_is.none now new)
+      (o : OldIs before all)
       → ChangesTree image pending old is now o.olds n.news (parts_of pairs (whole is known nothing_is.none now n.news n.walk) (gathered o.olds))
   changes now before new all n o =
       let shared = shares image pending old is n.news in
@@ -179,7 +183,8 @@ module _ (image : List ℕ) (pending : FinMap nat_cmp ℕ) (old : Walked) (trees
         chunks = λ tree. in_order begins_before (chunks_left (chunks_seen o.olds) (items o.olds) (items n.news)) (chunks_seen n.news)
             (chunks_all o.olds n.news)
             (record { all = IsPermutation-refl (chunks_seen n.news); ascends = chunks_ascend shared f is.sup stored now n.news n.walk tree });
-        roots = λ tree. in_order named_before (roots_left (map root_at (roots_seen o.olds)) (items o.olds) (items n.news)) (map root_at (roots_seen n.news))
+        roots = λ tree. in_order named_before (roots_left (map root_at (roots_seen o.olds)) (items o.olds) (items n.news))
+            (map root_at (roots_seen n.news))
             (roots_all o.olds n.news)
             (record {
               all = IsPermutation-refl (map root_at (roots_seen n.news));
@@ -197,7 +202,8 @@ module _ (image : List ℕ) (pending : FinMap nat_cmp ℕ) (old : Walked) (trees
   failed before now was finding at = by (step_err (new_walk known is now) (then_old before) finding at)
     where
       later : (new : NewWalk) → (old_or_none known new.met (side_of image old) before ≡ Err finding)
-          ⊎ ((all : Gathers) × (old_or_none known new.met (side_of image old) before ≡ Ok all) × (fine_step (parts_of pairs new all) ≡ Err finding)) → ⊥
+          ⊎ ((all : Gathers) × (old_or_none known new.met (side_of image old) before ≡ Ok all)
+          × (fine_step (parts_of pairs new all) ≡ Err finding)) → ⊥
       later new (inl at) = old_never now before new.met was finding at
       later new (inr s) = ok_never (parts_of pairs new s.0) finding s.2
 
@@ -205,7 +211,8 @@ module _ (image : List ℕ) (pending : FinMap nat_cmp ℕ) (old : Walked) (trees
           → walk_of is.sup (now_stored is known nothing_is.none) now ≡ Err finding
       by (inl at) = new_found is known nothing_is.none now finding at
       by (inr s) =
-          elim (later s.0 (step_err (old_or_none known s.0.met (side_of image old) before) (λ all. fine_step (parts_of pairs s.0 all)) finding s.2)) [ ]
+          elim (later s.0
+          (step_err (old_or_none known s.0.met (side_of image old) before) (λ all. fine_step (parts_of pairs s.0 all)) finding s.2)) [ ]
 
   gives : (before : Option Expect) (now : Expect) → IsOldOf image old trees now before → GivesTree image pending old pairs is known before now
   unfolding tree_parts walk_in
@@ -215,11 +222,14 @@ module _ (image : List ℕ) (pending : FinMap nat_cmp ℕ) (old : Walked) (trees
         let s = step_ok (new_walk known is now) (then_old before) parts at in
         let t = step_ok (old_or_none known s.0.met (side_of image old) before) (λ all. fine_step (parts_of pairs s.0 all)) parts s.2 in
         let n = new_given is known nothing_is.none now s.0 s.1 in
-        let o = old_is now before s.0.met was t.0 t.1 in
-        (
-          o.olds, n.news, o.records, n.walk,
+        let o = old_is now before s.0.met was t.0 t.1 in (
+          o.olds,
+          n.news,
+          o.records,
+          n.walk,
           subst (ChangesTree image pending old is now o.olds n.news)
-              (ap (λ new. parts_of pairs new (gathered o.olds)) (sym n.same) ∙ (ap (parts_of pairs s.0) (sym o.same) ∙ same_ok (parts_of pairs s.0 t.0) parts t.2))
+              (ap (λ new. parts_of pairs new (gathered o.olds)) (sym n.same)
+              ∙ (ap (parts_of pairs s.0) (sym o.same) ∙ same_ok (parts_of pairs s.0 t.0) parts t.2))
               (changes now before s.0 t.0 n o),
         );
   }

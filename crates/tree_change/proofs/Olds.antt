@@ -9,7 +9,7 @@ use Rattle.node_reader.specs.Stored.{stored_in}
 use Rattle.node_reader.specs.declared.expect.Expect.{Expect}
 use Rattle.records.specs.Seen.{Seen}
 use Rattle.records.specs.Walk.{Records, walk_of}
-use Rattle.shared_trees.specs.Keeping.{Stands, anew_of}
+use Rattle.shared_trees.specs.Keeping.{Stands}
 use Rattle.shared_trees.specs.KeepingWalk.{skip_in}
 use Rattle.shared_trees.specs.LivePairs.{Walked, live_in, table_of}
 use Rattle.shared_trees.specs.MergedLaw.{items}
@@ -59,7 +59,8 @@ never (Err other) finding fine is = absurd (cc)
 abbrev pub gathered : List Seen → Gathers
 gathered records = record { blocks = blocks_seen records; items = items records }
 
-module _ (known : Known) (stops : List Expect) (image : List ℕ) (old : Walked) (none : KeepsNone (kept_at known.pairs stops known.under)) (e : Expect) where
+module _ (known : Known) (stops : List Expect) (image : List ℕ) (old : Walked) (none : KeepsNone (kept_at known.pairs stops known.under))
+    (e : Expect) where
   abbrev pub walk : Records
   walk = walk_of old.sup (old_tree image old e).0 e
 
@@ -68,7 +69,8 @@ module _ (known : Known) (stops : List Expect) (image : List ℕ) (old : Walked)
   old_skip = skip_whole (kept_at known.pairs stops known.under) none old.sup (stored_in image old.chunks old.sup.nodesize) known.under e
 
   -- the walk of an old tree that keeps nothing
-  pub old_given : (all : Gathers) → old_walk known stops (side_of image old) e ≡ Ok all → (olds : List Seen) × (walk ≡ Ok olds) × (all ≡ gathered olds)
+  pub old_given : (all : Gathers) → old_walk known stops (side_of image old) e ≡ Ok all
+      → (olds : List Seen) × (walk ≡ Ok olds) × (all ≡ gathered olds)
   unfolding old_walk
   old_given all is =
       let s = step_ok (skip_in (kept_at known.pairs stops known.under) (listed_by known) old.sup old.chunks e image)

@@ -1,26 +1,23 @@
 -- Walks that keep no block: they are whole walks, they meet nothing, and they are done with each block of the tree.
-use Rattle.std.proofs.Common.{◌≡◌, ℕ, zero, suc, ◌-◌, Bool, true, false, ◌||◌, List, [], ◌∷◌, ◌++◌, ◌⊎◌, inl, inr, refl, ap, sym, subst, ◌∙◌, arith, if◌then◌else◌}
-use Rattle.std.specs.Prelude.{Option, Some, None, Result, Ok, Err}
-use Rattle.std.specs.List.{AllByRecursion, flat_map}
+use Rattle.std.proofs.Common.{◌≡◌, ℕ, zero, suc, ◌-◌, Bool, true, false, ◌||◌, List, [], ◌∷◌, ◌++◌, refl, ap, sym, ◌∙◌, if◌then◌else◌}
+use Rattle.std.specs.Prelude.{Option, Some, None, Ok, Err}
+use Rattle.std.specs.List.{flat_map}
 use Rattle.verdict.specs.Rules.{and_then, no_key}
-use Rattle.verdict.specs.declared.finding.Finding.{Finding}
 use Rattle.verdict.specs.declared.key.Key.{Key}
 use Rattle.super_reader.specs.declared.Super.{Super}
 use Rattle.live_index.specs.Pairs.{Pairs}
-use Rattle.node_reader.specs.Layout.{pointers_of}
 use Rattle.node_reader.specs.Stored.{Stored, block_in}
 use Rattle.node_reader.specs.declared.expect.Expect.{Expect}
-use Rattle.records.specs.Walk.{Records, children_of, each, then_records, walk_of}
-use Rattle.records.specs.WalkLaw.{children_in, visited, visited_from}
-use Rattle.shared_trees.specs.Ending.{Ends, Lasts, each_ends, ends_and, ends_below, ends_of, ends_or, read_ends}
-use Rattle.shared_trees.specs.EndsLaw.{next_or, walked_and, walked_below, walked_of}
-use Rattle.shared_trees.specs.Keeping.{Marks, OneOf, Under, anew_of, kept_of, last_if_same}
+use Rattle.records.specs.Walk.{Records, each, then_records, walk_of}
+use Rattle.records.specs.WalkLaw.{children_in, visited}
+use Rattle.shared_trees.specs.Ending.{Lasts, each_ends, ends_and, ends_below, ends_of, ends_or, read_ends}
+use Rattle.shared_trees.specs.Keeping.{Marks, Under, anew_of, kept_of, last_if_same}
 use Rattle.shared_trees.specs.Meeting.{met_and, met_below, met_of, met_or}
 use Rattle.shared_trees.specs.OldSide.{kept_at}
 use Rattle.shared_trees.specs.Skips.{Anew, Kept, nothing, own_of, part_of, skip_of, unkept, where_new}
 use Rattle.shared_trees.specs.Stops.{is_stop}
 use Rattle.shared_trees.proofs.Sifting.{starts_level}
-use Rattle.shared_trees.proofs.Skipping.{children_level, skips}
+use Rattle.shared_trees.proofs.Skipping.{skips}
 use Rattle.shared_trees.proofs.Trails.{walk_is_own}
 
 -- no block is kept
@@ -105,7 +102,8 @@ module _ (kept : Kept) (none : KeepsNone kept) (sup : Super) (stored : Stored) w
         ∙ met_under e.level (children_in (e.level - 1) e (block_in stored sup.fsid e))
 
 -- two walks that keep no block are done with the same blocks
-module _ (kept other : Kept) (none : KeepsNone kept) (also : KeepsNone other) (anew again : Anew) (lasts more : Lasts) (sup : Super) (stored : Stored) where
+module _ (kept other : Kept) (none : KeepsNone kept) (also : KeepsNone other) (anew again : Anew) (lasts more : Lasts)
+    (sup : Super) (stored : Stored) where
   block_ends : (level : ℕ) → ends_below kept anew lasts level sup stored ≡ ends_below other again more level sup stored → (e : Expect)
       → ends_and kept anew lasts (ends_below kept anew lasts level sup stored) sup stored e
       ≡ ends_and other again more (ends_below other again more level sup stored) sup stored e
