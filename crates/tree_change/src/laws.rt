@@ -1,6 +1,6 @@
 //! Laws of what changes in trees. Each stands on a function that does nothing.
 
-ghost use Rattle.tree_change.specs.OneTree.{OneTreeLaw};
+ghost use Rattle.tree_change.specs.OneTree.{NothingTreeLaw, OneTreeLaw};
 ghost use Rattle.tree_change.specs.AllTrees.{AllTreesLaw, GoneLaw, NamedLaw};
 
 /// What the two walks of a tree give is what changes in it, and their first finding is that of the whole walk.
@@ -8,9 +8,19 @@ pub fn one_tree_law()
     ensures { OneTreeLaw }
 {}
 
+/// So it is where nothing is known of the old tree.
+pub fn nothing_tree_law()
+    ensures { NothingTreeLaw }
+{}
+
 /// The first finding of the trees that are named now is that of their whole walks.
 pub fn named_law()
     ensures { NamedLaw }
+{}
+
+/// The same, where it is so with each tree.
+pub fn named_from_law()
+    ensures { OneTreeLaw → NamedLaw }
 {}
 
 /// The walks of trees that are gone have no finding.

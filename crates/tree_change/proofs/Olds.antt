@@ -1,0 +1,91 @@
+-- The old trees of an image: their walks have no finding, and those that stop nowhere are whole walks.
+use Rattle.std.proofs.Common.{◌≡◌, ℕ, List, [], ◌∷◌, ◌⊎◌, inl, inr, refl, sym, subst, ◌∙◌}
+use Rattle.std.specs.Prelude.{Result, Ok, Err}
+use Rattle.std.specs.List.{AllByRecursion}
+use Rattle.std.specs.Result.{IsOk}
+use Rattle.verdict.specs.Rules.{and_then}
+use Rattle.verdict.specs.declared.finding.Finding.{Finding}
+use Rattle.node_reader.specs.Stored.{stored_in}
+use Rattle.node_reader.specs.declared.expect.Expect.{Expect}
+use Rattle.records.specs.Seen.{Seen}
+use Rattle.records.specs.Walk.{Records, walk_of}
+use Rattle.shared_trees.specs.Keeping.{Stands}
+use Rattle.shared_trees.specs.KeepingWalk.{skip_in}
+use Rattle.shared_trees.specs.LivePairs.{Walked, live_in, table_of}
+use Rattle.shared_trees.specs.MergedLaw.{items}
+use Rattle.shared_trees.specs.OldSide.{kept_at}
+use Rattle.shared_trees.specs.SharedLaw.{HasTrees}
+use Rattle.shared_trees.specs.TableLaw.{Tree}
+use Rattle.shared_trees.proofs.Forest.{tables_stand}
+use Rattle.shared_trees.proofs.Rooted.{step_ok}
+use Rattle.shared_trees.proofs.Treed.{trees_walk}
+use Rattle.tree_change.specs.Gathered.{Gathers, blocks_seen}
+use Rattle.tree_change.specs.OneTree.{IsAmong, old_tree, side_of}
+use Rattle.tree_change.specs.Walks.{Known, listed_by, old_walk}
+use Rattle.tree_change.proofs.Whole.{KeepsNone, skip_whole}
+
+-- what holds of each tree holds of one of them
+pub among : (P : Tree → Type 0) (tree : Tree) (trees : List Tree) → IsAmong tree trees → AllByRecursion P trees → P tree
+among P tree [] one all = elim one [ ]
+among P tree (other ∷ trees) (inl same) all = subst P (sym same) all.0
+among P tree (other ∷ trees) (inr later) all = among P tree trees later all.1
+
+-- the table of the old pairs stands for each old tree
+pub old_stands : (image : List ℕ) (old : Walked) (trees : List Tree) → HasTrees image old trees
+    → AllByRecursion (λ tree. Stands (table_of (live_in old.seen)) old.sup tree.0 tree.1) trees
+old_stands image old trees has = let walks = trees_walk image old trees has in tables_stand old.sup trees old.seen walks.0 walks.1
+
+-- a value, as a step without a finding
+abbrev pub fine_step : {A : Type 0} → A → Result A Finding
+fine_step value = Ok value
+
+-- a step has a finding, or what follows has it
+pub step_err : {A B : Type 0} (step : Result A Finding) (next : A → Result B Finding) (finding : Finding) → and_then step next ≡ Err finding
+    → (step ≡ Err finding) ⊎ ((value : A) × (step ≡ Ok value) × (next value ≡ Err finding))
+step_err (Err other) next finding is = inl cc
+step_err (Ok value) next finding is = inr (value, refl, is)
+
+pub ok_never : {A : Type 0} (value : A) (finding : Finding) → fine_step value ≡ Err finding → ⊥
+ok_never value finding is = cc
+
+pub same_ok : {A : Type 0} (a b : A) → fine_step a ≡ fine_step b → a ≡ b
+same_ok a b is = cc
+
+never : (walk : Records) (finding : Finding) → IsOk walk → walk ≡ Err finding → ⊥
+never (Ok records) finding fine is = cc
+never (Err other) finding fine is = absurd (cc)
+
+-- what is gathered of records
+abbrev pub gathered : List Seen → Gathers
+gathered records = record { blocks = blocks_seen records; items = items records }
+
+module _ (known : Known) (stops : List Expect) (image : List ℕ) (old : Walked) (none : KeepsNone (kept_at known.pairs stops known.under))
+    (e : Expect) where
+  abbrev pub walk : Records
+  walk = walk_of old.sup (old_tree image old e).0 e
+
+  old_skip : skip_in (kept_at known.pairs stops known.under) (listed_by known) old.sup old.chunks e image ≡ walk
+  unfolding skip_in
+  old_skip = skip_whole (kept_at known.pairs stops known.under) none old.sup (stored_in image old.chunks old.sup.nodesize) known.under e
+
+  -- the walk of an old tree that keeps nothing
+  pub old_given : (all : Gathers) → old_walk known stops (side_of image old) e ≡ Ok all
+      → (olds : List Seen) × (walk ≡ Ok olds) × (all ≡ gathered olds)
+  unfolding old_walk
+  old_given all is =
+      let s = step_ok (skip_in (kept_at known.pairs stops known.under) (listed_by known) old.sup old.chunks e image)
+      (λ records. fine_step (gathered records)) all is in
+      (s.0, sym old_skip ∙ s.1, sym (same_ok (gathered s.0) all s.2))
+
+  -- it has no finding
+  pub old_fine : IsOk walk → (finding : Finding) → old_walk known stops (side_of image old) e ≡ Err finding → ⊥
+  unfolding old_walk
+  old_fine fine finding is =
+      by (step_err (skip_in (kept_at known.pairs stops known.under) (listed_by known) old.sup old.chunks e image)
+      (λ records. fine_step (gathered records)) finding is)
+    where
+      by : (skip_in (kept_at known.pairs stops known.under) (listed_by known) old.sup old.chunks e image ≡ Err finding)
+          ⊎ ((records : List Seen) × (skip_in (kept_at known.pairs stops known.under) (listed_by known) old.sup old.chunks e image ≡ Ok records)
+          × (fine_step (gathered records) ≡ Err finding)) → ⊥
+      by (inl failed) = never walk finding fine (sym old_skip ∙ failed)
+      by (inr s) = ok_never (gathered s.0) finding s.2
