@@ -4,3 +4,4 @@ pub mod Merging
 pub mod OneTree
 pub mod Change
 pub mod AllTrees
+pub mod Leaves

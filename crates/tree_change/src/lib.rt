@@ -4,6 +4,7 @@
 mod change;
 mod gather;
 mod laws;
+mod lives;
 mod path;
 
 pub use change::{Change, Diff};
