@@ -1,2 +1,4 @@
 pub mod Gathering
 pub mod Leaving
+pub mod RootRules
+pub mod Naming

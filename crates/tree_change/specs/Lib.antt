@@ -5,3 +5,4 @@ pub mod OneTree
 pub mod Change
 pub mod AllTrees
 pub mod Leaves
+pub mod Roots

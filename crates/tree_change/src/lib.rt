@@ -6,6 +6,7 @@ mod gather;
 mod laws;
 mod lives;
 mod path;
+mod roots;
 
 pub use change::{Change, Diff};
 pub use laws::{all_trees_law, gone_trees_law, named_law, one_tree_law};
