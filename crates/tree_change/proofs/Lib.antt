@@ -7,3 +7,6 @@ pub mod Named
 pub mod Nothing
 pub mod Olds
 pub mod Whole
+pub mod Leaving
+pub mod RootRules
+pub mod Naming

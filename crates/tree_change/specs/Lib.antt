@@ -5,3 +5,5 @@ pub mod OneTree
 pub mod Change
 pub mod AllTrees
 pub mod Told
+pub mod Leaves
+pub mod Roots

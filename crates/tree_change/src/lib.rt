@@ -4,8 +4,10 @@
 mod change;
 mod gather;
 mod laws;
+mod lives;
 mod path;
 mod walks;
+mod roots;
 
 pub use change::{Change, Diff};
 pub use laws::{

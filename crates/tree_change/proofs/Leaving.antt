@@ -1,0 +1,38 @@
+-- Live pairs by the greatest keys that are held.
+use Rattle.std.proofs.Common.{◌≡◌, ℕ, ◌+◌, ◌<◌, List, [], ◌∷◌, ◌++◌, length, take, get_or, Option, Some, None, ap, refl, sym, ◌∙◌}
+use Rattle.std.specs.Prelude.{option_to_list}
+use Rattle.std.specs.List.{filter_map}
+use Rattle.std.proofs.lemmas.List.{append_assoc, take_more}
+use Rattle.std.proofs.lemmas.List.Elements.{filter_map-append}
+use Rattle.verdict.specs.declared.key.Key.{Key}
+use Rattle.live_index.specs.Pairs.{Pairs}
+use Rattle.node_reader.specs.declared.expect.Expect.{Expect}
+use Rattle.records.specs.declared.rec.BlockAt.{BlockAt}
+use Rattle.shared_trees.specs.declared.keeps.Ended.{Ended}
+use Rattle.tree_change.specs.Leaves.{lives_by, moved_by}
+use Rattle.tree_change.specs.Walks.{last_at, live_with, lives_of, moved_of}
+
+-- the greatest keys are as they were told: so are the live pairs by them
+pub lives_alike : (lasts : ℕ → Key) (ended : List Ended) (blocks : List BlockAt) → ((address : ℕ) → lasts address ≡ last_at ended address)
+    → lives_by lasts blocks ≡ lives_of ended blocks
+lives_alike lasts ended [] same = refl
+lives_alike lasts ended (block ∷ blocks) same =
+    ap (λ last. live_with block last ∷ lives_by lasts blocks) (same block.address)
+    ∙ ap (λ more. live_with block (last_at ended block.address) ∷ more) (lives_alike lasts ended blocks same)
+
+pub moved_alike : (pairs : Pairs) (lasts : ℕ → Key) (ended : List Ended) (met : List Expect) → ((address : ℕ) → lasts address ≡ last_at ended address)
+    → moved_by pairs lasts met ≡ moved_of pairs ended met
+moved_alike pairs lasts ended [] same = refl
+moved_alike pairs lasts ended (e ∷ met) same = rw (same e.address, moved_alike pairs lasts ended met same) refl
+
+-- one block more, where it may give a pair
+one : {B : Type 0} (some : Option B) (h : Option B) → some ≡ h → option_to_list some ≡ filter_map (λ (x : Option B). x) (h ∷ [])
+one None h same = rw (sym same) refl
+one (Some x) h same = rw (sym same) refl
+
+pub some_more : {A B : Type 0} (f : A → Option B) (old now new : List B) (some : Option B) (xs : List A) (i : ℕ) (d : A) → i < length xs
+    → now ≡ old ++ filter_map f (take i xs) → some ≡ f (get_or xs i d) → new ≡ now ++ option_to_list some → new ≡ old ++ filter_map f (take (i + 1) xs)
+some_more f old now new some xs i d inside so is more =
+    more ∙ ap (λ l. l ++ option_to_list some) so ∙ append_assoc old (filter_map f (take i xs)) (option_to_list some)
+    ∙ ap (λ l. old ++ (filter_map f (take i xs) ++ l)) (one some (f (get_or xs i d)) is)
+    ∙ ap (λ l. old ++ l) (sym (ap (filter_map f) (take_more xs i d inside) ∙ filter_map-append f (take i xs) (get_or xs i d ∷ [])))
