@@ -6,8 +6,9 @@ mod gather;
 mod laws;
 mod lives;
 mod path;
-mod walks;
 mod roots;
+mod trees;
+mod walks;
 
 pub use change::{Change, Diff};
 pub use laws::{

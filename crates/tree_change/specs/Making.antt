@@ -1,0 +1,77 @@
+-- What changes in trees, as private functions make it.
+use Rattle.std.specs.Prelude.{ℕ, ◌≡◌, ◌≤◌, ◌+◌, ◌*◌, true, List, map, Option, Result, Ok, Err, IfSome}
+use Rattle.std.specs.FinMap.{empty}
+use Rattle.verdict.specs.Trees.{is_node_size}
+use Rattle.verdict.specs.declared.finding.Finding.{Finding}
+use Rattle.recon_disk.specs.declared.disk.Disk.{Ghosts}
+use Rattle.write_cache.specs.Cache.{overlaid}
+use Rattle.live_index.specs.Table.{pairs_of}
+use Rattle.node_reader.specs.declared.expect.Expect.{Expect}
+use Rattle.volume_items.specs.declared.root_at.RootAt.{RootAt}
+use Rattle.block_source.specs.declared.halt.Halt.{Halt}
+use Rattle.block_source.specs.declared.halt.Halt.TheVariants.{Found}
+use Rattle.tree_change.specs.AllTrees.{gone_all, named_parts, with_parts}
+use Rattle.tree_change.specs.Gathered.{located_item}
+use Rattle.tree_change.specs.Told.{known_by, side_with}
+use Rattle.tree_change.specs.Walks.{Parts, Side, gone_parts, tree_parts}
+use Rattle.tree_change.specs.declared.trees.Sides.{Sides}
+use Rattle.tree_change.specs.declared.trees.TreeParts.{TreeParts}
+
+-- both sides are read by sound sizes from a device of so many bytes, the one as it was without pending writes
+pub record FitSides {L : Type 0} (sides : Sides L) (end : ℕ) : Type 0 where
+  pub was_size : is_node_size sides.was.sup.now.nodesize ≡ true
+  pub is_size : is_node_size sides.is.sup.now.nodesize ≡ true
+  pub was_end : sides.was.end ≡ end
+  pub is_end : sides.is.end ≡ end
+  pub none : sides.was.cache.now ≡ empty
+
+-- the two images, of the device's bytes
+abbrev pub was_side : {L : Type 0} → Sides L → List ℕ → Side
+was_side sides image = side_with sides.was image
+
+abbrev pub is_side : {L : Type 0} → Sides L → List ℕ → Side
+is_side sides image = side_with sides.is (overlaid sides.is.cache.now 0 image)
+
+-- what changes in a tree, in one that is gone, in all that are named now, and in all that are gone
+abbrev pub parts_in : {L : Type 0} → Sides L → Option Expect → Expect → List ℕ → Result Parts Finding
+parts_in sides before now image = tree_parts (pairs_of sides.table.now) (known_by sides.known) (was_side sides image) (is_side sides image) before now
+
+abbrev pub gone_in : {L : Type 0} → Sides L → Expect → List ℕ → Result Parts Finding
+gone_in sides before image = gone_parts (pairs_of sides.table.now) (known_by sides.known) (was_side sides image) before
+
+abbrev pub named_parts_in : {L : Type 0} → Sides L → List RootAt → List RootAt → List ℕ → Result Parts Finding
+named_parts_in sides olds news image =
+    named_parts (pairs_of sides.table.now) (known_by sides.known) (was_side sides image) (is_side sides image) olds news
+
+abbrev pub gone_parts_in : {L : Type 0} → Sides L → List RootAt → List RootAt → List ℕ → Result Parts Finding
+gone_parts_in sides news olds image = gone_all (pairs_of sides.table.now) (known_by sides.known) (was_side sides image) news olds
+
+-- what changes in trees, as it is made of this many blocks that were read
+abbrev pub parts_by : TreeParts → ℕ → Parts
+parts_by made count = record {
+  old_blocks = made.old_blocks.items;
+  new_blocks = made.new_blocks.items;
+  moved = made.moved.items;
+  old_items = map located_item made.old_items.items;
+  new_items = map located_item made.new_items.items;
+  count = count;
+}
+
+-- Where the disk tells its bytes, a step makes these parts, at two reads at most for each block; or it has their finding.
+abbrev pub TellsParts : {D : Type 0} → (disk : Ghosts D) → D → D → Result TreeParts Halt → (List ℕ → Result Parts Finding) → Type 0
+TellsParts disk old new (Err (Found finding)) parts = IfSome (disk.bytes old) (λ image. parts image ≡ Err finding)
+TellsParts disk old new (Err other) parts = Unit {0}
+TellsParts disk old new (Ok made) parts =
+    IfSome (disk.bytes old) (λ image. (count : ℕ) × (parts image ≡ Ok (parts_by made count)) × (disk.reads new ≤ disk.reads old + 2 * count))
+
+-- parts are put behind others, of this many blocks
+pub record IsAdded (some all : TreeParts) (more : Parts) (before after : ℕ) : Type 0 where
+  pub behind : (count : ℕ) → parts_by all (count + more.count) ≡ with_parts (parts_by some count) more
+  pub reads : after ≤ before + 2 * more.count
+
+-- the same of a step that puts the parts behind others
+abbrev pub AddsParts : {D A : Type 0} → (disk : Ghosts D) → D → D → TreeParts → TreeParts → Result A Halt → (List ℕ → Result Parts Finding) → Type 0
+AddsParts disk old new some all (Err (Found finding)) parts = IfSome (disk.bytes old) (λ image. parts image ≡ Err finding)
+AddsParts disk old new some all (Err other) parts = Unit {0}
+AddsParts disk old new some all (Ok done) parts =
+    IfSome (disk.bytes old) (λ image. (more : Parts) × (parts image ≡ Ok more) × IsAdded some all more (disk.reads old) (disk.reads new))

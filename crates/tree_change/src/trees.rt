@@ -1,0 +1,194 @@
+//! What changes in trees.
+
+ghost use Rattle.std.specs.Prelude.{◌≡◌, ◌+◌, ℕ, OnOk};
+ghost use Rattle.recon_disk.specs.Keeping.{Kept};
+ghost use Rattle.block_source.specs.Gives.{is_disk_halt};
+ghost use Rattle.tree_change.specs.AllTrees.{no_parts, with_parts};
+ghost use Rattle.tree_change.specs.Making.{AddsParts, FitSides, TellsParts, gone_parts_in, gone_in, named_parts_in, parts_by, parts_in};
+
+use crate::gather::Gathered;
+use crate::lives::{add_known, add_new};
+use crate::roots::{ids_of, named_at};
+use crate::walks::{KnownTrees, walk_new, walk_old};
+use block_source::{BlockSource, Halt};
+use live_index::{Live, LiveIndex};
+use node_reader::Expect;
+use recon_disk::{Disk, Steps};
+use records::ItemAt;
+use std::alloc::Global;
+use volume_items::RootAt;
+
+/// What changes in trees: the pairs that are not shared, the shared ones that are shifted, and the items of the first.
+#[derive(Drop)]
+pub(crate) struct TreeParts {
+    /// The old pairs that are not shared.
+    pub(crate) old_blocks: Vec<Live>,
+    /// The new pairs that are not shared.
+    pub(crate) new_blocks: Vec<Live>,
+    /// The shared pairs whose node above or greatest key is another.
+    pub(crate) moved: Vec<Live>,
+    /// The items of the old pairs.
+    pub(crate) old_items: Vec<ItemAt>,
+    /// The items of the new pairs.
+    pub(crate) new_items: Vec<ItemAt>,
+}
+
+/// An image and the image that pending writes make of it, and what is known of the first.
+#[derive(Clone, Copy)]
+pub(crate) struct Sides<'a, L> {
+    /// The image as it was.
+    pub(crate) was: BlockSource<'a>,
+    /// The image as it is, with the pending writes.
+    pub(crate) is: BlockSource<'a>,
+    /// Its live pairs as it was.
+    pub(crate) table: &'a LiveIndex<L>,
+    /// What is known of its trees as they were, for what is kept.
+    pub(crate) known: KnownTrees<'a, L>,
+}
+
+impl TreeParts {
+    /// No parts. They take their memory from this allocator.
+    pub(crate) fn new(alloc: Global) -> TreeParts
+        ensures { parts_by result 0 ≡ no_parts }
+    {
+        TreeParts {
+            old_blocks: Vec::new(alloc),
+            new_blocks: Vec::new(alloc),
+            moved: Vec::new(alloc),
+            old_items: Vec::new(alloc),
+            new_items: Vec::new(alloc),
+        }
+    }
+
+    /// Puts what changes in other trees behind it.
+    pub(crate) fn add(&mut self, more: TreeParts) -> Result<(), Halt>
+        ensures { OnOk result ((count other : ℕ) →
+            parts_by self.new (count + other) ≡ with_parts (parts_by self.old count) (parts_by more other)) }
+    {
+        let mut more = more;
+        self.old_blocks.append(&mut more.old_blocks)?;
+        self.new_blocks.append(&mut more.new_blocks)?;
+        self.moved.append(&mut more.moved)?;
+        self.old_items.append(&mut more.old_items)?;
+        self.new_items.append(&mut more.new_items)?;
+        Ok(())
+    }
+}
+
+/// What changes in a tree that is, and that was or was not.
+pub(crate) fn change_tree<D: Disk, L>(
+    alloc: Global,
+    disk: &mut D,
+    sides: &Sides<'_, L>,
+    steps: &mut Steps<L>,
+    before: Option<Expect>,
+    now: &Expect,
+) -> Result<TreeParts, Halt>
+    requires fit { FitSides sides.now (D.len disk.old) }
+    ensures tells { TellsParts D.Disk disk.old disk.new result (parts_in sides.now before now.now) }
+    ensures kept { Kept D.Disk disk.old disk.new (is_disk_halt result) }
+{
+    let new = walk_new(alloc, disk, &sides.is, &sides.known, steps, now)?;
+    let old = match before {
+        Some(e) => walk_old(alloc, disk, &sides.was, &sides.known, &new.met, steps, &e)?,
+        None => Gathered::new(alloc),
+    };
+    let mut old_blocks = Vec::new(alloc);
+    add_known(sides.table, steps, &old.blocks, &mut old_blocks)?;
+    let mut new_blocks = Vec::new(alloc);
+    let mut moved = Vec::new(alloc);
+    add_new(
+        alloc,
+        sides.table,
+        steps,
+        &new.read.blocks,
+        &new.met,
+        &new.ended,
+        &mut new_blocks,
+        &mut moved,
+    )?;
+    Ok(TreeParts {
+        old_blocks,
+        new_blocks,
+        moved,
+        old_items: old.items,
+        new_items: new.read.items,
+    })
+}
+
+/// What changes where a tree is gone.
+fn change_gone<D: Disk, L>(
+    alloc: Global,
+    disk: &mut D,
+    sides: &Sides<'_, L>,
+    steps: &mut Steps<L>,
+    before: &Expect,
+) -> Result<TreeParts, Halt>
+    requires fit { FitSides sides.now (D.len disk.old) }
+    ensures tells { TellsParts D.Disk disk.old disk.new result (gone_in sides.now before.now) }
+    ensures kept { Kept D.Disk disk.old disk.new (is_disk_halt result) }
+{
+    let old = walk_old(alloc, disk, &sides.was, &sides.known, &[], steps, before)?;
+    let mut old_blocks = Vec::new(alloc);
+    add_known(sides.table, steps, &old.blocks, &mut old_blocks)?;
+    Ok(TreeParts {
+        old_blocks,
+        new_blocks: Vec::new(alloc),
+        moved: Vec::new(alloc),
+        old_items: old.items,
+        new_items: Vec::new(alloc),
+    })
+}
+
+/// Puts what changes in all trees that are named now behind other parts.
+pub(crate) fn change_named<D: Disk, L>(
+    alloc: Global,
+    disk: &mut D,
+    sides: &Sides<'_, L>,
+    steps: &mut Steps<L>,
+    olds: &[RootAt],
+    news: &[RootAt],
+    all: &mut TreeParts,
+) -> Result<(), Halt>
+    requires fit { FitSides sides.now (D.len disk.old) }
+    ensures adds { AddsParts D.Disk disk.old disk.new all.old all.new result (named_parts_in sides.now olds.now news.now) }
+    ensures kept { Kept D.Disk disk.old disk.new (is_disk_halt result) }
+{
+    let ids = ids_of(alloc, olds)?;
+    for root in news {
+        let made = change_tree(
+            alloc,
+            disk,
+            sides,
+            steps,
+            ids.root_of(root.key.objectid),
+            &named_at(root),
+        )?;
+        all.add(made)?;
+    }
+    Ok(())
+}
+
+/// Puts what changes in all trees that are gone behind other parts.
+pub(crate) fn change_all_gone<D: Disk, L>(
+    alloc: Global,
+    disk: &mut D,
+    sides: &Sides<'_, L>,
+    steps: &mut Steps<L>,
+    news: &[RootAt],
+    olds: &[RootAt],
+    all: &mut TreeParts,
+) -> Result<(), Halt>
+    requires fit { FitSides sides.now (D.len disk.old) }
+    ensures adds { AddsParts D.Disk disk.old disk.new all.old all.new result (gone_parts_in sides.now news.now olds.now) }
+    ensures kept { Kept D.Disk disk.old disk.new (is_disk_halt result) }
+{
+    let ids = ids_of(alloc, news)?;
+    for root in olds {
+        if !ids.has(root.key.objectid) {
+            let made = change_gone(alloc, disk, sides, steps, &named_at(root))?;
+            all.add(made)?;
+        }
+    }
+    Ok(())
+}
