@@ -1,11 +1,16 @@
 //! Laws of what changes in trees. Each stands on a function that does nothing.
 
-ghost use Rattle.tree_change.specs.OneTree.{OneTreeLaw};
+ghost use Rattle.tree_change.specs.OneTree.{AlikeTreeLaw, OneTreeLaw};
 ghost use Rattle.tree_change.specs.AllTrees.{AllTreesLaw, GoneLaw, NamedLaw};
 
 /// What the two walks of a tree give is what changes in it, and their first finding is that of the whole walk.
 pub fn one_tree_law()
     ensures { OneTreeLaw }
+{}
+
+/// What the two walks of a tree give, where blocks are read alike in both images and the old tree is known, is what changes in it.
+pub fn alike_tree_law()
+    ensures { AlikeTreeLaw }
 {}
 
 /// The first finding of the trees that are named now is that of their whole walks.
