@@ -1,1 +1,2 @@
 pub mod OneWalked
+pub mod OneKept
