@@ -1,2 +1,3 @@
 pub mod OneWalked
 pub mod OneKept
+pub mod OneNew
