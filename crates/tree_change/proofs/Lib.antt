@@ -1,3 +1,4 @@
 pub mod OneWalked
 pub mod OneKept
 pub mod OneNew
+pub mod OneShifted
