@@ -2,3 +2,5 @@ pub mod OneWalked
 pub mod OneKept
 pub mod OneNew
 pub mod OneShifted
+pub mod OneRoots
+pub mod OneSupers
