@@ -4,3 +4,4 @@ pub mod OneNew
 pub mod OneShifted
 pub mod OneRoots
 pub mod OneSupers
+pub mod OneGives
