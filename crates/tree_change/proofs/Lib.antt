@@ -5,3 +5,4 @@ pub mod OneShifted
 pub mod OneRoots
 pub mod OneSupers
 pub mod OneGives
+pub mod OneOld
