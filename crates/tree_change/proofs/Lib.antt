@@ -6,3 +6,4 @@ pub mod OneRoots
 pub mod OneSupers
 pub mod OneGives
 pub mod OneOld
+pub mod OneNone

@@ -1,5 +1,6 @@
 use Rattle.tree_change.proofs.OneWalked.{one_first}
 use Rattle.tree_change.proofs.OneKept.{one_with}
+use Rattle.tree_change.proofs.OneNone.{none_new}
 use Rattle.tree_change.proofs.OneOld.{gives_old}
 use Rattle.tree_change.proofs.OneGives.{gives_tree}
 use Rattle.tree_change.proofs.OneRoots.{roots_named}
