@@ -7,3 +7,4 @@ pub mod OneSupers
 pub mod OneGives
 pub mod OneOld
 pub mod OneNone
+pub mod OneTree

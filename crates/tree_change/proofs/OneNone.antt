@@ -14,7 +14,7 @@ use Rattle.node_reader.specs.Stored.{CopyFault, Stored, block_in}
 use Rattle.node_reader.specs.declared.expect.Expect.{Expect}
 use Rattle.node_reader.specs.declared.expect.Pointer.{Pointer}
 use Rattle.records.specs.Seen.{Seen}
-use Rattle.records.specs.Walk.{walk_of}
+use Rattle.records.specs.Walk.{children_of, walk_of}
 use Rattle.records.specs.WalkLaw.{children_in, visited, visited_from}
 use Rattle.shared_trees.specs.Ending.{Ends, Lasts, before_ends, each_ends, end_at, ends_and, ends_below, ends_of, ends_or, own_last, read_ends}
 use Rattle.shared_trees.specs.EndsLaw.{ended_at, next_or, walked_and, walked_below, walked_of}
@@ -52,12 +52,9 @@ flat_none f (e ∷ es) all = ap (λ xs. xs ++ flat_map f es) all.0 ∙ flat_none
 next_of_tree : (tree level : ℕ) (e : Expect) (block : Result (List ℕ) Finding) → e.tree ≡ tree
     → AllByRecursion (λ c. c.tree ≡ tree) (children_in level e block)
 next_of_tree tree level e (Err finding) of = tt
-next_of_tree tree level e (Ok bytes) of = by (pointers_of bytes)
-  where
-    by : (pointers : List Pointer) → AllByRecursion (λ c. c.tree ≡ tree) (children_in level e (Ok bytes))
-    by pointers =
-        each_map (λ c. (c.level ≡ level) × (c.tree ≡ e.tree)) (λ c. c.tree ≡ tree) (children_in level e (Ok bytes)) (λ c h. h.1 ∙ of)
-        (children_level level e (pointers_of bytes))
+next_of_tree tree level e (Ok bytes) of =
+    each_map (λ c. (c.level ≡ level) × (c.tree ≡ e.tree)) (λ c. c.tree ≡ tree) (children_of level e (pointers_of bytes)) (λ c h. h.1 ∙ of)
+    (children_level level e (pointers_of bytes))
 
 -- walks of a tree of which no block is kept come to the same blocks, with the same greatest keys
 module _ (tree : ℕ) (kept other : Kept) (anew others : Anew) (lasts also : Lasts) (sup : Super) (stored : Stored)

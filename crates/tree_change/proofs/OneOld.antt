@@ -67,7 +67,7 @@ use Rattle.tree_change.proofs.OneShifted.{shifts_as}
 use Rattle.tree_change.proofs.OneSupers.{unkept_alike, unkept_fine}
 
 -- what holds of each tree holds of one of them
-among_is : (P : Tree → Type 0) (tree : Tree) (trees : List Tree) → AllByRecursion P trees → IsAmong tree trees → P tree
+pub among_is : (P : Tree → Type 0) (tree : Tree) (trees : List Tree) → AllByRecursion P trees → IsAmong tree trees → P tree
 among_is P tree [] all one = elim one [ ]
 among_is P tree (t ∷ trees) all (inl same) = subst P (sym same) all.0
 among_is P tree (t ∷ trees) all (inr later) = among_is P tree trees all.1 later
@@ -93,7 +93,7 @@ only_one P tree (t ∷ trees) apart (inr later) is = (
     not_both m n other same = grind (arith, nat_tests)
 
 -- the roots of an image's trees have no low key and no high key
-roots_of : (image : List ℕ) (whole : Walked) (trees : List Tree) → HasTrees image whole trees → AllByRecursion (λ tree. IsRoot tree.1) trees
+pub roots_of : (image : List ℕ) (whole : Walked) (trees : List Tree) → HasTrees image whole trees → AllByRecursion (λ tree. IsRoot tree.1) trees
 roots_of image whole trees has =
     subst (AllByRecursion (λ (tree : Tree). IsRoot tree.1)) (sym has.trees_are) ((refl, refl), ((refl, refl), by has.roots))
   where
