@@ -1,7 +1,7 @@
 -- What changes in a tree, from what is known of its two walks.
-use Rattle.std.proofs.Common.{◌≡◌, ℕ, ◌+◌, Bool, true, false, not, ◌&&◌, List, [], ◌∷◌, length, suc, refl, ap, sym, subst, ◌∙◌}
-use Rattle.std.specs.Prelude.{Option, Some, None, Result, Ok, Err, map}
-use Rattle.std.specs.List.{AllByRecursion, filter, filter_map}
+use Rattle.std.proofs.Common.{◌≡◌, ℕ, ◌+◌, true, not, List, [], ◌∷◌, length, suc, refl, ap, sym, subst, ◌∙◌}
+use Rattle.std.specs.Prelude.{Option, Result, Ok, Err, map}
+use Rattle.std.specs.List.{AllByRecursion, filter}
 use Rattle.std.specs.Ordering.{nat_cmp}
 use Rattle.std.specs.FinMap.{FinMap}
 use Rattle.verdict.specs.Rules.{and_then}
@@ -17,21 +17,21 @@ use Rattle.records.specs.WalkLaw.{visited}
 use Rattle.shared_trees.specs.Ending.{ends_in, ends_of}
 use Rattle.shared_trees.specs.Keeping.{live_at}
 use Rattle.shared_trees.specs.KeepingWalk.{skip_in}
-use Rattle.shared_trees.specs.LivePairs.{Walked, live_in, table_of}
+use Rattle.shared_trees.specs.LivePairs.{Walked, live_in}
 use Rattle.shared_trees.specs.Meeting.{met_in, met_of}
 use Rattle.shared_trees.specs.MergedLaw.{IsInOrder, begins_before, chunks_seen, items, roots_seen}
-use Rattle.shared_trees.specs.MovedLaw.{is_other_than, kept_in, shifted_by}
+use Rattle.shared_trees.specs.MovedLaw.{is_other_than}
 use Rattle.shared_trees.specs.ShiftedLaw.{is_shifted}
 use Rattle.shared_trees.specs.SkipLaw.{IsSound}
-use Rattle.shared_trees.specs.Skips.{nothing, part_of, skip_of, unkept}
+use Rattle.shared_trees.specs.Skips.{nothing, part_of, unkept}
 use Rattle.shared_trees.specs.Stops.{stops_of}
 use Rattle.shared_trees.specs.Unshared.{AreOfPairs, is_block_seen, items_in}
 use Rattle.shared_trees.proofs.Skipping.{skips}
 use Rattle.tree_change.specs.Gathered.{Gathers, blocks_seen}
 use Rattle.tree_change.specs.Merging.{chunks_left, named_before, root_at, roots_left}
 use Rattle.tree_change.specs.OneTree.{ChangesTree, GivesTree, HasRecords, shares, side_of}
-use Rattle.tree_change.specs.Walks.{Known, NewWalk, Parts, Side, kept_by, lasts_by, listed_by, moved_of, new_walk, old_or_none, parts_of, tree_parts}
-use Rattle.tree_change.proofs.OneNew.{IsNew, comes, met_is, moved_is, new_blocks, of_pairs, pairs_seen}
+use Rattle.tree_change.specs.Walks.{Known, NewWalk, Parts, Side, kept_by, lasts_by, listed_by, new_walk, old_or_none, parts_of, tree_parts}
+use Rattle.tree_change.proofs.OneNew.{IsNew, met_is, moved_is, new_blocks, of_pairs, pairs_seen}
 use Rattle.tree_change.proofs.OneShifted.{shifted_kept}
 use Rattle.tree_change.proofs.OneSupers.{unkept_fine}
 

@@ -1,10 +1,9 @@
 -- What the walk of a tree as it is gives, which keeps the shared blocks: its blocks are the pairs that are not shared, and the kept ones that it
 -- meets show the shared pairs that are shifted.
-use Rattle.std.proofs.Common.{◌≡◌, ℕ, zero, suc, ◌-◌, ◌==◌, Bool, true, false, not, ◌&&◌, List, [], ◌∷◌, inl, inr, refl, ap, sym, subst, ◌∙◌}
+use Rattle.std.proofs.Common.{◌≡◌, ℕ, ◌-◌, ◌==◌, Bool, true, false, not, ◌&&◌, List, [], ◌∷◌, inl, inr, refl, ap, sym, subst, ◌∙◌}
 use Rattle.std.proofs.lemmas.Bool.{eqb-true}
-use Rattle.std.specs.Prelude.{Option, Some, None, is_some, Result, Ok, Err, map, if◌then◌else◌}
+use Rattle.std.specs.Prelude.{Option, Some, None, is_some, Result, Ok, map, if◌then◌else◌}
 use Rattle.std.specs.List.{AllByRecursion, cons_option, filter, filter_map, fold}
-use Rattle.std.specs.Result.{IsOk}
 use Rattle.verdict.specs.OnDisk.{key_same}
 use Rattle.verdict.specs.Rules.{no_key}
 use Rattle.verdict.specs.declared.finding.Finding.{Finding}
@@ -12,18 +11,17 @@ use Rattle.verdict.specs.declared.key.Key.{Key}
 use Rattle.super_reader.specs.declared.Super.{Super}
 use Rattle.live_index.specs.Pairs.{Pairs}
 use Rattle.live_index.specs.declared.live.Live.{Live}
-use Rattle.node_reader.specs.Layout.{first_key_of, owner_of}
 use Rattle.node_reader.specs.Stored.{CopyFault, Stored, block_in}
 use Rattle.node_reader.specs.declared.expect.Expect.{Expect}
 use Rattle.records.specs.Seen.{Seen}
 use Rattle.records.specs.Seen.Seen.{BlockSeen, ItemSeen, PointerSeen}
-use Rattle.records.specs.Walk.{Records, block_at, walk_of}
+use Rattle.records.specs.Walk.{block_at, walk_of}
 use Rattle.records.specs.WalkLaw.{visited}
 use Rattle.records.specs.declared.rec.BlockAt.{BlockAt}
 use Rattle.shared_trees.specs.Ending.{Lasts, ends_of}
 use Rattle.shared_trees.specs.EndsLaw.{ended_at, walked_of}
-use Rattle.shared_trees.specs.Keeping.{Comes, OneOf, first_in, last_in, live_at, owner_in, starts_at, starts_of}
-use Rattle.shared_trees.specs.LivePairs.{first_or_greatest, live_in, table_of}
+use Rattle.shared_trees.specs.Keeping.{OneOf, first_in, last_in, live_at, owner_in, starts_at, starts_of}
+use Rattle.shared_trees.specs.LivePairs.{live_in, table_of}
 use Rattle.shared_trees.specs.Meeting.{met_of}
 use Rattle.shared_trees.specs.MovedLaw.{is_other_than, kept_in, shifted_by}
 use Rattle.shared_trees.specs.SkipLaw.{IsSound}
@@ -41,7 +39,7 @@ use Rattle.shared_trees.proofs.Skipping.{skips}
 use Rattle.tree_change.specs.Gathered.{blocks_seen}
 use Rattle.tree_change.specs.Walks.{last_at, live_with, lives_of, moved_of, moved_pair, moved_to, pairs_at, with_last}
 use Rattle.tree_change.proofs.OneKept.{IsGood, all_good, one_with}
-use Rattle.tree_change.proofs.OneWalked.{EachHas, IsRead, IsStop, reads_walked, stops_walked, walked_good}
+use Rattle.tree_change.proofs.OneWalked.{IsRead, IsStop, reads_walked, stops_walked, walked_good}
 
 -- a kept block of a tree as it is: its pair is known but for the node above and the greatest key, and what is walked below it are children
 pub record IsKeptBlock (pairs : Pairs) (anew : Anew) (sup : Super) (stored : Stored) (v : Expect) : Type 0 where

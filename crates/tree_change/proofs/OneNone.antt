@@ -1,5 +1,5 @@
 -- The walk of a tree of which no block is kept.
-use Rattle.std.proofs.Common.{◌≡◌, ℕ, zero, suc, ◌-◌, Bool, true, false, ◌||◌, List, [], ◌∷◌, ◌++◌, refl, ap, sym, subst, ◌∙◌}
+use Rattle.std.proofs.Common.{◌≡◌, ℕ, zero, suc, ◌-◌, Bool, true, false, List, [], ◌∷◌, ◌++◌, refl, ap, sym, ◌∙◌}
 use Rattle.std.specs.Prelude.{Option, Some, None, Result, Ok, Err, is_some, map, if◌then◌else◌}
 use Rattle.std.specs.List.{AllByRecursion, filter, flat_map, list_any}
 use Rattle.std.specs.Result.{IsOk}
@@ -21,11 +21,10 @@ use Rattle.shared_trees.specs.EndsLaw.{ended_at, next_or, walked_and, walked_bel
 use Rattle.shared_trees.specs.Keeping.{Marks, Under, anew_of, comes_to, kept_of, live_at, starts_at, starts_in}
 use Rattle.shared_trees.specs.Known.{last_of}
 use Rattle.shared_trees.specs.LivePairs.{live_in, table_of}
-use Rattle.shared_trees.specs.MovedLaw.{kept_in, shifted_by}
+use Rattle.shared_trees.specs.MovedLaw.{shifted_by}
 use Rattle.shared_trees.specs.SkipLaw.{IsSound}
 use Rattle.shared_trees.specs.Skips.{Anew, Kept, next_of, nothing}
-use Rattle.shared_trees.specs.Stops.{stops_and, stops_below, stops_of, stops_or}
-use Rattle.shared_trees.specs.declared.starts.Start.{Start}
+use Rattle.shared_trees.specs.Stops.{stops_and, stops_below, stops_or}
 use Rattle.shared_trees.proofs.EndsTold.{ends}
 use Rattle.shared_trees.proofs.Forest.{of_root, tree_table}
 use Rattle.shared_trees.proofs.Picking.{each_both, each_map}

@@ -1,15 +1,13 @@
 -- What is known of the two walks of a tree, where the old tree of its id is known.
-use Rattle.std.proofs.Common.{◌≡◌, ℕ, ◌-◌, ◌==◌, Bool, true, false, not, List, [], ◌∷◌, ◌++◌, length, inl, inr, refl, ap, sym, subst, ◌∙◌, arith, if◌then◌else◌}
+use Rattle.std.proofs.Common.{◌≡◌, ℕ, ◌-◌, ◌==◌, Bool, true, not, List, [], ◌∷◌, length, inl, inr, refl, ap, sym, subst, ◌∙◌, arith, if◌then◌else◌}
 use Rattle.std.proofs.lemmas.Bool.Decides.{nat_tests}
-use Rattle.std.specs.Prelude.{Option, Some, None, IfSome, Result, Ok, Err, is_some, map}
-use Rattle.std.specs.List.{AllByRecursion, filter}
+use Rattle.std.specs.Prelude.{Some, None, Ok, Err, is_some, map}
+use Rattle.std.specs.List.{AllByRecursion}
 use Rattle.std.specs.Result.{IsOk}
 use Rattle.std.specs.Ordering.{nat_cmp}
 use Rattle.std.specs.FinMap.{FinMap}
 use Rattle.verdict.specs.Rules.{and_then}
-use Rattle.verdict.specs.declared.finding.Finding.{Finding}
 use Rattle.verdict.specs.declared.key.Key.{Key}
-use Rattle.verdict.specs.declared.place.Chunk.{Chunk}
 use Rattle.write_cache.specs.Cache.{overlaid}
 use Rattle.super_reader.specs.declared.Super.{Super}
 use Rattle.volume_items.specs.declared.root.RootItem.{RootItem}
@@ -23,23 +21,22 @@ use Rattle.records.specs.Walk.{Records, behind, each, then_records, walk_in, wal
 use Rattle.records.specs.WalkLaw.{visited}
 use Rattle.touched_pairs.specs.Moves.{is_moved}
 use Rattle.touched_pairs.specs.Touched.{written_in}
-use Rattle.shared_trees.specs.ArrayShifts.{MovesListedBy}
 use Rattle.shared_trees.specs.Ending.{Ends}
 use Rattle.shared_trees.specs.KeepingWalk.{skip_in}
-use Rattle.shared_trees.specs.Keeping.{AreListed, AreMarked, AreUntouched, Comes, Marks, Stands, Under, anew_of, kept_of, live_at, starts_of}
+use Rattle.shared_trees.specs.Keeping.{AreListed, AreMarked, AreUntouched, Marks, Stands, Under, anew_of, kept_of, live_at, starts_of}
 use Rattle.shared_trees.specs.LivePairs.{Walked, live_in, table_of}
 use Rattle.shared_trees.specs.MergedLaw.{AreRead, AreShared, items, roots_seen}
 use Rattle.shared_trees.specs.MovedLaw.{is_other_than, kept_in, shifted_by}
 use Rattle.shared_trees.specs.OldSide.{IsRoot, TellsShared, kept_at, kept_where}
 use Rattle.shared_trees.specs.Shared.{are_read_alike}
-use Rattle.shared_trees.specs.SharedLaw.{HasTrees, IsBefore, MarksTouched, touches_old}
+use Rattle.shared_trees.specs.SharedLaw.{HasTrees, IsBefore, touches_old}
 use Rattle.shared_trees.specs.ShiftedLaw.{is_shifted}
 use Rattle.shared_trees.specs.SkipLaw.{IsSound}
 use Rattle.shared_trees.specs.Skips.{Kept, nothing, skip_of, unkept}
 use Rattle.shared_trees.specs.Stops.{stops_of}
 use Rattle.shared_trees.specs.TableLaw.{AreApart, Tree, is_other}
 use Rattle.shared_trees.proofs.EndsTold.{ends}
-use Rattle.shared_trees.proofs.Forest.{of_root, stands_as, tables_stand, tree_table}
+use Rattle.shared_trees.proofs.Forest.{of_root, stands_as, tree_table}
 use Rattle.shared_trees.proofs.Images.{read_alike, stored_alike}
 use Rattle.shared_trees.proofs.Kept.{keeps_tree}
 use Rattle.shared_trees.proofs.KeptImage.{nodesize_same}
@@ -51,13 +48,12 @@ use Rattle.shared_trees.proofs.OldBlocks.{unshared_are}
 use Rattle.shared_trees.proofs.OldSide.{old_side}
 use Rattle.shared_trees.proofs.OldSupers.{give_alike}
 use Rattle.shared_trees.proofs.OldTells.{tells_shared}
-use Rattle.shared_trees.proofs.Picking.{each_both, each_map}
+use Rattle.shared_trees.proofs.Picking.{each_map}
 use Rattle.shared_trees.proofs.ReadAlike.{listed_alike, marked_alike, stands_alike}
 use Rattle.shared_trees.proofs.Sharing.{keeps}
 use Rattle.shared_trees.proofs.Sifting.{nil}
-use Rattle.shared_trees.proofs.Treed.{trees_walk}
 use Rattle.tree_change.specs.Gathered.{blocks_seen}
-use Rattle.tree_change.specs.OneTree.{GivesTree, IsAmong, IsOldOf, KnowsTree, alone, old_tree, shares, side_of}
+use Rattle.tree_change.specs.OneTree.{GivesTree, IsAmong, alone, old_tree, shares}
 use Rattle.tree_change.specs.Walks.{Known, Side, lasts_by, old_walk}
 use Rattle.tree_change.proofs.OneGives.{AreBoth, gives_tree}
 use Rattle.tree_change.proofs.OneKept.{was_kept}

@@ -1,13 +1,12 @@
 -- The root items of a root tree, merged, by what each says of where its tree begins.
-use Rattle.std.proofs.Common.{◌≡◌, ℕ, ◌<◌, ◌==◌, Bool, true, false, not, ◌||◌, List, [], ◌∷◌, ◌++◌, length, refl, ap, sym, subst, ◌∙◌, arith}
+use Rattle.std.proofs.Common.{◌≡◌, ◌<◌, Bool, true, false, not, ◌||◌, List, [], ◌∷◌, ◌++◌, length, refl, ap, sym, subst, ◌∙◌, arith}
 use Rattle.std.proofs.lemmas.List.{get_or-map, length-map, map-append}
 use Rattle.std.proofs.lemmas.List.Sorted.{IsPermutation-map}
 use Rattle.std.specs.Prelude.{Option, Some, None, map, if◌then◌else◌}
-use Rattle.std.specs.List.{AllPairs, cons_option, filter, filter_map, list_any}
+use Rattle.std.specs.List.{AllPairs, cons_option, filter, filter_map}
 use Rattle.std.specs.List.Sorted.{IsPermutation}
 use Rattle.verdict.specs.OnDisk.{key_same}
 use Rattle.volume_items.specs.declared.root.RootItem.{RootItem}
-use Rattle.volume_items.specs.declared.root_at.RootAt.{RootAt}
 use Rattle.records.specs.Part.{Located}
 use Rattle.records.specs.Seen.{Seen}
 use Rattle.shared_trees.specs.MergedLaw.{IsInOrder, has_root_key, items, root_before, root_in, roots_seen}

@@ -1,23 +1,21 @@
 -- Walks without the records of kept blocks, and first findings of walks.
-use Rattle.std.proofs.Common.{◌≡◌, ℕ, ◌==◌, Bool, true, ◌&&◌, List, [], ◌∷◌, refl, ap, sym, subst, ◌∙◌}
+use Rattle.std.proofs.Common.{◌≡◌, ℕ, ◌==◌, true, ◌&&◌, List, [], ◌∷◌, refl, ap, ◌∙◌}
 use Rattle.std.proofs.lemmas.Bool.{eqb-true}
-use Rattle.std.specs.Prelude.{Option, Some, None, bytes_eq, Result, Ok, Err}
-use Rattle.std.specs.List.{AllByRecursion}
+use Rattle.std.specs.Prelude.{bytes_eq, Result, Ok, Err}
 use Rattle.verdict.specs.Rules.{and_then}
 use Rattle.verdict.specs.declared.finding.Finding.{Finding}
 use Rattle.super_reader.specs.declared.Super.{Super}
 use Rattle.node_reader.specs.Stored.{Stored, block_in}
 use Rattle.node_reader.specs.declared.expect.Expect.{Expect}
 use Rattle.records.specs.Seen.{Seen}
-use Rattle.records.specs.Walk.{Records, each, own_records, then_records, walk_of}
+use Rattle.records.specs.Walk.{each, own_records, then_records, walk_of}
 use Rattle.records.specs.WalkLaw.{visited}
 use Rattle.shared_trees.specs.Shared.{are_read_alike}
 use Rattle.shared_trees.specs.Skips.{Kept, nothing, own_of, part_of, unkept, where_new}
 use Rattle.shared_trees.proofs.Bounds.{and_parts}
 use Rattle.shared_trees.proofs.Images.{read_alike, same_fsid}
-use Rattle.shared_trees.proofs.Lives.{ok_same}
 use Rattle.shared_trees.proofs.OldSupers.{give_alike}
-use Rattle.shared_trees.proofs.Skipping.{pick, unkept_in, unkept_is}
+use Rattle.shared_trees.proofs.Skipping.{unkept_in, unkept_is}
 use Rattle.shared_trees.proofs.Trails.{Tells, Trail, tells, trail_of}
 
 own_same : (a b : Super) (bytes : List ℕ) (e : Expect) → a.nodesize ≡ b.nodesize → a.incompat ≡ b.incompat → a.compat_ro ≡ b.compat_ro

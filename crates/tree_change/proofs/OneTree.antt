@@ -1,8 +1,8 @@
 -- What the two walks of a tree give is what changes in it, where blocks are read alike in both images.
-use Rattle.std.proofs.Common.{◌≡◌, ℕ, ◌==◌, Bool, true, false, ◌||◌, List, [], ◌∷◌, length, refl, ap, sym, subst, ◌∙◌, arith, if◌then◌else◌}
+use Rattle.std.proofs.Common.{◌≡◌, ℕ, ◌==◌, Bool, true, false, ◌||◌, List, [], length, refl, ap, sym, subst, ◌∙◌, arith, if◌then◌else◌}
 use Rattle.std.proofs.lemmas.Bool.Decides.{nat_tests}
 use Rattle.std.specs.Prelude.{Option, Some, None, Ok, is_some}
-use Rattle.std.specs.List.{AllByRecursion, filter}
+use Rattle.std.specs.List.{AllByRecursion}
 use Rattle.std.specs.Ordering.{nat_cmp}
 use Rattle.std.specs.FinMap.{FinMap}
 use Rattle.verdict.specs.declared.key.Key.{Key}
@@ -15,8 +15,7 @@ use Rattle.records.specs.Walk.{walk_of}
 use Rattle.records.specs.WalkLaw.{visited}
 use Rattle.touched_pairs.specs.Moves.{is_moved}
 use Rattle.touched_pairs.specs.Touched.{written_in}
-use Rattle.write_cache.specs.Cache.{overlaid}
-use Rattle.shared_trees.specs.Keeping.{Marks, Stands, Under, anew_of, kept_of, last_if_same, live_at}
+use Rattle.shared_trees.specs.Keeping.{Marks, Stands, Under, kept_of, last_if_same, live_at}
 use Rattle.shared_trees.specs.LivePairs.{Walked, live_in, table_of}
 use Rattle.shared_trees.specs.MovedLaw.{is_other_than}
 use Rattle.shared_trees.specs.OldSide.{IsRoot}

@@ -1,11 +1,10 @@
 -- The blocks that a walk which keeps blocks comes to are among those of the whole walk; and those that it reads, and those that it meets, are
 -- among them.
-use Rattle.std.proofs.Common.{◌≡◌, ℕ, zero, suc, ◌-◌, ◌⊎◌, Bool, true, false, List, [], ◌∷◌, ◌++◌, inl, inr, refl, ap, sym, subst, ◌∙◌, arith}
+use Rattle.std.proofs.Common.{◌≡◌, ℕ, zero, suc, ◌-◌, Bool, true, false, List, [], ◌∷◌, ◌++◌, inl, inr, refl, ap, sym, subst, ◌∙◌, arith}
 use Rattle.std.proofs.lemmas.List.Elements.{filter_map-append}
-use Rattle.std.specs.Prelude.{Option, Some, None, is_some, Result, Ok, Err, if◌then◌else◌}
-use Rattle.std.specs.List.{AllByRecursion, filter_map, flat_map}
+use Rattle.std.specs.Prelude.{Option, Some, None, is_some, Ok, Err, if◌then◌else◌}
+use Rattle.std.specs.List.{AllByRecursion, flat_map}
 use Rattle.verdict.specs.Rules.{and_then}
-use Rattle.verdict.specs.declared.finding.Finding.{Finding}
 use Rattle.verdict.specs.declared.key.Key.{Key}
 use Rattle.super_reader.specs.declared.Super.{Super}
 use Rattle.node_reader.specs.Layout.{pointers_of}
@@ -19,7 +18,7 @@ use Rattle.records.specs.WalkLaw.{children_in, visited_from}
 use Rattle.records.specs.declared.rec.BlockAt.{BlockAt}
 use Rattle.shared_trees.specs.EndsLaw.{next_or, walked_and, walked_below}
 use Rattle.shared_trees.specs.Keeping.{OneOf, starts_at, starts_in, starts_of}
-use Rattle.shared_trees.specs.Skips.{Anew, Kept, is_below, next_of, nothing, own_of, skip_and, skip_below, skip_or}
+use Rattle.shared_trees.specs.Skips.{Anew, Kept, is_below, next_of, nothing, skip_and, skip_below, skip_or}
 use Rattle.shared_trees.specs.Stops.{stops_and, stops_below, stops_or}
 use Rattle.shared_trees.proofs.Forest.{then_ok}
 use Rattle.shared_trees.proofs.Lives.{NoBlocks, entries_none, ok_same}
