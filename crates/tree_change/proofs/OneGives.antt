@@ -91,7 +91,8 @@ module _ (image : List ℕ) (pending : FinMap nat_cmp ℕ) (old : Walked) (pairs
       (new_is both.new.sound ∙ ap (λ records. and_then records (λ records. Ok (new_of records))) come_is)
       ∙ ap (λ walk. and_then walk (λ old. Ok (parts_of pairs (new_of come) old)))
       (ap (λ met. old_or_none known met was before)
-      (met_is pairs (kept_by known) (listed_by known) (lasts_by known) (shares image pending old is news) is.sup stored now news both.new come come_is)
+      (met_is pairs (kept_by known) (listed_by known) (lasts_by known) (shares image pending old is news) is.sup stored now news both.new come
+      come_is)
       ∙ both.old_is)
 
   changes : (news : List Seen) → (both : AreBoth news) → (come : List Seen) → unkept (kept_by known) nothing is.sup stored now ≡ Ok come
@@ -140,7 +141,9 @@ module _ (image : List ℕ) (pending : FinMap nat_cmp ℕ) (old : Walked) (pairs
       first_is finding walk =
           ap (λ walk. and_then walk (λ new. and_then (old_or_none known new.met (side_of image old) before) (λ old. Ok (parts_of pairs new old))))
           (new_is sound
-          ∙ ap (λ records. and_then (and_then records (λ _. each (part_of (kept_by known) nothing is.sup stored) (visited is.sup stored now))) (λ records. Ok (new_of records))) walk)
+          ∙ ap (λ records.
+          and_then (and_then records (λ _. each (part_of (kept_by known) nothing is.sup stored) (visited is.sup stored now)))
+          (λ records. Ok (new_of records))) walk)
 
       by_found : (finding : Finding) (walk : Records) → walk_of is.sup stored now ≡ walk
           → tree_parts pairs known (side_of image old) is before now ≡ Err finding → walk ≡ Err finding

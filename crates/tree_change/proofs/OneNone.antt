@@ -80,7 +80,8 @@ module _ (tree : ℕ) (kept other : Kept) (anew others : Anew) (lasts also : Las
 
   ends_at : (level : ℕ) (e : Expect) → e.tree ≡ tree → E level e ≡ F level e
   unfolding ends_below
-  ends_at zero e of = ends_block (ends_below kept anew lasts zero sup stored) (ends_below other others also zero sup stored) (λ last next all. refl) e of
+  ends_at zero e of =
+      ends_block (ends_below kept anew lasts zero sup stored) (ends_below other others also zero sup stored) (λ last next all. refl) e of
   ends_at (suc level) e of =
       ends_block (ends_below kept anew lasts (suc level) sup stored) (ends_below other others also (suc level) sup stored)
       (λ last next all. each_same (E level) (F level) last next
@@ -196,7 +197,10 @@ module _ (kept : Kept) (under : Under) (lasts : Lasts) (sup : Super) (stored : S
       ∙ ends table all_marked none_marked any_address no_address none_under sup stored stored now now (tree_table sup stored now news is)
       (record { fine = fine; each = each_of (λ v. true ≡ comes_to any_address sup stored v) (comes_any sup stored) es })
       (record { fine = fine; each = each_of (λ v. false ≡ comes_to no_address sup stored v) (λ v. comes_none (visited sup stored v)) es })
-      (record { fine = fine; each = each_of (λ v. [] ≡ starts_at v.level no_address (stored v.address)) (λ v. no_starts v.level (stored v.address)) es })
+      (record {
+        fine = fine;
+        each = each_of (λ v. [] ≡ starts_at v.level no_address (stored v.address)) (λ v. no_starts v.level (stored v.address)) es;
+      })
       (λ address touched moved. refl) refl fine)
       ∙ ap (map (ended_at sup stored))
       (sym (walked_at now.tree kept K (anew_of under) (anew_of none_under) lasts L sup stored none no_other now.level now refl))
@@ -219,7 +223,8 @@ module _ (kept : Kept) (under : Under) (lasts : Lasts) (sup : Super) (stored : S
       record {
         is = is;
         sound = none_sound;
-        keeps = each_map (λ v. (v.tree ≡ now.tree) × (shared (live_at sup stored v) ≡ false)) (λ v. is_some (kept v) ≡ shared (live_at sup stored v)) es
+        keeps = each_map (λ v. (v.tree ≡ now.tree) × (shared (live_at sup stored v) ≡ false))
+            (λ v. is_some (kept v) ≡ shared (live_at sup stored v)) es
             (λ v h. ap (λ (k : Option Key). is_some k) (none v h.0) ∙ sym h.1)
             (each_both (λ v. v.tree ≡ now.tree) (λ v. shared (live_at sup stored v) ≡ false) es of apart);
         blocks = λ v last at keeps. absurd (not_some (kept v) last (none v at) keeps);

@@ -224,8 +224,8 @@ module _ (image : List ℕ) (pending : FinMap nat_cmp ℕ) (old : Walked) (trees
             (ends table marked moving touched moved under is.sup was stored before now stands_now marks_now moves_now lists_now o.alike_stored o.same
             (rw walk refl));
         shifted = shifted_same pairs table same_pairs is.sup stored (kept_in K is.sup stored now)
-            ∙ (shows table marked moving touched moved under is.sup was stored before now stands_now marks_now moves_now lists_now o.alike_stored o.same
-            (rw walk refl)
+            ∙ (shows table marked moving touched moved under is.sup was stored before now stands_now marks_now moves_now lists_now
+            o.alike_stored o.same (rw walk refl)
             ∙ sym (shifted_same pairs table same_pairs is.sup stored (stops_of K (anew_of under) is.sup stored now)));
       }
 
@@ -289,8 +289,8 @@ module _ (image : List ℕ) (pending : FinMap nat_cmp ℕ) (old : Walked) (trees
             shifts = each_map (λ v. v.tree ≡ now.tree) (λ v. shared (live_at is.sup stored v) ≡ true
                 → is_shifted (live_in olds.0) (live_at is.sup stored v) ≡ is_other_than (pairs v.tree v.address) (live_at is.sup stored v))
                 (visited is.sup stored now)
-                (λ v of passes. shifts_as pairs shared old.sup was stored before now olds.0 o.same olds.1 pairs_stand both_share (live_at is.sup stored v)
-                of passes)
+                (λ v of passes. shifts_as pairs shared old.sup was stored before now olds.0 o.same olds.1 pairs_stand both_share
+                (live_at is.sup stored v) of passes)
                 (of_root is.sup (stored, now) fine).each;
             chunks = λ come comes three. chunks_merge shared K old.sup was stored before now olds.0 news gone.0 come
                 (read olds.0 gone.0 come olds.1 gone.1 comes) three;

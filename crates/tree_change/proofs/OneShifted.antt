@@ -84,7 +84,8 @@ sifted shared shifts other keeps of (v ∷ es) all same =
     by false is shares rest = rw (shares ∙ is) rest
 
 -- the shared pairs that are shifted are those of the kept blocks which are other than the table has
-pub shifted_kept : (pairs : Pairs) (kept : Kept) (shared : Live → Bool) (sup : Super) (stored : Stored) (now : Expect) (olds : List Live) (news : List Seen)
+pub shifted_kept : (pairs : Pairs) (kept : Kept) (shared : Live → Bool) (sup : Super) (stored : Stored) (now : Expect) (olds : List Live)
+    (news : List Seen)
     → walk_of sup stored now ≡ Ok news → AllByRecursion (λ v. is_some (kept v) ≡ shared (live_at sup stored v)) (visited sup stored now)
     → AllByRecursion (λ v. shared (live_at sup stored v) ≡ true
     → is_shifted olds (live_at sup stored v) ≡ is_other_than (pairs v.tree v.address) (live_at sup stored v)) (visited sup stored now)

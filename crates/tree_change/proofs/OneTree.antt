@@ -121,7 +121,12 @@ module _ (image : List ℕ) (pending : FinMap nat_cmp ℕ) (old : Walked) (trees
 
 pub alike_tree : AlikeTreeLaw
 alike_tree image pending old trees pairs is known before now has pairs_are over root was knows =
-    subst (λ m. GivesTree image pending old pairs is (record { pairs = known.pairs; marked = known.marked; moved = m; under = known.under }) before now)
+    subst (λ m. GivesTree image pending old pairs is (record {
+      pairs = known.pairs;
+      marked = known.marked;
+      moved = m;
+      under = known.under;
+    }) before now)
     (sym knows.moved_is) (by before was knows)
   where
     by : (e : Option Expect) → IsOldOf image old trees now e → KnowsTree image pending old is known e
