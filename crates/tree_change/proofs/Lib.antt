@@ -10,3 +10,13 @@ pub mod Whole
 pub mod Leaving
 pub mod RootRules
 pub mod Naming
+pub mod OneWalked
+pub mod OneKept
+pub mod OneNew
+pub mod OneShifted
+pub mod OneRoots
+pub mod OneSupers
+pub mod OneGives
+pub mod OneOld
+pub mod OneNone
+pub mod OneTree
