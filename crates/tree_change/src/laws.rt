@@ -22,3 +22,8 @@ pub fn gone_trees_law()
 pub fn all_trees_law()
     ensures { AllTreesLaw }
 {}
+
+/// What changes in each tree of an image is all that changes, by what changes in one.
+pub fn all_from_law()
+    ensures { OneTreeLaw → AllTreesLaw }
+{}

@@ -7,5 +7,5 @@ mod laws;
 mod path;
 
 pub use change::{Change, Diff};
-pub use laws::{all_trees_law, gone_trees_law, named_law, one_tree_law};
+pub use laws::{all_from_law, all_trees_law, gone_trees_law, named_law, one_tree_law};
 pub use path::{Path, PathStep};

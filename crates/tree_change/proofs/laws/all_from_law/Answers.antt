@@ -1,0 +1,5 @@
+use Rattle.tree_change.proofs.Unordered.{by_ids}
+use Rattle.tree_change.proofs.laws.all_from_law.Goals as goal
+
+pub returns : goal.returns
+returns c = by_ids
