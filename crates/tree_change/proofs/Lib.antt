@@ -1,1 +1,5 @@
+pub mod Alone
+pub mod Gone
+pub mod Piece
+pub mod Split
 pub mod Unordered

@@ -1,3 +1,4 @@
+use Rattle.tree_change.proofs.Gone.{gone_piece}
 use Rattle.tree_change.proofs.Unordered.{by_ids}
 use Rattle.tree_change.proofs.laws.all_from_law.Goals as goal
 
