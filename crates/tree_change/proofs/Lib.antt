@@ -1,6 +1,9 @@
+pub mod AllTrees
 pub mod Alone
+pub mod Apart
 pub mod Gone
 pub mod Ids
+pub mod Ordered
 pub mod Piece
 pub mod Split
 pub mod Trees

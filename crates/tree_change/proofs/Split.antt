@@ -100,6 +100,11 @@ live_id live = live.tree
 abbrev item_id : Located → ℕ
 item_id one = one.tree
 
+-- each live pair and each item is of one of these ids
+pub record AreListed (ids : List ℕ) (seen : List Seen) : Type 0 where
+  pub lives : AllByRecursion (λ (live : Live). listed live.tree ids ≡ true) (live_in seen)
+  pub found : AllByRecursion (λ (one : Located). listed one.tree ids ≡ true) (items seen)
+
 module _ (sup : Super) where
   lives_own : (tree : Tree) → IsOk (walk_of sup tree.0 tree.1) → AllByRecursion (λ (live : Live). live.tree ≡ tree.1.tree) (lives_of sup tree)
   lives_own tree fine = by (visited sup tree.0 tree.1) (of_root sup tree fine).each
@@ -203,11 +208,6 @@ module _ (sup : Super) where
           → AllByRecursion (Gives seen) some
       later [] others all = tt
       later (t ∷ some) others all = (one t others.0 all.0, later some others.1 all.1)
-
-  -- each live pair and each item is of one of these ids
-  pub record AreListed (ids : List ℕ) (seen : List Seen) : Type 0 where
-    pub lives : AllByRecursion (λ (live : Live). listed live.tree ids ≡ true) (live_in seen)
-    pub found : AllByRecursion (λ (one : Located). listed one.tree ids ≡ true) (items seen)
 
   pub are_listed : (ids : List ℕ) (trees : List Tree) (seen : List Seen) → AreApart trees → walks sup trees ≡ Ok seen
       → AllByRecursion (λ t. listed t.1.tree ids ≡ true) trees → AreListed ids seen
