@@ -1,37 +1,35 @@
 -- What changes in all trees of an image, from what changes in each.
-use Rattle.std.proofs.Common.{◌≡◌, ℕ, ◌==◌, ◌⊎◌, inl, inr, Bool, true, false, not, ◌&&◌, ◌||◌, List, [], ◌∷◌, ◌++◌, length, refl, ap, sym, subst, ◌∙◌, arith}
+use Rattle.std.proofs.Common.{◌≡◌, ℕ, ◌==◌, Bool, true, false, not, ◌&&◌, ◌||◌, List, [], ◌∷◌, ◌++◌, length, refl, sym, subst, ◌∙◌, arith}
 use Rattle.std.proofs.lemmas.Bool.Decides.{nat_tests}
 use Rattle.std.specs.Prelude.{Option, Some, None, Ok, map}
-use Rattle.std.specs.List.{AllByRecursion, AllPairs, filter, list_any}
+use Rattle.std.specs.List.{AllByRecursion, filter, list_any}
 use Rattle.std.specs.List.Sorted.{IsPermutation}
 use Rattle.std.specs.Ordering.{nat_cmp}
 use Rattle.std.specs.FinMap.{FinMap}
 use Rattle.verdict.specs.declared.place.Chunk.{Chunk}
 use Rattle.write_cache.specs.Cache.{overlaid}
 use Rattle.volume_items.specs.declared.root.RootItem.{RootItem}
-use Rattle.volume_items.specs.declared.root_at.RootAt.{RootAt}
 use Rattle.live_index.specs.Pairs.{Pairs}
 use Rattle.live_index.specs.declared.live.Live.{Live}
 use Rattle.node_reader.specs.Stored.{Stored, stored_in}
 use Rattle.node_reader.specs.declared.expect.Expect.{Expect}
 use Rattle.records.specs.Contents.{chunk_tree_root, named_root, root_tree_root}
-use Rattle.records.specs.Part.{Located}
 use Rattle.records.specs.Seen.{Seen}
-use Rattle.records.specs.Walk.{walk_in, walk_of}
+use Rattle.records.specs.Walk.{walk_in}
 use Rattle.touched_pairs.specs.Touched.{written_in}
 use Rattle.shared_trees.specs.LivePairs.{Walked, live_in}
-use Rattle.shared_trees.specs.MergedLaw.{IsInOrder, items}
+use Rattle.shared_trees.specs.MergedLaw.{items}
 use Rattle.shared_trees.specs.Shared.{is_shared, unshared_in}
 use Rattle.shared_trees.specs.ShiftedLaw.{is_shifted}
 use Rattle.shared_trees.specs.TableLaw.{AreApart, Tree, trees_in}
 use Rattle.shared_trees.specs.Unshared.{items_in}
-use Rattle.shared_trees.proofs.Forest.{NoneOf, walks}
+use Rattle.shared_trees.proofs.Forest.{walks}
 use Rattle.shared_trees.proofs.Lives.{ok_same}
 use Rattle.shared_trees.proofs.Treed.{chunk_tree, trees_walk}
-use Rattle.tree_change.specs.AllTrees.{AllTreesLaw, AreAllParts, IsAll, gone_all, has_id, named_at, named_parts, root_named, side_by, with_parts}
+use Rattle.tree_change.specs.AllTrees.{AllTreesLaw, AreAllParts, IsAll, has_id, named_at, root_named, side_by, with_parts}
 use Rattle.tree_change.specs.Change.{is_before, item_before}
-use Rattle.tree_change.specs.Merging.{IsSortedOf, root_at}
-use Rattle.tree_change.specs.OneTree.{IsAmong, IsOldOf, IsTree, OneTreeLaw, old_tree, shares, side_of}
+use Rattle.tree_change.specs.Merging.{root_at}
+use Rattle.tree_change.specs.OneTree.{IsAmong, IsOldOf, OneTreeLaw, shares, side_of}
 use Rattle.tree_change.specs.Walks.{Known, Parts, Side, gone_parts, tree_parts}
 use Rattle.tree_change.proofs.Alone.{alone_same, array_same}
 use Rattle.tree_change.proofs.Apart.{pairs_apart}
@@ -86,7 +84,8 @@ module _ (law : OneTreeLaw) (image : List ℕ) (pending : FinMap nat_cmp ℕ) (o
   news_among = subst (AllByRecursion (λ t. IsAmong t afters)) a.afters_are (all_among afters)
 
   -- what holds of each named tree, by its root item
-  named_each : (P : Tree → Type 0) (stored : Stored) (some : List RootItem) → AllByRecursion P (map (λ (root : RootItem). (stored, named_root root)) some)
+  named_each : (P : Tree → Type 0) (stored : Stored) (some : List RootItem)
+      → AllByRecursion P (map (λ (root : RootItem). (stored, named_root root)) some)
       → AllByRecursion (λ (root : RootItem). P (stored, named_root root)) some
   named_each P stored [] each = tt
   named_each P stored (root ∷ some) each = (each.0, named_each P stored some each.1)
@@ -100,7 +99,8 @@ module _ (law : OneTreeLaw) (image : List ℕ) (pending : FinMap nat_cmp ℕ) (o
   abbrev Alike : Side → Expect → Type 0
   Alike is now =
       (records : List Seen) → walk_in is.sup is.chunks now is.image ≡ Ok records → IsOf now.tree records new.seen
-      × ((live : Live) → live.tree ≡ now.tree → shares image pending old is records live ≡ is_shared old new (written_in pending) (length image) live)
+      × ((live : Live) → live.tree ≡ now.tree → shares image pending old is records live ≡ is_shared old new (written_in pending)
+      (length image) live)
 
   alike_of : (now : Expect) → IsAmong (is_stored, now) afters → Alike side now
   unfolding walk_in
@@ -118,9 +118,11 @@ module _ (law : OneTreeLaw) (image : List ℕ) (pending : FinMap nat_cmp ℕ) (o
       let of : IsOf 3 records new.seen = subst (λ r. IsOf 3 r new.seen) (ok_same whole.0 records (sym whole.1 ∙ (same.walk ∙ walk))) whole.2 in
       (of, λ live at. array_same image pending old new array a.array_is records walk of live at)
 
+  -- what changes in the chunk tree is what changes in all, of its id
   chunks_piece : IsPiece all 3 chunk_parts
   chunks_piece =
-      tree_piece law image pending old new trees pairs (side_by judged new array) by_array (Some (chunk_tree_root old.sup)) (chunk_tree_root new.sup) chunk_parts
+      tree_piece law image pending old new trees pairs (side_by judged new array) by_array (Some (chunk_tree_root old.sup))
+      (chunk_tree_root new.sup) chunk_parts
       (record {
         has = a.over.has;
         pairs_are = a.over.pairs_are;
@@ -153,8 +155,10 @@ module _ (law : OneTreeLaw) (image : List ℕ) (pending : FinMap nat_cmp ℕ) (o
       → IsOldOf image old trees (named_root root) (root_named (map root_at olds) root.key.objectid)
   was_named root three one =
       old_named image old trees (named_root root) olds (named_each (λ t. IsAmong t trees) was_stored olds olds_among.1.1)
-      (λ none. subst (AllByRecursion (λ t. (t.1.tree == root.key.objectid) ≡ false)) (sym a.over.trees_are)
-      (other_way root.key.objectid 3 three, (other_way root.key.objectid 1 one, each_named (λ t. (t.1.tree == root.key.objectid) ≡ false) was_stored olds none)))
+      (λ none. subst (AllByRecursion (λ t. (t.1.tree == root.key.objectid) ≡ false)) (sym a.over.trees_are) (
+        other_way root.key.objectid 3 three,
+        (other_way root.key.objectid 1 one, each_named (λ t. (t.1.tree == root.key.objectid) ≡ false) was_stored olds none),
+      ))
 
   named_all : (some : List RootItem) → AllByRecursion (λ (root : RootItem). IsAmong (is_stored, named_root root) afters) some
       → AllByRecursion (λ m. (m == 3) ≡ false) (at_ids (map root_at some)) → AllByRecursion (λ m. (m == 1) ≡ false) (at_ids (map root_at some))
@@ -163,7 +167,8 @@ module _ (law : OneTreeLaw) (image : List ℕ) (pending : FinMap nat_cmp ℕ) (o
       → IsPiece all root.key.objectid parts) (map root_at some)
   named_all [] is three one = tt
   named_all (root ∷ some) is three one = (
-    λ parts made. one_piece (root_named (map root_at olds) root.key.objectid) (named_root root) parts refl refl is.0 (was_named root three.0 one.0) made,
+    λ parts made. one_piece (root_named (map root_at olds) root.key.objectid) (named_root root) parts refl refl is.0
+        (was_named root three.0 one.0) made,
     named_all some is.1 three.1 one.1,
   )
 
@@ -190,10 +195,15 @@ module _ (law : OneTreeLaw) (image : List ℕ) (pending : FinMap nat_cmp ℕ) (o
       → gone_parts pairs known (side_of image old) (named_at root) ≡ Ok parts → IsPiece all root.key.objectid parts) (map root_at some)
   gone_each [] is three one = tt
   gone_each (root ∷ some) is three one = (
-    λ parts none made. gone_piece image pending old new trees afters pairs known was_all.0 was_all.1 is_all.0 is_all.1 a.over.pairs_are (named_root root) parts is.0
-        (subst (AllByRecursion (λ t. (t.1.tree == root.key.objectid) ≡ false)) (sym a.afters_are)
-        (other_way root.key.objectid 3 three.0, (other_way root.key.objectid 1 one.0,
-        each_named (λ t. (t.1.tree == root.key.objectid) ≡ false) is_stored news (none_named root.key.objectid news none)))) made,
+    λ parts none made. gone_piece image pending old new trees afters pairs known was_all.0 was_all.1 is_all.0 is_all.1 a.over.pairs_are
+        (named_root root) parts is.0
+        (subst (AllByRecursion (λ t. (t.1.tree == root.key.objectid) ≡ false)) (sym a.afters_are) (
+          other_way root.key.objectid 3 three.0,
+          (
+            other_way root.key.objectid 1 one.0,
+            each_named (λ t. (t.1.tree == root.key.objectid) ≡ false) is_stored news (none_named root.key.objectid news none),
+          ),
+        )) made,
     gone_each some is.1 three.1 one.1,
   )
 
@@ -205,11 +215,14 @@ module _ (law : OneTreeLaw) (image : List ℕ) (pending : FinMap nat_cmp ℕ) (o
   abbrev parts : Parts
   parts = with_parts chunk_parts (with_parts root_parts (with_parts named left))
 
+  -- all parts are those of the different ids, which all pairs and items have
   pieces : ArePieces all ids parts
   pieces =
-      pieces_with all 3 (1 ∷ (at_ids (map root_at news) ++ gone_ids (map root_at news) (map root_at olds))) chunk_parts (with_parts root_parts (with_parts named left))
+      pieces_with all 3 (1 ∷ (at_ids (map root_at news) ++ gone_ids (map root_at news) (map root_at olds))) chunk_parts
+      (with_parts root_parts (with_parts named left))
       chunks_piece
-      (pieces_with all 1 (at_ids (map root_at news) ++ gone_ids (map root_at news) (map root_at olds)) root_parts (with_parts named left) roots_piece
+      (pieces_with all 1 (at_ids (map root_at news) ++ gone_ids (map root_at news) (map root_at olds)) root_parts
+      (with_parts named left) roots_piece
       (pieces_append all (at_ids (map root_at news)) (gone_ids (map root_at news) (map root_at olds)) named left named_are gone_are))
 
   distinct : Distinct ids
@@ -225,11 +238,14 @@ module _ (law : OneTreeLaw) (image : List ℕ) (pending : FinMap nat_cmp ℕ) (o
       are_listed new.sup ids afters new.seen is_all.0 is_all.1
       (subst (Listed ids) (sym a.afters_are) (news_listed new.sup new.chunks news (map root_at olds) judged))
 
-  lives_listed : (test : Live → Bool) (seen : List Seen) → AreListed ids seen → IsPermutation (filter test (live_in seen)) (of_ids live_id ids (filter test (live_in seen)))
+  lives_listed : (test : Live → Bool) (seen : List Seen) → AreListed ids seen
+      → IsPermutation (filter test (live_in seen)) (of_ids live_id ids (filter test (live_in seen)))
   lives_listed test seen each =
-      by_ids live_id ids (filter test (live_in seen)) distinct (all_filter (λ live. listed (live_id live) ids ≡ true) test (live_in seen) each.lives)
+      by_ids live_id ids (filter test (live_in seen)) distinct
+      (all_filter (λ live. listed (live_id live) ids ≡ true) test (live_in seen) each.lives)
 
-  items_listed : (lives : List Live) (seen : List Seen) → AreListed ids seen → IsPermutation (items_in lives seen) (of_ids item_id ids (items_in lives seen))
+  items_listed : (lives : List Live) (seen : List Seen) → AreListed ids seen
+      → IsPermutation (items_in lives seen) (of_ids item_id ids (items_in lives seen))
   items_listed lives seen each =
       by_ids item_id ids (items_in lives seen) distinct
       (subst (AllByRecursion (λ one. listed (item_id one) ids ≡ true)) (sym (items_filter lives seen))
@@ -243,8 +259,10 @@ module _ (law : OneTreeLaw) (image : List ℕ) (pending : FinMap nat_cmp ℕ) (o
         (lives_listed (λ live. not (is_shared old new (written_in pending) (length image) live)) new.seen new_listed);
     moved = λ sorted sort. in_order is_before all.moved parts.moved sorted
         (subst (IsPermutation all.moved) (sym pieces.moved)
-        (lives_listed (λ live. is_shared old new (written_in pending) (length image) live && is_shifted (live_in old.seen) live) new.seen new_listed)) sort
-        (pairs_apart new.sup afters new.seen (λ live. is_shared old new (written_in pending) (length image) live && is_shifted (live_in old.seen) live)
+        (lives_listed (λ live. is_shared old new (written_in pending) (length image) live && is_shifted
+        (live_in old.seen) live) new.seen new_listed)) sort
+        (pairs_apart new.sup afters new.seen
+        (λ live. is_shared old new (written_in pending) (length image) live && is_shifted (live_in old.seen) live)
         is_all.0 is_all.1);
     old_items = λ sorted sort. in_order item_before all.old_items parts.old_items sorted
         (subst (IsPermutation all.old_items) (sym pieces.old_items)
@@ -257,6 +275,7 @@ module _ (law : OneTreeLaw) (image : List ℕ) (pending : FinMap nat_cmp ℕ) (o
     count = pieces.count;
   }
 
+-- What changes in all trees, from what changes in each.
 pub all_trees : OneTreeLaw → AllTreesLaw
 all_trees law image pending old new olds news trees afters array pairs by_array known chunk_parts root_parts named left a =
     all_parts law image pending old new olds news trees afters array pairs by_array known chunk_parts root_parts named left a

@@ -3,7 +3,7 @@ use Rattle.std.proofs.Common.{◌≡◌, ℕ, ◌==◌, Bool, true, false, not, 
 use Rattle.std.proofs.lemmas.Bool.{eqb-true}
 use Rattle.std.proofs.lemmas.Bool.Decides.{nat_tests}
 use Rattle.std.specs.Prelude.{Ok, map, bytes_eq}
-use Rattle.std.specs.List.{AllByRecursion, filter, list_any}
+use Rattle.std.specs.List.{AllByRecursion, list_any}
 use Rattle.std.specs.Ordering.{nat_cmp}
 use Rattle.std.specs.FinMap.{FinMap}
 use Rattle.verdict.specs.Chunks.{place}
@@ -29,11 +29,11 @@ use Rattle.shared_trees.proofs.ArrayPlaces.{as_by_all}
 use Rattle.shared_trees.proofs.Bounds.{and_parts}
 use Rattle.shared_trees.proofs.Lives.{lives_are}
 use Rattle.shared_trees.proofs.OldTells.{has_same}
-use Rattle.shared_trees.proofs.Picking.{each_map, one_of}
+use Rattle.shared_trees.proofs.Picking.{one_of}
 use Rattle.tree_change.specs.AllTrees.{side_by}
 use Rattle.tree_change.specs.OneTree.{alone}
 use Rattle.tree_change.proofs.Split.{IsOf}
-use Rattle.tree_change.proofs.Unordered.{any_filter, of_id}
+use Rattle.tree_change.proofs.Unordered.{any_filter}
 
 same_id : (m n k : ℕ) → m ≡ n → n ≡ k → (m == k) ≡ true
 same_id m n k a b = grind (arith, nat_tests)
@@ -43,7 +43,8 @@ pub alike_any : (id : ℕ) (records seen : List Seen) → IsOf id records seen �
     → list_any (are_alike live) (live_in records) ≡ list_any (are_alike live) (live_in seen)
 alike_any id records seen of live is =
     ap (list_any (are_alike live)) of.lives
-    ∙ any_filter (λ (x : Live). x.tree == id) (are_alike live) (λ x alike. same_id x.tree live.tree id (sym (has_same live x alike).tree) is) (live_in seen)
+    ∙ any_filter (λ (x : Live). x.tree == id) (are_alike live) (λ x alike. same_id x.tree live.tree id (sym (has_same live x alike).tree) is)
+    (live_in seen)
 
 -- and it is shifted by the tree's where it is by all
 pub shifted_same : (id : ℕ) (records seen : List Seen) → IsOf id records seen → (live : Live) → live.tree ≡ id
@@ -57,7 +58,8 @@ shifted_same id records seen of live is =
 
 -- so by the chunks of the image
 pub alone_same : (image : List ℕ) (old new : Walked) (written : Written) (end id : ℕ) (news : List Seen) → IsOf id news new.seen
-    → (live : Live) → live.tree ≡ id → is_shared old (alone (side_by image new new.chunks) news) written end live ≡ is_shared old new written end live
+    → (live : Live) → live.tree ≡ id → is_shared old
+    (alone (side_by image new new.chunks) news) written end live ≡ is_shared old new written end live
 unfolding is_shared
 alone_same image old new written end id news of live is =
     ap (λ t. are_read_alike old.sup new.sup && (stays_in_place old.chunks new.chunks old.sup.nodesize end live.address
@@ -72,7 +74,8 @@ nodesize_same a b is =
     (and_parts (a.nodesize == b.nodesize) (a.incompat == b.incompat && (a.compat_ro == b.compat_ro && a.devid == b.devid)) rest).0
 
 -- and of the chunk tree by those of the system array
-module _ (image : List ℕ) (pending : FinMap nat_cmp ℕ) (old new : Walked) (array : List Chunk) (has : HasArray (overlaid pending 0 image) new array) where
+module _ (image : List ℕ) (pending : FinMap nat_cmp ℕ) (old new : Walked) (array : List Chunk)
+    (has : HasArray (overlaid pending 0 image) new array) where
   abbrev judged : List ℕ
   judged = overlaid pending 0 image
 
@@ -87,10 +90,12 @@ module _ (image : List ℕ) (pending : FinMap nat_cmp ℕ) (old new : Walked) (a
       → AllByRecursion Stands (map (live_at new.sup stored) es)
   lives_stand alike [] all = tt
   lives_stand alike (e ∷ es) all =
-      let stands : place array e.address new.sup.nodesize (length judged) ≡ place new.chunks e.address new.sup.nodesize (length judged) = all.0.stands in
-      (
-        subst (λ n. place array e.address n (length image) ≡ place new.chunks e.address n (length image)) (sym (nodesize_same old.sup new.sup alike))
-            (subst (λ n. place array e.address new.sup.nodesize n ≡ place new.chunks e.address new.sup.nodesize n) (length-overlaid pending 0 image) stands),
+      let stands : place array e.address new.sup.nodesize (length judged) ≡ place new.chunks e.address new.sup.nodesize
+      (length judged) = all.0.stands in (
+        subst (λ n. place array e.address n (length image) ≡ place new.chunks e.address n (length image))
+            (sym (nodesize_same old.sup new.sup alike))
+            (subst (λ n. place array e.address new.sup.nodesize n ≡ place new.chunks e.address new.sup.nodesize n)
+            (length-overlaid pending 0 image) stands),
         lives_stand alike es all.1,
       )
 

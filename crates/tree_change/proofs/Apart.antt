@@ -1,6 +1,6 @@
 -- No walk comes to an address twice, so that any two live pairs of an image are in one order or the other. What is known of where the blocks
 -- below a node stand is as in the proof that a table of live pairs stands for a walk.
-use Rattle.std.proofs.Common.{◌≡◌, ℕ, zero, suc, ◌<◌, ◌==◌, Bool, true, false, not, ◌&&◌, ◌||◌, List, [], ◌∷◌, ◌++◌, inl, inr, refl, ap, sym, subst, ◌∙◌, arith, if◌then◌else◌}
+use Rattle.std.proofs.Common.{◌≡◌, ℕ, zero, suc, ◌<◌, ◌==◌, Bool, true, false, ◌&&◌, ◌||◌, List, [], ◌∷◌, ◌++◌, refl, ap, sym, subst, ◌∙◌, arith}
 use Rattle.std.proofs.lemmas.Grind.{common_steps}
 use Rattle.std.proofs.lemmas.Bool.{eqb-true}
 use Rattle.std.proofs.lemmas.Bool.Decides.{nat_tests}
@@ -28,7 +28,7 @@ use Rattle.shared_trees.specs.LivePairs.{live_in}
 use Rattle.shared_trees.specs.Skips.{is_below}
 use Rattle.shared_trees.specs.TableLaw.{AreApart, Tree}
 use Rattle.shared_trees.proofs.Accepted.{Accepts, LowFits, accepts, keys_at, visit_of, walk_accepted}
-use Rattle.shared_trees.proofs.Bounds.{and_parts, below_through}
+use Rattle.shared_trees.proofs.Bounds.{below_through}
 use Rattle.shared_trees.proofs.Forest.{lives_of, of_root, others_after, walks}
 use Rattle.shared_trees.proofs.Lasting.{low_fits}
 use Rattle.shared_trees.proofs.Merged.{walks_of}
@@ -43,7 +43,8 @@ use Rattle.tree_change.proofs.Piece.{live_id}
 use Rattle.tree_change.proofs.Split.{First, first_of, none_of}
 
 -- a block and one below it
-over : (stored : Stored) (n : ℕ) (v w : Expect) (bytes : List ℕ) → stored v.address ≡ Ok bytes → level_of bytes ≡ n → Lower stored n w → w.address ≡ v.address → ⊥
+over : (stored : Stored) (n : ℕ) (v w : Expect) (bytes : List ℕ) → stored v.address ≡ Ok bytes → level_of bytes ≡ n → Lower stored n w
+    → w.address ≡ v.address → ⊥
 over stored n v w bytes is at low same =
     less (level_of bytes) (level_of low.bytes) n at (ap level_of (copied_same stored v.address w.address bytes low.bytes is low.is same)) low.lower
   where
@@ -51,12 +52,14 @@ over stored n v w bytes is at low same =
     less a b n at same low = absurd (omega arith)
 
 -- blocks of two children
-apart : (stored : Stored) (low middle : Key) (high : Option Key) (v w : Expect) → Spans stored low (Some middle) v → Spans stored middle high w → w.address ≡ v.address → ⊥
+apart : (stored : Stored) (low middle : Key) (high : Option Key) (v w : Expect) → Spans stored low (Some middle) v → Spans stored middle high w
+    → w.address ≡ v.address → ⊥
 apart stored low middle high v w a b same =
     let h : a.bytes ≡ b.bytes = copied_same stored v.address w.address a.bytes b.bytes a.is b.is same in
     let less : key_below (first_at b.bytes) middle ≡ true = subst (λ bytes. key_below (first_at bytes) middle ≡ true) h a.upto in
     let more : key_below (first_at b.bytes) middle ≡ false = b.from in
     absurd (cc)
+
 -- a block stands at another address
 abbrev Other : Expect → Expect → Type 0
 Other v w = w.address ≡ v.address → ⊥
@@ -70,6 +73,7 @@ abbrev SingleAll : Trail → Type 0
 SingleAll (Err finding) = ⊥
 SingleAll (Ok visits) = Single visits
 
+-- of two lists, where no block of the first stands at the address of one of the second
 single_append : (first later : List Visit) → Single first → Single later → Each (λ v. Each (Other v) later) first → Single (first ++ later)
 single_append [] later a b across = b
 single_append (v ∷ first) later a b across = (joined first a.0, single_append first later a.1 b across.1)
@@ -78,15 +82,18 @@ single_append (v ∷ first) later a b across = (joined first a.0, single_append 
     joined [] all = across.0
     joined (w ∷ some) all = (all.0, joined some all.1)
 
-single_after : (first : List Visit) (later : Trail) → Single first → SingleAll later → Each (λ v. Visits (Other v) later) first → SingleAll (after first later)
+single_after : (first : List Visit) (later : Trail) → Single first → SingleAll later → Each (λ v. Visits (Other v) later) first
+    → SingleAll (after first later)
 unfolding after
 single_after first (Err finding) a b across = b
 single_after first (Ok later) a b across = single_append first later a b across
 
-single_then : (first later : Trail) → SingleAll first → SingleAll later → Visits (λ v. Visits (Other v) later) first → SingleAll (then_trail first later)
+single_then : (first later : Trail) → SingleAll first → SingleAll later → Visits (λ v. Visits (Other v) later) first
+    → SingleAll (then_trail first later)
 single_then (Err finding) later a b across = a
 single_then (Ok first) later a b across = single_after first later a b across
 
+-- no block of one trail is at an address of another
 across : (A B : Expect → Type 0) (first later : Trail) → ((v w : Expect) → A v → B w → w.address ≡ v.address → ⊥) → Visits A first → Visits B later
     → Visits (λ v. Visits (Other v) later) first
 across A B first later apart all others =
@@ -101,23 +108,28 @@ module _ (sup : Super) (stored : Stored) where
 
   -- blocks below one are on lower levels
   lower_children : (level : ℕ) → ((c : Expect) → c.level ≡ level → Visits AnyOf (of level c) → Visits (Lower stored (suc level)) (of level c))
-      → (e : Expect) (pointers : List Pointer) → Visits AnyOf (trails (of level) (children_of level e pointers)) → Visits (Lower stored (suc level)) (trails (of level) (children_of level e pointers))
+      → (e : Expect) (pointers : List Pointer) → Visits AnyOf (trails (of level) (children_of level e pointers)) → Visits (Lower stored (suc level))
+      (trails (of level) (children_of level e pointers))
   lower_children level low e [] all = tt
   lower_children level low e (pointer ∷ pointers) all =
       let c = child_of level e pointer (high_of pointers e.high) in
       let rest = trails (of level) (children_of level e pointers) in
-      visits_then (Lower stored (suc level)) (of level c) rest (low c refl (visits_then_first AnyOf (of level c) rest all)) (lower_children level low e pointers (visits_then_later AnyOf (of level c) rest all))
+      visits_then (Lower stored (suc level)) (of level c) rest (low c refl (visits_then_first AnyOf (of level c) rest all))
+      (lower_children level low e pointers (visits_then_later AnyOf (of level c) rest all))
 
   lower_block : (level : ℕ) (e : Expect) → e.level ≡ level
-      → ((bytes : List ℕ) → Visits AnyOf (trail_below level sup stored e bytes) → Visits (Lower stored level) (trail_below level sup stored e bytes))
+      → ((bytes : List ℕ) → Visits AnyOf (trail_below level sup stored e bytes) → Visits (Lower stored level)
+      (trail_below level sup stored e bytes))
       → Visits AnyOf (of level e) → Visits (Lower stored (suc level)) (of level e)
   lower_block level e at low all =
       let a = accepts AnyOf (trail_below level sup stored) sup stored e all in
       let rest = trail_below level sup stored e a.bytes in
       let same : level_of a.bytes ≡ e.level = fault_free_level a.bytes sup.fsid e a.passes in
       subst (Visits (Lower stored (suc level))) (sym (walk_accepted (trail_below level sup stored) sup stored e a))
-      (visits_after (Lower stored (suc level)) (visit_of e a.bytes a.entries ∷ []) rest (record { bytes = a.bytes; is = a.is; lower = here (level_of a.bytes) (same ∙ at) }, tt)
-      (visits_map (Lower stored level) (Lower stored (suc level)) rest (λ w l. record { bytes = l.bytes; is = l.is; lower = more (level_of l.bytes) l.lower })
+      (visits_after (Lower stored (suc level)) (visit_of e a.bytes a.entries ∷ []) rest
+      (record { bytes = a.bytes; is = a.is; lower = here (level_of a.bytes) (same ∙ at) }, tt)
+      (visits_map (Lower stored level) (Lower stored (suc level)) rest
+      (λ w l. record { bytes = l.bytes; is = l.is; lower = more (level_of l.bytes) l.lower })
       (low a.bytes (rest_of AnyOf (trail_below level sup stored) sup stored e a all))))
     where
       here : (n : ℕ) → n ≡ level → n < suc level
@@ -126,7 +138,8 @@ module _ (sup : Super) (stored : Stored) where
       more : (n : ℕ) → n < level → n < suc level
       more n is = omega arith
 
-  lower_below : (level : ℕ) (e : Expect) (bytes : List ℕ) → Visits AnyOf (trail_below level sup stored e bytes) → Visits (Lower stored level) (trail_below level sup stored e bytes)
+  lower_below : (level : ℕ) (e : Expect) (bytes : List ℕ) → Visits AnyOf (trail_below level sup stored e bytes)
+      → Visits (Lower stored level) (trail_below level sup stored e bytes)
   unfolding trail_below
   lower_below zero e bytes all = tt
   lower_below (suc level) e bytes all = lower_children level (λ c at. lower_block level c at (lower_below level c)) e (pointers_of bytes) all
@@ -134,10 +147,12 @@ module _ (sup : Super) (stored : Stored) where
   -- the keys of a node's pointers
   pointers_lie : (level : ℕ) (e : Expect) → e.level ≡ suc level → (a : Accepts sup stored e) → Lie e.low e.high (pointer_keys (pointers_of a.bytes))
   pointers_lie level e at a =
-      let keys : Lie e.low e.high (each_from (entry_key a.bytes (entry_size e.level)) 0 (count_of a.bytes)) = block_keys a.bytes sup.fsid e a.passes in
+      let keys : Lie e.low e.high
+      (each_from (entry_key a.bytes (entry_size e.level)) 0 (count_of a.bytes)) = block_keys a.bytes sup.fsid e a.passes in
       subst (Lie e.low e.high) (ap (λ n. keys_at n a.bytes) at ∙ node_keys level a.bytes) keys
 
-  first_below : (pointer : Pointer) (pointers : List Pointer) (high : Option Key) → Ascend (pointer_keys (pointer ∷ pointers)) → AllBelow high (pointer_keys (pointer ∷ pointers)) → is_below pointer.key (high_of pointers high) ≡ true
+  first_below : (pointer : Pointer) (pointers : List Pointer) (high : Option Key) → Ascend (pointer_keys (pointer ∷ pointers))
+      → AllBelow high (pointer_keys (pointer ∷ pointers)) → is_below pointer.key (high_of pointers high) ≡ true
   first_below pointer [] None ascend upto = refl
   first_below pointer [] (Some high) ascend upto = upto.0
   first_below pointer (next ∷ pointers) high ascend upto = ascend.0.0
@@ -147,7 +162,8 @@ module _ (sup : Super) (stored : Stored) where
   rest_below key keys (Some high) upto = upto.1
 
   -- a bound of a child is within that of its node
-  wider : (key : Key) (pointers : List Pointer) (high : Option Key) → AllBelow high (pointer_keys pointers) → is_below key (high_of pointers high) ≡ true → is_below key high ≡ true
+  wider : (key : Key) (pointers : List Pointer) (high : Option Key) → AllBelow high (pointer_keys pointers)
+      → is_below key (high_of pointers high) ≡ true → is_below key high ≡ true
   wider key [] high upto is = is
   wider key (next ∷ pointers) None upto is = refl
   wider key (next ∷ pointers) (Some high) upto is = below_through key next.key (Some high) is upto.0
@@ -156,9 +172,13 @@ module _ (sup : Super) (stored : Stored) where
   not_under low middle k below above = grind (arith, common_steps)
 
   -- the first keys of the blocks below a node are between its bounds
-  spans_children : (level : ℕ) (low : Key) → ((c : Expect) (l : Key) → c.level ≡ level → c.low ≡ Some l → is_below l c.high ≡ true → Visits AnyOf (of level c) → Visits (Spans stored l c.high) (of level c))
-      → (e : Expect) (pointers : List Pointer) → Ascend (pointer_keys pointers) → AllBelow e.high (pointer_keys pointers) → NoneBelow (Some low) (pointer_keys pointers)
-      → Visits AnyOf (trails (of level) (children_of level e pointers)) → Visits (Spans stored low e.high) (trails (of level) (children_of level e pointers))
+  spans_children : (level : ℕ) (low : Key)
+      → ((c : Expect) (l : Key) → c.level ≡ level → c.low ≡ Some l → is_below l c.high ≡ true → Visits AnyOf (of level c) → Visits
+      (Spans stored l c.high) (of level c))
+      → (e : Expect) (pointers : List Pointer) → Ascend (pointer_keys pointers) → AllBelow e.high (pointer_keys pointers) → NoneBelow (Some low)
+      (pointer_keys pointers)
+      → Visits AnyOf (trails (of level) (children_of level e pointers)) → Visits (Spans stored low e.high)
+      (trails (of level) (children_of level e pointers))
   spans_children level low spans e [] ascend upto from all = tt
   spans_children level low spans e (pointer ∷ pointers) ascend upto from all =
       let c = child_of level e pointer (high_of pointers e.high) in
@@ -166,18 +186,26 @@ module _ (sup : Super) (stored : Stored) where
       let more : AllBelow e.high (pointer_keys pointers) = rest_below pointer.key (pointer_keys pointers) e.high upto in
       visits_then (Spans stored low e.high) (of level c) rest
       (visits_map (Spans stored pointer.key c.high) (Spans stored low e.high) (of level c)
-      (λ w s. record { bytes = s.bytes; is = s.is; from = not_under low pointer.key (first_at s.bytes) from.0 s.from; upto = wider (first_at s.bytes) pointers e.high more s.upto })
+      (λ w s. record {
+        bytes = s.bytes;
+        is = s.is;
+        from = not_under low pointer.key (first_at s.bytes) from.0 s.from;
+        upto = wider
+            (first_at s.bytes) pointers e.high more s.upto;
+      })
       (spans c pointer.key refl refl (first_below pointer pointers e.high ascend upto) (visits_then_first AnyOf (of level c) rest all)))
       (spans_children level low spans e pointers ascend.1 more from.1 (visits_then_later AnyOf (of level c) rest all))
 
   spans_block : (level : ℕ) (e : Expect) (low : Key) → e.level ≡ level → e.low ≡ Some low → is_below low e.high ≡ true
-      → ((a : Accepts sup stored e) → Visits AnyOf (trail_below level sup stored e a.bytes) → Visits (Spans stored low e.high) (trail_below level sup stored e a.bytes))
+      → ((a : Accepts sup stored e) → Visits AnyOf (trail_below level sup stored e a.bytes) → Visits (Spans stored low e.high)
+      (trail_below level sup stored e a.bytes))
       → Visits AnyOf (of level e) → Visits (Spans stored low e.high) (of level e)
   spans_block level e low at is below spans all =
       let a = accepts AnyOf (trail_below level sup stored) sup stored e all in
       let rest = trail_below level sup stored e a.bytes in
       let fits : LowFits (Some low) e.level a.bytes = subst (λ l. LowFits l e.level a.bytes) is (low_fits sup stored e a) in
-      let same : key_same low (first_at a.bytes) ≡ true = ap (λ n. key_same low (entry_key a.bytes (entry_size n) 0)) (fault_free_level a.bytes sup.fsid e a.passes) ∙ fits.1 in
+      let same : key_same low (first_at a.bytes) ≡ true = ap (λ n. key_same low (entry_key a.bytes (entry_size n) 0))
+      (fault_free_level a.bytes sup.fsid e a.passes) ∙ fits.1 in
       subst (Visits (Spans stored low e.high)) (sym (walk_accepted (trail_below level sup stored) sup stored e a))
       (visits_after (Spans stored low e.high) (visit_of e a.bytes a.entries ∷ []) rest
       (record { bytes = a.bytes; is = a.is; from = itself low (first_at a.bytes) same; upto = alike low (first_at a.bytes) e.high same below }, tt)
@@ -199,11 +227,15 @@ module _ (sup : Super) (stored : Stored) where
   spans_below zero e low at is a all = tt
   spans_below (suc level) e low at is a all =
       let lie = pointers_lie level e at a in
-      spans_children level low (λ c l at is below. spans_block level c l at is below (spans_below level c l at is)) e (pointers_of a.bytes) lie.ascend lie.upto
+      spans_children level low (λ c l at is below. spans_block level c l at is below (spans_below level c l at is)) e
+      (pointers_of a.bytes) lie.ascend lie.upto
       (subst (λ l. NoneBelow l (pointer_keys (pointers_of a.bytes))) is lie.from) all
 
-  spans_of : (level : ℕ) (e : Expect) (low : Key) → e.level ≡ level → e.low ≡ Some low → is_below low e.high ≡ true → Visits AnyOf (of level e) → Visits (Spans stored low e.high) (of level e)
+  spans_of : (level : ℕ) (e : Expect) (low : Key) → e.level ≡ level → e.low ≡ Some low → is_below low e.high ≡ true → Visits AnyOf (of level e)
+      → Visits (Spans stored low e.high) (of level e)
   spans_of level e low at is below all = spans_block level e low at is below (spans_below level e low at is) all
+
+  -- so below a node, from a block on, and below it
   single_children : (level : ℕ) → ((c : Expect) → c.level ≡ level → Visits AnyOf (of level c) → SingleAll (of level c))
       → (e : Expect) (pointers : List Pointer) → Ascend (pointer_keys pointers) → AllBelow e.high (pointer_keys pointers)
       → Visits AnyOf (trails (of level) (children_of level e pointers)) → SingleAll (trails (of level) (children_of level e pointers))
@@ -304,7 +336,8 @@ walk_order sup stored root records is =
       one v e same visits es m.1 others.1,
     )
 
-    all : (visits : List Visit) (es : List Expect) → Matches sup stored visits es → Single visits → InOrder either_pair (map (live_at sup stored) es)
+    all : (visits : List Visit) (es : List Expect) → Matches sup stored visits es → Single visits
+        → InOrder either_pair (map (live_at sup stored) es)
     all [] [] m single = tt
     all [] (e ∷ es) m single = elim m [ ]
     all (v ∷ visits) [] m single = elim m [ ]
@@ -325,7 +358,8 @@ pairs_order sup (tree ∷ trees) seen apart is =
     (subst (AllByRecursion (λ x. Before either_pair x (live_in f.others))) (sym f.own_lives)
     (each (visited sup tree.0 tree.1) (of_root sup tree (rw f.walk refl)).each (live_in f.others) others)))
   where
-    one : (x : Live) (b : List Live) → x.tree ≡ tree.1.tree → AllByRecursion (λ (y : Live). (y.tree == tree.1.tree) ≡ false) b → Before either_pair x b
+    one : (x : Live) (b : List Live) → x.tree ≡ tree.1.tree → AllByRecursion (λ (y : Live). (y.tree == tree.1.tree) ≡ false) b
+        → Before either_pair x b
     one x [] at all = tt
     one x (y ∷ b) at all = (of_other_tree x y (ap (λ t. y.tree == t) at ∙ all.0), one x b at all.1)
 

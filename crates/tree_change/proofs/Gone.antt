@@ -1,7 +1,7 @@
 -- What changes where a tree is gone: all that it had.
-use Rattle.std.proofs.Common.{◌≡◌, ℕ, suc, ◌+◌, ◌-◌, ◌==◌, ◌⊎◌, inl, inr, Bool, true, false, not, List, [], ◌∷◌, ◌++◌, length, refl, ap, sym, subst, ◌∙◌, arith}
+use Rattle.std.proofs.Common.{◌≡◌, ℕ, suc, ◌+◌, ◌-◌, ◌==◌, inl, inr, Bool, false, not, List, [], ◌∷◌, length, refl, ap, sym, subst, ◌∙◌}
 use Rattle.std.proofs.lemmas.Bool.{eqb-true}
-use Rattle.std.specs.Prelude.{Option, Some, None, is_some, Result, Ok, Err}
+use Rattle.std.specs.Prelude.{Option, Some, None, is_some, Result, Ok}
 use Rattle.std.specs.List.{AllByRecursion, cons_option, filter, filter_map}
 use Rattle.std.specs.Ordering.{nat_cmp}
 use Rattle.std.specs.FinMap.{FinMap}
@@ -12,14 +12,12 @@ use Rattle.live_index.specs.Pairs.{Pairs}
 use Rattle.live_index.specs.declared.live.Live.{Live}
 use Rattle.node_reader.specs.Stored.{Stored, stored_in}
 use Rattle.node_reader.specs.declared.expect.Expect.{Expect}
-use Rattle.records.specs.Part.{Located}
 use Rattle.records.specs.Seen.{Seen}
 use Rattle.records.specs.Seen.Seen.{BlockSeen, ItemSeen, PointerSeen}
 use Rattle.records.specs.Walk.{walk_of}
 use Rattle.records.specs.WalkLaw.{visited}
-use Rattle.records.specs.declared.rec.BlockAt.{BlockAt}
 use Rattle.touched_pairs.specs.Touched.{written_in}
-use Rattle.shared_trees.specs.Keeping.{Comes, Stands, Under, anew_of, live_at, starts_of}
+use Rattle.shared_trees.specs.Keeping.{Comes, Stands, Under, anew_of, starts_of}
 use Rattle.shared_trees.specs.KeepingWalk.{skip_in}
 use Rattle.shared_trees.specs.LivePairs.{Walked, live_in, table_of}
 use Rattle.shared_trees.specs.MergedLaw.{items}
@@ -28,14 +26,14 @@ use Rattle.shared_trees.specs.Shared.{is_shared, unshared_in}
 use Rattle.shared_trees.specs.SkipLaw.{IsSound}
 use Rattle.shared_trees.specs.Skips.{Kept, nothing, skip_of, unkept}
 use Rattle.shared_trees.specs.TableLaw.{AreApart, Tree}
-use Rattle.shared_trees.specs.Unshared.{AreOfPairs, is_block_seen, items_in, pair_seen}
+use Rattle.shared_trees.specs.Unshared.{is_block_seen, items_in, pair_seen}
 use Rattle.shared_trees.specs.declared.starts.Start.{Start}
 use Rattle.shared_trees.proofs.Forest.{NoneOf, stands_as, tables_stand, walks}
 use Rattle.shared_trees.proofs.OldBlocks.{unshared_are}
 use Rattle.shared_trees.proofs.OldTells.{gone}
 use Rattle.shared_trees.proofs.Rooted.{step_ok}
 use Rattle.shared_trees.proofs.Skipping.{skips}
-use Rattle.tree_change.specs.Gathered.{Gathers, block_seen, blocks_seen}
+use Rattle.tree_change.specs.Gathered.{Gathers, blocks_seen}
 use Rattle.tree_change.specs.OneTree.{IsAmong, old_tree, side_of}
 use Rattle.tree_change.specs.Walks.{Known, Parts, gone_parts, listed_by, no_walk, old_walk, pairs_at, parts_of}
 use Rattle.tree_change.proofs.Piece.{IsPiece, changed, item_id, items_of_id, live_id}
@@ -66,7 +64,8 @@ none_sound tree pairs under sup stored = record {
   next = λ e. each e (under e.tree e.address);
 }
   where
-    each : (e : Expect) (starts : List Start) → AllByRecursion (λ (c : Expect). (c.level ≡ e.level - 1) × (c.tree ≡ e.tree)) (starts_of (e.level - 1) e starts)
+    each : (e : Expect) (starts : List Start)
+        → AllByRecursion (λ (c : Expect). (c.level ≡ e.level - 1) × (c.tree ≡ e.tree)) (starts_of (e.level - 1) e starts)
     each e [] = tt
     each e (start ∷ starts) = ((refl, refl), each e starts)
 
@@ -88,7 +87,8 @@ none_passes : {X : Type 0} (of : X → ℕ) (id : ℕ) (q : X → Bool) (xs : Li
 none_passes of id q xs none = ap (filter q) none ∙ filter_swap (λ x. of x == id) q q (λ x at. refl) xs
 
 module _ (image : List ℕ) (pending : FinMap nat_cmp ℕ) (old new : Walked) (trees afters : List Tree) (pairs : Pairs) (known : Known)
-    (apart : AreApart trees) (walk : walks old.sup trees ≡ Ok old.seen) (afters_apart : AreApart afters) (afters_walk : walks new.sup afters ≡ Ok new.seen)
+    (apart : AreApart trees) (walk : walks old.sup trees ≡ Ok old.seen) (afters_apart : AreApart afters)
+    (afters_walk : walks new.sup afters ≡ Ok new.seen)
     (pairs_are : (tree address : ℕ) → pairs tree address ≡ table_of (live_in old.seen) tree address) where
   abbrev stored : Stored
   stored = stored_in image old.chunks old.sup.nodesize
@@ -115,7 +115,8 @@ module _ (image : List ℕ) (pending : FinMap nat_cmp ℕ) (old new : Walked) (t
         moved = none_passes live_id e.tree _ (live_in new.seen) nothing_new.lives;
         old_items = gives.items ∙ (ap (λ ls. items_in ls whole) lives
             ∙ items_of_id e.tree (unshared_in old new (written_in pending) (length image) old) whole old.seen of);
-        new_items = none_passes item_id e.tree (stands_in (unshared_in old new (written_in pending) (length image) new)) (items new.seen) nothing_new.found
+        new_items = none_passes item_id e.tree (stands_in (unshared_in old new (written_in pending) (length image) new))
+            (items new.seen) nothing_new.found
             ∙ sym (ap (of_id item_id e.tree) (items_filter (unshared_in old new (written_in pending) (length image) new) new.seen));
         count = ap (λ n. n + 0) (blocks_count records ∙ (gives.count ∙ sym (ap length blocks)));
       }

@@ -1,8 +1,8 @@
 -- The ids of the trees of an image, and of those that are gone.
-use Rattle.std.proofs.Common.{◌≡◌, ℕ, ◌==◌, Bool, true, false, not, ◌||◌, List, [], ◌∷◌, ◌++◌, refl, ap, sym, subst, ◌∙◌, arith, if◌then◌else◌}
+use Rattle.std.proofs.Common.{◌≡◌, ℕ, ◌==◌, Bool, true, false, ◌||◌, List, [], ◌∷◌, ◌++◌, refl, ap, subst, ◌∙◌, arith, if◌then◌else◌}
 use Rattle.std.proofs.lemmas.Bool.{eqb-true}
 use Rattle.std.proofs.lemmas.Bool.Decides.{nat_tests}
-use Rattle.std.specs.Prelude.{Option, Some, None, map}
+use Rattle.std.specs.Prelude.{map}
 use Rattle.std.specs.List.{AllByRecursion, list_any}
 use Rattle.verdict.specs.declared.place.Chunk.{Chunk}
 use Rattle.super_reader.specs.declared.Super.{Super}
@@ -35,18 +35,21 @@ distinct_ids : (sup : Super) (trees : List Tree) → AreApart trees → Distinct
 distinct_ids sup [] apart = tt
 distinct_ids sup (tree ∷ trees) apart = (ids trees (others_after sup tree trees apart.0), distinct_ids sup trees apart.1)
   where
-    ids : (some : List Tree) → AllByRecursion (λ t. (t.1.tree == tree.1.tree) ≡ false) some → AllByRecursion (λ m. (m == tree.1.tree) ≡ false) (tree_ids some)
+    ids : (some : List Tree) → AllByRecursion (λ t. (t.1.tree == tree.1.tree) ≡ false) some
+        → AllByRecursion (λ m. (m == tree.1.tree) ≡ false) (tree_ids some)
     ids [] all = tt
     ids (t ∷ some) all = (all.0, ids some all.1)
 
-named_ids : (stored : Stored) (roots : List RootItem) → tree_ids (map (λ (root : RootItem). (stored, named_root root)) roots) ≡ at_ids (map root_at roots)
+named_ids : (stored : Stored) (roots : List RootItem)
+    → tree_ids (map (λ (root : RootItem). (stored, named_root root)) roots) ≡ at_ids (map root_at roots)
 named_ids stored [] = refl
 named_ids stored (root ∷ roots) = ap (λ ids. root.key.objectid ∷ ids) (named_ids stored roots)
 
 pub image_ids : (sup : Super) (chunks : List Chunk) (roots : List RootItem) (image : List ℕ) → AreApart (trees_in sup chunks chunks roots image)
     → Distinct (3 ∷ 1 ∷ at_ids (map root_at roots))
 image_ids sup chunks roots image apart =
-    subst (λ ids. Distinct (3 ∷ 1 ∷ ids)) (named_ids (stored_in image chunks sup.nodesize) roots) (distinct_ids sup (trees_in sup chunks chunks roots image) apart)
+    subst (λ ids. Distinct (3 ∷ 1 ∷ ids)) (named_ids (stored_in image chunks sup.nodesize) roots)
+    (distinct_ids sup (trees_in sup chunks chunks roots image) apart)
 
 -- what holds of each id holds of those that are gone
 all_gone : (P : ℕ → Type 0) (news olds : List RootAt) → AllByRecursion P (at_ids olds) → AllByRecursion P (gone_ids news olds)
@@ -72,7 +75,8 @@ distinct_gone news (root ∷ olds) apart = by (list_any (has_id (at_id root)) ne
     by false rest = (all_gone (λ m. (m == at_id root) ≡ false) news olds apart.0, rest)
 
 -- those that are gone are none of those that are named
-gone_other : (root : RootAt) (news olds : List RootAt) → list_any (has_id (at_id root)) news ≡ true → AllByRecursion (λ m. (m == at_id root) ≡ false) (gone_ids news olds)
+gone_other : (root : RootAt) (news olds : List RootAt) → list_any (has_id (at_id root)) news ≡ true
+    → AllByRecursion (λ m. (m == at_id root) ≡ false) (gone_ids news olds)
 unfolding gone_ids
 gone_other root news [] has = tt
 gone_other root news (one ∷ olds) has = by (list_any (has_id (at_id one)) news) refl (gone_other root news olds has)
@@ -127,7 +131,6 @@ all_distinct news olds new old = (
   ),
 )
 
--- An id of a tree is one of them: of the image as it is, and as it was.
 or_more : (a b : Bool) → b ≡ true → (a || b) ≡ true
 or_more true b is = refl
 or_more false b is = is
@@ -136,6 +139,7 @@ or_first : (a b : Bool) → a ≡ true → (a || b) ≡ true
 or_first true b is = refl
 or_first false b is = absurd (cc)
 
+-- an id that is named is one of them, and so is one that is gone
 listed_at : (id : ℕ) (roots : List RootAt) → list_any (has_id id) roots ≡ true → listed id (at_ids roots) ≡ true
 listed_at id [] is = is
 listed_at id (root ∷ roots) is = by (at_id root == id) is (listed_at id roots)
@@ -148,7 +152,8 @@ listed_at id (root ∷ roots) is = by (at_id root == id) is (listed_at id roots)
 listed_in : (id : ℕ) (news olds : List RootAt) → list_any (has_id id) news ≡ true → listed id (all_ids news olds) ≡ true
 listed_in id news olds is =
     or_more (3 == id) (listed id (1 ∷ (at_ids news ++ gone_ids news olds))) (or_more (1 == id) (listed id (at_ids news ++ gone_ids news olds))
-    (listed_append id (at_ids news) (gone_ids news olds) ∙ or_first (listed id (at_ids news)) (listed id (gone_ids news olds)) (listed_at id news is)))
+    (listed_append id (at_ids news) (gone_ids news olds) ∙ or_first (listed id (at_ids news)) (listed id (gone_ids news olds))
+    (listed_at id news is)))
 
 listed_gone : (id : ℕ) (news olds : List RootAt) → listed id (gone_ids news olds) ≡ true → listed id (all_ids news olds) ≡ true
 listed_gone id news olds is =
@@ -156,12 +161,14 @@ listed_gone id news olds is =
     (listed_append id (at_ids news) (gone_ids news olds) ∙ or_more (listed id (at_ids news)) (listed id (gone_ids news olds)) is))
 
 -- each old root is named now or is gone
-named_or_gone : (news olds : List RootAt) → AllByRecursion (λ root. (list_any (has_id (at_id root)) news || listed (at_id root) (gone_ids news olds)) ≡ true) olds
+named_or_gone : (news olds : List RootAt)
+    → AllByRecursion (λ root. (list_any (has_id (at_id root)) news || listed (at_id root) (gone_ids news olds)) ≡ true) olds
 unfolding gone_ids
 named_or_gone news [] = tt
 named_or_gone news (root ∷ olds) = by (list_any (has_id (at_id root)) news) refl (named_or_gone news olds)
   where
-    more : (some : List RootAt) → AllByRecursion (λ one. (list_any (has_id (at_id one)) news || listed (at_id one) (gone_ids news olds)) ≡ true) some
+    more : (some : List RootAt)
+        → AllByRecursion (λ one. (list_any (has_id (at_id one)) news || listed (at_id one) (gone_ids news olds)) ≡ true) some
         → AllByRecursion (λ one. (list_any (has_id (at_id one)) news || listed (at_id one) (at_id root ∷ gone_ids news olds)) ≡ true) some
     more [] all = tt
     more (one ∷ some) all =
@@ -174,13 +181,17 @@ named_or_gone news (root ∷ olds) = by (list_any (has_id (at_id root)) news) re
 
     by : (b : Bool) → list_any (has_id (at_id root)) news ≡ b
         → AllByRecursion (λ one. (list_any (has_id (at_id one)) news || listed (at_id one) (gone_ids news olds)) ≡ true) olds
-        → AllByRecursion (λ one. (list_any (has_id (at_id one)) news || listed (at_id one) (if b then gone_ids news olds else at_id root ∷ gone_ids news olds)) ≡ true)
+        → AllByRecursion (λ one.
+        (list_any (has_id (at_id one)) news || listed (at_id one) (if b then gone_ids news olds else at_id root ∷ gone_ids news olds)) ≡ true)
         (root ∷ olds)
     by true is rest = (rw is refl, rest)
-    by false is rest =
-        (or_more (list_any (has_id (at_id root)) news) (listed (at_id root) (at_id root ∷ gone_ids news olds)) (or_first (at_id root == at_id root) (listed (at_id root) (gone_ids news olds)) (itself (at_id root))),
-        more olds rest)
+    by false is rest = (
+      or_more (list_any (has_id (at_id root)) news) (listed (at_id root) (at_id root ∷ gone_ids news olds))
+          (or_first (at_id root == at_id root) (listed (at_id root) (gone_ids news olds)) (itself (at_id root))),
+      more olds rest,
+    )
 
+-- each tree's id is one of them: of the image as it is, and of the image as it was
 abbrev pub Listed : List ℕ → List Tree → Type 0
 Listed ids trees = AllByRecursion (λ (t : Tree). listed t.1.tree ids ≡ true) trees
 
@@ -203,12 +214,14 @@ olds_listed sup chunks olds news image = (refl, (refl, each olds (named_or_gone 
     stored : Stored
     stored = stored_in image chunks sup.nodesize
 
-    by : (id : ℕ) (b : Bool) → list_any (has_id id) news ≡ b → (b || listed id (gone_ids news (map root_at olds))) ≡ true → listed id (all_ids news (map root_at olds)) ≡ true
+    by : (id : ℕ) (b : Bool) → list_any (has_id id) news ≡ b → (b || listed id (gone_ids news (map root_at olds))) ≡ true
+        → listed id (all_ids news (map root_at olds)) ≡ true
     by id true has is = listed_in id news (map root_at olds) has
     by id false has is = listed_gone id news (map root_at olds) is
 
     each : (some : List RootItem)
-        → AllByRecursion (λ root. (list_any (has_id (at_id root)) news || listed (at_id root) (gone_ids news (map root_at olds))) ≡ true) (map root_at some)
+        → AllByRecursion (λ root. (list_any (has_id (at_id root)) news || listed (at_id root) (gone_ids news (map root_at olds))) ≡ true)
+        (map root_at some)
         → Listed (all_ids news (map root_at olds)) (map (λ (root : RootItem). (stored, named_root root)) some)
     each [] all = tt
     each (root ∷ some) all = (by root.key.objectid (list_any (has_id root.key.objectid) news) refl all.0, each some all.1)

@@ -1,10 +1,9 @@
 -- Any two items of an image are in one order or the other.
-use Rattle.std.proofs.Common.{◌≡◌, ℕ, ◌==◌, Bool, true, false, not, ◌&&◌, ◌||◌, List, [], ◌∷◌, ◌++◌, refl, ap, sym, subst, ◌∙◌, arith}
-use Rattle.std.proofs.lemmas.Grind.{common_steps}
+use Rattle.std.proofs.Common.{◌≡◌, ℕ, ◌==◌, Bool, true, false, ◌&&◌, ◌||◌, List, [], ◌∷◌, ◌++◌, refl, ap, sym, subst, ◌∙◌, arith}
 use Rattle.std.proofs.lemmas.Bool.Decides.{nat_tests}
 use Rattle.std.proofs.lemmas.List.Kept.{AllPairs-filter}
 use Rattle.std.specs.Prelude.{Ok, nat_lt}
-use Rattle.std.specs.List.{AllByRecursion, AllPairs, filter}
+use Rattle.std.specs.List.{AllByRecursion, AllPairs}
 use Rattle.verdict.specs.OnDisk.{key_below}
 use Rattle.super_reader.specs.declared.Super.{Super}
 use Rattle.live_index.specs.declared.live.Live.{Live}
@@ -13,14 +12,13 @@ use Rattle.records.specs.Seen.{Seen}
 use Rattle.records.specs.Seen.Seen.{BlockSeen, ItemSeen, PointerSeen}
 use Rattle.walk_laws.specs.WalkOrder.{AllAbove, Ascend, item_keys}
 use Rattle.walk_laws.proofs.Trees.{walk_ascends}
-use Rattle.shared_trees.specs.LivePairs.{live_in}
 use Rattle.shared_trees.specs.MergedLaw.{items}
 use Rattle.shared_trees.specs.TableLaw.{AreApart, Tree}
 use Rattle.shared_trees.specs.Unshared.{items_in}
 use Rattle.shared_trees.proofs.Forest.{others_after, walks}
 use Rattle.shared_trees.proofs.Mixing.{Before, InOrder, pairs_of}
 use Rattle.tree_change.specs.Change.{item_before}
-use Rattle.tree_change.proofs.Piece.{item_id, live_id}
+use Rattle.tree_change.proofs.Piece.{item_id}
 use Rattle.tree_change.proofs.Split.{First, ItemsOf, first_of, items_filter, none_of, stands_in, walk_items}
 use Rattle.tree_change.proofs.Unordered.{of_id}
 
@@ -93,7 +91,8 @@ ordered sup (tree ∷ trees) seen apart is =
     one_across id x [] at all = tt
     one_across id x (y ∷ b) at all = (by_tree x y (ap (λ t. y.tree == t) at ∙ all.0), one_across id x b at all.1)
 
-    across : (id : ℕ) (a b : List Located) → ItemsOf id a → AllByRecursion (λ y. (item_id y == id) ≡ false) b → AllByRecursion (λ x. Before either x b) a
+    across : (id : ℕ) (a b : List Located) → ItemsOf id a → AllByRecursion (λ y. (item_id y == id) ≡ false) b
+        → AllByRecursion (λ x. Before either x b) a
     across id [] b of all = tt
     across id (x ∷ a) b of all = (one_across id x b of.0 all, across id a b of.1 all)
 

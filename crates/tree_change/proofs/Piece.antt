@@ -1,8 +1,9 @@
 -- What changes in all trees is what changes in each, one tree after the other.
-use Rattle.std.proofs.Common.{◌≡◌, ℕ, ◌+◌, ◌==◌, Bool, true, false, not, ◌&&◌, List, [], ◌∷◌, ◌++◌, length, length-append, refl, ap, sym, subst, ◌∙◌, arith}
+use Rattle.std.proofs.Common.{◌≡◌, ℕ, ◌+◌, ◌==◌, Bool, true, false, not, ◌&&◌, List, [], ◌∷◌, ◌++◌, length, length-append, refl, ap, sym, ◌∙◌}
+use Rattle.std.proofs.Common.{arith}
 use Rattle.std.proofs.lemmas.Bool.{eqb-true}
 use Rattle.std.proofs.lemmas.Bool.Decides.{nat_tests}
-use Rattle.std.specs.List.{filter, flat_map, list_any}
+use Rattle.std.specs.List.{filter}
 use Rattle.std.specs.Ordering.{nat_cmp}
 use Rattle.std.specs.FinMap.{FinMap}
 use Rattle.live_index.specs.declared.live.Live.{Live}
@@ -60,6 +61,7 @@ pub record ArePieces (all : Parts) (ids : List ℕ) (parts : Parts) : Type 0 whe
 pub pieces_none : (all : Parts) → ArePieces all [] no_parts
 pieces_none all = record { old_blocks = refl; new_blocks = refl; moved = refl; old_items = refl; new_items = refl; count = refl }
 
+-- the parts of one tree before those of others
 both : {X : Type 0} (a b c d : List X) → a ≡ c → b ≡ d → a ++ b ≡ c ++ d
 both a b c d x y = ap (λ l. l ++ b) x ∙ ap (λ l. c ++ l) y
 
@@ -70,7 +72,8 @@ append_append (x ∷ a) b c = ap (λ more. x ∷ more) (append_append a b c)
 counts : (n m : ℕ) (a b c d : List Live) → n ≡ length a + length b → m ≡ length c + length d → n + m ≡ length (a ++ c) + length (b ++ d)
 counts n m a b c d x y = let u = length-append a c in let v = length-append b d in omega (arith, x, y, u, v)
 
-pub pieces_with : (all : Parts) (id : ℕ) (ids : List ℕ) (p q : Parts) → IsPiece all id p → ArePieces all ids q → ArePieces all (id ∷ ids) (with_parts p q)
+pub pieces_with : (all : Parts) (id : ℕ) (ids : List ℕ) (p q : Parts) → IsPiece all id p → ArePieces all ids q
+    → ArePieces all (id ∷ ids) (with_parts p q)
 pieces_with all id ids p q a b = record {
   old_blocks = both p.old_blocks q.old_blocks (of_id live_id id all.old_blocks) (of_ids live_id ids all.old_blocks) a.old_blocks b.old_blocks;
   new_blocks = both p.new_blocks q.new_blocks (of_id live_id id all.new_blocks) (of_ids live_id ids all.new_blocks) a.new_blocks b.new_blocks;
@@ -80,6 +83,7 @@ pieces_with all id ids p q a b = record {
   count = counts p.count q.count p.old_blocks p.new_blocks q.old_blocks q.new_blocks a.count b.count;
 }
 
+-- the parts of some trees before those of others
 ids_both : {X : Type 0} (id : X → ℕ) (ids others : List ℕ) (xs : List X) → of_ids id ids xs ++ of_ids id others xs ≡ of_ids id (ids ++ others) xs
 ids_both id [] others xs = refl
 ids_both id (n ∷ ids) others xs =
@@ -92,7 +96,8 @@ pieces_append all ids others p q a b = record {
       ∙ ids_both live_id ids others all.old_blocks;
   new_blocks = both p.new_blocks q.new_blocks (of_ids live_id ids all.new_blocks) (of_ids live_id others all.new_blocks) a.new_blocks b.new_blocks
       ∙ ids_both live_id ids others all.new_blocks;
-  moved = both p.moved q.moved (of_ids live_id ids all.moved) (of_ids live_id others all.moved) a.moved b.moved ∙ ids_both live_id ids others all.moved;
+  moved = both p.moved q.moved (of_ids live_id ids all.moved) (of_ids live_id others all.moved) a.moved b.moved
+      ∙ ids_both live_id ids others all.moved;
   old_items = both p.old_items q.old_items (of_ids item_id ids all.old_items) (of_ids item_id others all.old_items) a.old_items b.old_items
       ∙ ids_both item_id ids others all.old_items;
   new_items = both p.new_items q.new_items (of_ids item_id ids all.new_items) (of_ids item_id others all.new_items) a.new_items b.new_items
@@ -123,7 +128,8 @@ items_of_id id lives records seen of =
         (λ live both. through live.tree one.tree id (live.address == one.block) is both) lives
 
 -- What changes in one tree is what changes in all, of its id.
-pub piece_of : (image : List ℕ) (pending : FinMap nat_cmp ℕ) (old new : Walked) (is : Side) (now : Expect) (olds news : List Seen) (parts : Parts) (id : ℕ)
+pub piece_of : (image : List ℕ) (pending : FinMap nat_cmp ℕ) (old new : Walked) (is : Side) (now : Expect) (olds news : List Seen) (parts : Parts)
+    (id : ℕ)
     → ChangesTree image pending old is now olds news parts → IsOf id olds old.seen → IsOf id news new.seen
     → ((live : Live) → live.tree ≡ id → shares image pending old is news live ≡ is_shared old new (written_in pending) (length image) live)
     → IsPiece (changed old new (written_in pending) (length image)) id parts

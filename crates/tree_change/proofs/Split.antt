@@ -2,8 +2,8 @@
 use Rattle.std.proofs.Common.{◌≡◌, ℕ, ◌==◌, Bool, true, false, not, ◌&&◌, List, [], ◌∷◌, ◌++◌, refl, ap, sym, subst, ◌∙◌, arith, if◌then◌else◌}
 use Rattle.std.proofs.lemmas.Bool.Decides.{nat_tests}
 use Rattle.std.proofs.lemmas.List.Elements.{filter-append, filter_map-append}
-use Rattle.std.specs.Prelude.{Some, None, Ok, map}
-use Rattle.std.specs.List.{AllByRecursion, cons_option, filter, filter_map, list_any}
+use Rattle.std.specs.Prelude.{Ok, map}
+use Rattle.std.specs.List.{AllByRecursion, filter, list_any}
 use Rattle.std.specs.Result.{IsOk}
 use Rattle.verdict.specs.declared.place.At.{At}
 use Rattle.super_reader.specs.Superblock.{item_place}
@@ -22,10 +22,9 @@ use Rattle.records.specs.WalkLaw.{visited}
 use Rattle.shared_trees.specs.Keeping.{live_at}
 use Rattle.shared_trees.specs.LivePairs.{live_in}
 use Rattle.shared_trees.specs.MergedLaw.{items}
-use Rattle.shared_trees.specs.Skips.{own_of}
 use Rattle.shared_trees.specs.TableLaw.{AreApart, Tree, is_other}
-use Rattle.shared_trees.specs.Unshared.{item_of_pairs, item_seen, items_in}
-use Rattle.shared_trees.proofs.Forest.{NoneOf, all_lives, lives_all, lives_of, of_other, of_root, others_after, others_all, then_ok, walks}
+use Rattle.shared_trees.specs.Unshared.{item_seen, items_in}
+use Rattle.shared_trees.proofs.Forest.{NoneOf, all_lives, lives_all, lives_of, of_other, of_root, others_after, then_ok, walks}
 use Rattle.shared_trees.proofs.Lives.{lives_are}
 use Rattle.shared_trees.proofs.Merged.{read_of, walks_of}
 use Rattle.shared_trees.proofs.Trails.{Matches, Visit, all_own}
@@ -48,7 +47,8 @@ node_of : (tree : ℕ) (e : Expect) (pointers : List Pointer) → ItemsOf tree (
 node_of tree e [] = tt
 node_of tree e (pointer ∷ pointers) = node_of tree e pointers
 
-entries_of : (sup : Super) (e : Expect) (bytes : List ℕ) (entries : List Seen) → entry_records sup e bytes ≡ Ok entries → ItemsOf e.tree (items entries)
+entries_of : (sup : Super) (e : Expect) (bytes : List ℕ) (entries : List Seen) → entry_records sup e bytes ≡ Ok entries
+    → ItemsOf e.tree (items entries)
 unfolding leaf_records
 entries_of sup e bytes entries is = by (e.level == 0) is
   where
@@ -136,7 +136,8 @@ module _ (sup : Super) where
         rest = split.3;
         own_lives = own;
         lives = lives_all sup (tree ∷ trees) seen apart is
-            ∙ (ap (λ ls. ls ++ all_lives sup trees) (sym own) ∙ ap (λ ls. live_in split.0 ++ ls) (sym (lives_all sup trees split.1 apart.1 split.3)));
+            ∙ (ap (λ ls. ls ++ all_lives sup trees) (sym own) ∙ ap (λ ls. live_in split.0 ++ ls)
+            (sym (lives_all sup trees split.1 apart.1 split.3)));
         found = ap items split.4 ∙ filter_map-append item_seen split.0 split.1;
       }
 
@@ -148,7 +149,8 @@ module _ (sup : Super) where
       let f = first_of tree trees seen apart is in
       let more = none_of trees f.others id apart.1 f.rest none.1 in
       let lives = none_of_id live_id id (live_in f.own) (rw f.own_lives (of_other sup tree id (rw f.walk refl) none.0)) in
-      let found = none_of_id item_id id (items f.own) (items_other id tree.1.tree (items f.own) none.0 (walk_items sup tree.0 tree.1 f.own f.walk)) in
+      let found = none_of_id item_id id (items f.own)
+      (items_other id tree.1.tree (items f.own) none.0 (walk_items sup tree.0 tree.1 f.own f.walk)) in
       record {
         lives = more.lives ∙ sym (ap (of_id live_id id) f.lives ∙ (filter-append (λ live. live_id live == id) (live_in f.own) (live_in f.others)
             ∙ ap (λ ls. ls ++ of_id live_id id (live_in f.others)) lives));
@@ -180,13 +182,18 @@ module _ (sup : Super) where
           let id = tree.1.tree in
           let none = none_of trees f.others id apart.1 f.rest (others_after sup tree trees apart.0) in
           let lives = all_of_id live_id id (live_in f.own) (rw f.own_lives (lives_own tree fine)) in
-          let found = all_of_id item_id id (items f.own) (walk_items sup tree.0 tree.1 f.own f.walk) in
-          (f.own, f.walk, record {
-            lives = sym (ap (of_id live_id id) f.lives ∙ (filter-append (λ live. live_id live == id) (live_in f.own) (live_in f.others)
-                ∙ (ap (λ ls. ls ++ of_id live_id id (live_in f.others)) lives ∙ (ap (λ ls. live_in f.own ++ ls) (sym none.lives) ∙ append_none (live_in f.own)))));
-            found = sym (ap (of_id item_id id) f.found ∙ (filter-append (λ one. item_id one == id) (items f.own) (items f.others)
-                ∙ (ap (λ ls. ls ++ of_id item_id id (items f.others)) found ∙ (ap (λ ls. items f.own ++ ls) (sym none.found) ∙ append_none (items f.own)))));
-          })
+          let found = all_of_id item_id id (items f.own) (walk_items sup tree.0 tree.1 f.own f.walk) in (
+            f.own,
+            f.walk,
+            record {
+              lives = sym (ap (of_id live_id id) f.lives ∙ (filter-append (λ live. live_id live == id) (live_in f.own) (live_in f.others)
+                  ∙ (ap (λ ls. ls ++ of_id live_id id (live_in f.others)) lives
+                  ∙ (ap (λ ls. live_in f.own ++ ls) (sym none.lives) ∙ append_none (live_in f.own)))));
+              found = sym (ap (of_id item_id id) f.found ∙ (filter-append (λ one. item_id one == id) (items f.own) (items f.others)
+                  ∙ (ap (λ ls. ls ++ of_id item_id id (items f.others)) found
+                  ∙ (ap (λ ls. items f.own ++ ls) (sym none.found) ∙ append_none (items f.own)))));
+            },
+          )
 
       apart_is : (m n : ℕ) → not (m == n) ≡ true → (m == n) ≡ false
       apart_is m n is = grind (arith, nat_tests)
@@ -196,13 +203,18 @@ module _ (sup : Super) where
           let id = t.1.tree in
           let apart = apart_is tree.1.tree id other in
           let lives = none_of_id live_id id (live_in f.own) (rw f.own_lives (of_other sup tree id fine apart)) in
-          let found = none_of_id item_id id (items f.own) (items_other id tree.1.tree (items f.own) apart (walk_items sup tree.0 tree.1 f.own f.walk)) in
-          (gives.0, gives.1, record {
-            lives = gives.2.lives ∙ sym (ap (of_id live_id id) f.lives ∙ (filter-append (λ live. live_id live == id) (live_in f.own) (live_in f.others)
-                ∙ ap (λ ls. ls ++ of_id live_id id (live_in f.others)) lives));
-            found = gives.2.found ∙ sym (ap (of_id item_id id) f.found ∙ (filter-append (λ one. item_id one == id) (items f.own) (items f.others)
-                ∙ ap (λ ls. ls ++ of_id item_id id (items f.others)) found));
-          })
+          let found = none_of_id item_id id (items f.own)
+          (items_other id tree.1.tree (items f.own) apart (walk_items sup tree.0 tree.1 f.own f.walk)) in (
+            gives.0,
+            gives.1,
+            record {
+              lives = gives.2.lives ∙ sym
+                  (ap (of_id live_id id) f.lives ∙ (filter-append (λ live. live_id live == id) (live_in f.own) (live_in f.others)
+                  ∙ ap (λ ls. ls ++ of_id live_id id (live_in f.others)) lives));
+              found = gives.2.found ∙ sym (ap (of_id item_id id) f.found ∙ (filter-append (λ one. item_id one == id) (items f.own) (items f.others)
+                  ∙ ap (λ ls. ls ++ of_id item_id id (items f.others)) found));
+            },
+          )
 
       later : (some : List Tree) → AllByRecursion (λ t. is_other tree t ≡ true) some → AllByRecursion (Gives f.others) some
           → AllByRecursion (Gives seen) some

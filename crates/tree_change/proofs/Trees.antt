@@ -1,47 +1,41 @@
 -- What changes in each tree of an image, and in those that are gone.
-use Rattle.std.proofs.Common.{◌≡◌, ℕ, ◌==◌, ◌⊎◌, inl, inr, Bool, true, false, List, [], ◌∷◌, ◌++◌, length, refl, ap, sym, subst, ◌∙◌, arith, if◌then◌else◌}
+use Rattle.std.proofs.Common.{◌≡◌, ℕ, ◌==◌, ◌⊎◌, inl, inr, Bool, true, false, List, [], ◌∷◌, length, refl, sym, subst, ◌∙◌, if◌then◌else◌}
 use Rattle.std.proofs.lemmas.Bool.{eqb-true}
-use Rattle.std.proofs.lemmas.Bool.Decides.{nat_tests}
-use Rattle.std.specs.Prelude.{Option, Some, None, IfSome, Result, Ok, Err, map}
+use Rattle.std.specs.Prelude.{Option, Some, None, Ok, map}
 use Rattle.std.specs.List.{AllByRecursion, list_any}
 use Rattle.std.specs.Ordering.{nat_cmp}
 use Rattle.std.specs.FinMap.{FinMap}
 use Rattle.verdict.specs.Rules.{and_then}
-use Rattle.verdict.specs.declared.finding.Finding.{Finding}
-use Rattle.verdict.specs.declared.place.Chunk.{Chunk}
-use Rattle.write_cache.specs.Cache.{overlaid}
-use Rattle.super_reader.specs.declared.Super.{Super}
 use Rattle.volume_items.specs.declared.root.RootItem.{RootItem}
 use Rattle.volume_items.specs.declared.root_at.RootAt.{RootAt}
 use Rattle.live_index.specs.Pairs.{Pairs}
 use Rattle.live_index.specs.declared.live.Live.{Live}
-use Rattle.node_reader.specs.Stored.{Stored, stored_in}
 use Rattle.node_reader.specs.declared.expect.Expect.{Expect}
-use Rattle.records.specs.Contents.{chunk_tree_root, named_root, root_tree_root}
+use Rattle.records.specs.Contents.{named_root}
 use Rattle.records.specs.Seen.{Seen}
-use Rattle.records.specs.Walk.{walk_in, walk_of}
+use Rattle.records.specs.Walk.{walk_in}
 use Rattle.touched_pairs.specs.Touched.{written_in}
 use Rattle.shared_trees.specs.ArrayShifts.{MovesListedBy}
-use Rattle.shared_trees.specs.LivePairs.{Walked, live_in, table_of}
+use Rattle.shared_trees.specs.LivePairs.{Walked}
 use Rattle.shared_trees.specs.Shared.{is_shared}
-use Rattle.shared_trees.specs.SharedLaw.{HasTrees, MarksTouched}
-use Rattle.shared_trees.specs.TableLaw.{AreApart, Tree, trees_in}
-use Rattle.shared_trees.proofs.Forest.{NoneOf, walks}
+use Rattle.shared_trees.specs.SharedLaw.{MarksTouched}
+use Rattle.shared_trees.specs.TableLaw.{AreApart, Tree}
+use Rattle.shared_trees.proofs.Forest.{walks}
 use Rattle.shared_trees.proofs.Lives.{ok_same}
 use Rattle.shared_trees.proofs.Rooted.{step_ok}
-use Rattle.shared_trees.proofs.Treed.{chunk_tree, trees_walk}
-use Rattle.tree_change.specs.AllTrees.{IsAll, IsOver, KnowsTrees, gone_all, has_id, named_at, named_parts, no_parts, root_named, side_by, with_parts}
+use Rattle.shared_trees.proofs.Treed.{trees_walk}
+use Rattle.tree_change.specs.AllTrees.{KnowsTrees, gone_all, has_id, named_at, named_parts, no_parts, root_named, with_parts}
 use Rattle.tree_change.specs.Merging.{root_at}
 use Rattle.tree_change.specs.OneTree.{HasRecords, IsAmong, IsOldOf, IsTree, KnowsNothing, KnowsTree, OneTreeLaw, old_tree, shares, side_of}
 use Rattle.tree_change.specs.Walks.{Known, Parts, Side, gone_parts, tree_parts}
-use Rattle.tree_change.proofs.Alone.{alone_same, array_same}
-use Rattle.tree_change.proofs.Gone.{among, gone_piece, ok_one}
+use Rattle.tree_change.proofs.Gone.{among, ok_one}
 use Rattle.tree_change.proofs.Ids.{at_id, at_ids, gone_ids}
 use Rattle.tree_change.proofs.Piece.{ArePieces, IsPiece, changed, piece_of, pieces_none, pieces_with}
 use Rattle.tree_change.proofs.Split.{Gives, IsOf, none_of, of_trees}
 
 -- what is known of all trees is known of each
-pub knows_tree : (image : List ℕ) (pending : FinMap nat_cmp ℕ) (old : Walked) (trees : List Tree) (is : Side) (known : Known) (before : Option Expect)
+pub knows_tree : (image : List ℕ) (pending : FinMap nat_cmp ℕ) (old : Walked) (trees : List Tree) (is : Side) (known : Known)
+    (before : Option Expect)
     (now : Expect) → IsOldOf image old trees now before → KnowsTrees image pending old trees is known → KnowsTree image pending old is known before
 knows_tree image pending old trees is known None now of k = record {
   alike = k.alike;
@@ -60,7 +54,9 @@ knows_tree image pending old trees is known (Some e) now of k = record {
   moves = among (MovesListedBy old is.chunks (length image) k.moving known.under) (old_tree image old e) trees of.1 k.moves;
 }
 
-pub knows_one : (image : List ℕ) (pending : FinMap nat_cmp ℕ) (old : Walked) (trees : List Tree) (is : Side) (known : Known) (before : Option Expect)
+-- or nothing is known of either
+pub knows_one : (image : List ℕ) (pending : FinMap nat_cmp ℕ) (old : Walked) (trees : List Tree) (is : Side) (known : Known)
+    (before : Option Expect)
     (now : Expect) → IsOldOf image old trees now before → KnowsTrees image pending old trees is known ⊎ KnowsNothing old is known
     → KnowsTree image pending old is known before ⊎ KnowsNothing old is known
 knows_one image pending old trees is known before now of (inl k) = inl (knows_tree image pending old trees is known before now of k)
@@ -92,7 +88,8 @@ all_among (tree ∷ trees) = (inl refl, more trees (all_among trees))
 
 -- the records of the old tree are those of its id, or there are none
 pub olds_of : (image : List ℕ) (old : Walked) (trees : List Tree) (before : Option Expect) (now : Expect) (olds : List Seen)
-    → AreApart trees → walks old.sup trees ≡ Ok old.seen → IsOldOf image old trees now before → HasRecords image old before olds → IsOf now.tree olds old.seen
+    → AreApart trees → walks old.sup trees ≡ Ok old.seen → IsOldOf image old trees now before → HasRecords image old before olds
+    → IsOf now.tree olds old.seen
 unfolding walk_in
 olds_of image old trees None now olds apart walk of has =
     subst (λ r. IsOf now.tree r old.seen) (sym has) (none_of old.sup trees old.seen now.tree apart walk of)

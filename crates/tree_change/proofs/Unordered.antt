@@ -1,10 +1,11 @@
 -- Lists by the ids of what they have, and lists that are sorted.
-use Rattle.std.proofs.Common.{◌≡◌, ℕ, ◌<◌, ◌≤◌, ◌==◌, Bool, true, false, not, ◌&&◌, ◌||◌, List, [], ◌∷◌, ◌++◌, ◌⊎◌, inl, inr, length, refl, ap, sym, subst, ◌∙◌, arith, slice_index_or}
+use Rattle.std.proofs.Common.{◌≡◌, ℕ, ◌<◌, ◌≤◌, ◌==◌, Bool, true, false, not, ◌||◌, List, [], ◌∷◌, ◌++◌, ◌⊎◌, inl, inr, length, refl, ap, sym}
+use Rattle.std.proofs.Common.{subst, ◌∙◌, arith, slice_index_or}
 use Rattle.std.proofs.lemmas.Bool.Decides.{nat_tests}
 use Rattle.std.proofs.lemmas.Bool.{cases_eq, cases_lt}
 use Rattle.std.proofs.lemmas.List.Edits.{Swapped, length-swap, swapped_from_swap}
-use Rattle.std.proofs.lemmas.List.Elements.{filter-append}
-use Rattle.std.proofs.lemmas.List.Sorted.{IsPermutation-append_right, IsPermutation-filter_both, IsPermutation-keeps, IsPermutation-refl, IsPermutation-trans}
+use Rattle.std.proofs.lemmas.List.Sorted.{IsPermutation-append_right, IsPermutation-filter_both, IsPermutation-keeps, IsPermutation-refl}
+use Rattle.std.proofs.lemmas.List.Sorted.{IsPermutation-trans}
 use Rattle.std.specs.List.{AllByRecursion, AllPairs, filter, flat_map, list_any, swap}
 use Rattle.std.specs.List.Sorted.{IsPermutation}
 use Rattle.shared_trees.specs.MergedLaw.{IsInOrder}
@@ -82,8 +83,11 @@ pub in_order : {X : Type 0} (before : X → X → Bool) (target made sorted : Li
 in_order {X} before target made sorted perm sort apart =
     let whole : IsPermutation target sorted = IsPermutation-trans target made sorted perm sort.all in
     let all = permuted_pairs (λ a b. (before a b || before b a) ≡ true) turns target sorted whole apart in
-    record { all = whole; ascends = λ i j d less within. first (before (slice_index_or sorted i d) (slice_index_or sorted j d))
-        (before (slice_index_or sorted j d) (slice_index_or sorted i d)) (all i j d less within) (sort.ascends i j d less within) }
+    record {
+      all = whole;
+      ascends = λ i j d less within. first (before (slice_index_or sorted i d) (slice_index_or sorted j d))
+          (before (slice_index_or sorted j d) (slice_index_or sorted i d)) (all i j d less within) (sort.ascends i j d less within);
+    }
   where
     turn : (a b : Bool) → (a || b) ≡ true → (b || a) ≡ true
     turn true true is = refl
@@ -130,6 +134,7 @@ any_filter p q through (x ∷ xs) = by (p x) (q x) refl refl (any_filter p q thr
     by false true is also rest = let h : p x ≡ true = through x also in absurd (cc)
     by false false is also rest = rw (is, also) rest
 
+-- what holds of each of a list holds of each that passes a test
 pub all_filter : {X : Type 0} (P : X → Type 0) (p : X → Bool) (xs : List X) → AllByRecursion P xs → AllByRecursion P (filter p xs)
 all_filter P p [] all = tt
 all_filter P p (x ∷ xs) all = by (p x) refl (all_filter P p xs all.1)
@@ -146,6 +151,7 @@ module _ {X : Type 0} (id : X → ℕ) where
   abbrev pub of_ids : List ℕ → List X → List X
   of_ids ids xs = flat_map (λ n. of_id n xs) ids
 
+  -- where all are of an id, and where none is
   pub all_of_id : (n : ℕ) (xs : List X) → AllByRecursion (λ x. id x ≡ n) xs → of_id n xs ≡ xs
   all_of_id n [] all = refl
   all_of_id n (x ∷ xs) all = rw (itself (id x) n all.0) (ap (λ ys. x ∷ ys) (all_of_id n xs all.1))
@@ -211,6 +217,7 @@ module _ {X : Type 0} (id : X → ℕ) where
       (IsPermutation-append_right (of_id n xs) left (of_ids ids xs)
       (subst (IsPermutation left) (left_of_ids n ids xs apart.0) (by_ids ids left apart.1 (left_listed n ids xs all))))
 
+-- an id is one of two lists where it is one of either
 pub listed_append : (id : ℕ) (a b : List ℕ) → listed id (a ++ b) ≡ (listed id a || listed id b)
 listed_append id [] b = refl
 listed_append id (n ∷ a) b = rw (listed_append id a b) (joined (n == id) (listed id a) (listed id b))
