@@ -33,7 +33,7 @@ use Rattle.tree_change.specs.OneTree.{IsAmong, IsOldOf, OneTreeLaw, shares, side
 use Rattle.tree_change.specs.Walks.{Known, Parts, Side, gone_parts, tree_parts}
 use Rattle.tree_change.proofs.Alone.{alone_same, array_same}
 use Rattle.tree_change.proofs.Apart.{pairs_apart}
-use Rattle.tree_change.proofs.Gone.{among, gone_piece}
+use Rattle.tree_change.proofs.Vanished.{among, gone_piece}
 use Rattle.tree_change.proofs.Ids.{Listed, all_distinct, all_ids, at_ids, gone_ids, image_ids, news_listed, olds_listed}
 use Rattle.tree_change.proofs.Ordered.{items_apart}
 use Rattle.tree_change.proofs.Piece.{ArePieces, IsPiece, changed, item_id, live_id, pieces_append, pieces_with}

@@ -1,7 +1,7 @@
 pub mod AllTrees
 pub mod Alone
 pub mod Apart
-pub mod Gone
+pub mod Vanished
 pub mod Ids
 pub mod Ordered
 pub mod Piece

@@ -28,7 +28,7 @@ use Rattle.tree_change.specs.AllTrees.{KnowsTrees, gone_all, has_id, named_at, n
 use Rattle.tree_change.specs.Merging.{root_at}
 use Rattle.tree_change.specs.OneTree.{HasRecords, IsAmong, IsOldOf, IsTree, KnowsNothing, KnowsTree, OneTreeLaw, old_tree, shares, side_of}
 use Rattle.tree_change.specs.Walks.{Known, Parts, Side, gone_parts, tree_parts}
-use Rattle.tree_change.proofs.Gone.{among, ok_one}
+use Rattle.tree_change.proofs.Vanished.{among, ok_one}
 use Rattle.tree_change.proofs.Ids.{at_id, at_ids, gone_ids}
 use Rattle.tree_change.proofs.Piece.{ArePieces, IsPiece, changed, piece_of, pieces_none, pieces_with}
 use Rattle.tree_change.proofs.Split.{Gives, IsOf, none_of, of_trees}
