@@ -20,3 +20,13 @@ pub mod OneGives
 pub mod OneOld
 pub mod OneNone
 pub mod OneTree
+pub mod AllTrees
+pub mod Alone
+pub mod Apart
+pub mod Vanished
+pub mod Ids
+pub mod Ordered
+pub mod Piece
+pub mod Split
+pub mod Trees
+pub mod Unordered

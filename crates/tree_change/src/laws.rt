@@ -31,3 +31,7 @@ pub fn gone_trees_law()
 /// What changes in each tree of an image is all that changes.
 pub fn all_trees_law()
     ensures { AllTreesLaw }
+
+/// What changes in each tree of an image is all that changes, by what changes in one.
+pub fn all_from_law()
+    ensures { OneTreeLaw → AllTreesLaw }
