@@ -38,7 +38,7 @@ use Rattle.tree_change.proofs.Ids.{Listed, all_distinct, all_ids, at_ids, gone_i
 use Rattle.tree_change.proofs.Ordered.{items_apart}
 use Rattle.tree_change.proofs.Piece.{ArePieces, IsPiece, changed, item_id, live_id, pieces_append, pieces_with}
 use Rattle.tree_change.proofs.Split.{AreListed, Gives, IsOf, are_listed, items_filter, of_trees, stands_in}
-use Rattle.tree_change.proofs.Trees.{all_among, gone_pieces, knows_one, named_pieces, old_named, tree_piece}
+use Rattle.tree_change.proofs.EveryTree.{all_among, gone_pieces, knows_one, named_pieces, old_named, tree_piece}
 use Rattle.tree_change.proofs.Unordered.{Distinct, all_filter, by_ids, in_order, listed, of_ids}
 
 other_way : (m n : ℕ) → (m == n) ≡ false → (n == m) ≡ false

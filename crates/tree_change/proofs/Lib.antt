@@ -28,5 +28,6 @@ pub mod Ids
 pub mod Ordered
 pub mod Piece
 pub mod Split
-pub mod Trees
+pub mod EveryTree
 pub mod Unordered
+pub mod EachTree

@@ -5,6 +5,7 @@ use Rattle.std.specs.Prelude.{Option, Some, None, Result, Ok, Err, map}
 use Rattle.std.specs.List.{filter}
 use Rattle.std.specs.Ordering.{nat_cmp}
 use Rattle.std.specs.FinMap.{FinMap}
+use Rattle.write_cache.specs.Cache.{overlaid}
 use Rattle.verdict.specs.Rules.{and_then}
 use Rattle.verdict.specs.declared.finding.Finding.{Finding}
 use Rattle.live_index.specs.Pairs.{Pairs}
@@ -20,7 +21,7 @@ use Rattle.shared_trees.specs.KeepingWalk.{skip_in}
 use Rattle.shared_trees.specs.LivePairs.{Walked, live_in, table_of}
 use Rattle.shared_trees.specs.Meeting.{met_in}
 use Rattle.shared_trees.specs.MergedLaw.{IsInOrder, begins_before, chunks_seen, items, roots_seen}
-use Rattle.shared_trees.specs.OldSide.{kept_at}
+use Rattle.shared_trees.specs.OldSide.{IsRoot, kept_at}
 use Rattle.shared_trees.specs.Shared.{is_shared}
 use Rattle.shared_trees.specs.SharedLaw.{HasTrees}
 use Rattle.shared_trees.specs.ShiftedLaw.{is_shifted}
@@ -30,12 +31,20 @@ use Rattle.shared_trees.proofs.Forest.{stands_as, tree_table}
 use Rattle.shared_trees.proofs.Rooted.{step_ok}
 use Rattle.tree_change.specs.Gathered.{Gathers, blocks_seen}
 use Rattle.tree_change.specs.Merging.{chunks_left, named_before, root_at, roots_left}
-use Rattle.tree_change.specs.OneTree.{ChangesTree, GivesTree, HasRecords, IsAmong, IsOldOf, KnowsNothing, NothingTreeLaw, old_tree, shares, side_of}
+use Rattle.tree_change.specs.OneTree.{ChangesTree, GivesTree, HasRecords, IsAmong, IsOldOf, KnowsNothing, old_tree, shares, side_of}
 use Rattle.tree_change.specs.Walks.{Known, NewWalk, Parts, Side, kept_by, lasts_by, listed_by, lives_of, new_walk, no_tree, old_or_none, pairs_at, parts_of, tree_parts}
 use Rattle.tree_change.proofs.Ended.{behind_all, ends_whole, lasts_told}
 use Rattle.tree_change.proofs.Free.{all_free, all_of, chunks_all, chunks_ascend, count_seen, lives_told, named_ascend, none_shared, pairs_seen, roots_all, roots_ascend}
 use Rattle.tree_change.proofs.Olds.{among, fine_step, gathered, ok_never, old_fine, old_given, old_stands, same_ok, step_err}
 use Rattle.tree_change.proofs.Whole.{KeepsNone, met_none, none_at, none_of, skip_whole}
+
+-- what the two walks of a tree give is what changes in it, where nothing is known of the old tree
+abbrev pub NothingTreeLaw : Type 0
+NothingTreeLaw = (image : List ℕ) (pending : FinMap nat_cmp ℕ) (old : Walked) (trees : List Tree) (pairs : Pairs) (is : Side) (known : Known)
+    (before : Option Expect) (now : Expect)
+    → HasTrees image old trees → ((tree address : ℕ) → pairs tree address ≡ table_of (live_in old.seen) tree address)
+    → is.image ≡ overlaid pending 0 image → IsRoot now → IsOldOf image old trees now before → KnowsNothing old is known
+    → GivesTree image pending old pairs is known before now
 
 and_false : (a b : Bool) → a ≡ false → (a && b) ≡ false
 and_false true b is = absurd (cc)

@@ -5,6 +5,7 @@ use Rattle.std.specs.Prelude.{Option, Some, None, Ok, is_some}
 use Rattle.std.specs.List.{AllByRecursion}
 use Rattle.std.specs.Ordering.{nat_cmp}
 use Rattle.std.specs.FinMap.{FinMap}
+use Rattle.write_cache.specs.Cache.{overlaid}
 use Rattle.verdict.specs.declared.key.Key.{Key}
 use Rattle.live_index.specs.Pairs.{Pairs}
 use Rattle.live_index.specs.declared.live.Live.{Live}
@@ -28,11 +29,19 @@ use Rattle.shared_trees.proofs.Forest.{all_lives, lives_all, of_root, others_all
 use Rattle.shared_trees.proofs.Kept.{keeps_tree}
 use Rattle.shared_trees.proofs.Picking.{each_both, each_map}
 use Rattle.shared_trees.proofs.Treed.{trees_walk}
-use Rattle.tree_change.specs.OneTree.{AlikeTreeLaw, GivesTree, IsOldOf, KnowsTree, alone, shares}
+use Rattle.tree_change.specs.OneTree.{GivesTree, IsOldOf, KnowsTree, alone, shares}
 use Rattle.tree_change.specs.Walks.{Known, Side, lasts_by}
 use Rattle.tree_change.proofs.OneGives.{AreBoth, gives_tree}
 use Rattle.tree_change.proofs.OneNone.{none_new, none_sound}
 use Rattle.tree_change.proofs.OneOld.{among_is, gives_old, roots_of, untouched}
+
+-- what the two walks of a tree give is what changes in it, where the old tree is known
+abbrev pub AlikeTreeLaw : Type 0
+AlikeTreeLaw = (image : List ℕ) (pending : FinMap nat_cmp ℕ) (old : Walked) (trees : List Tree) (pairs : Pairs) (is : Side) (known : Known)
+    (before : Option Expect) (now : Expect)
+    → HasTrees image old trees → ((tree address : ℕ) → pairs tree address ≡ table_of (live_in old.seen) tree address)
+    → is.image ≡ overlaid pending 0 image → IsRoot now → IsOldOf image old trees now before → KnowsTree image pending old is known before
+    → GivesTree image pending old pairs is known before now
 
 -- the chunk tree and the root tree are among the trees of an image
 not_other : (image : List ℕ) (old : Walked) (trees : List Tree) (id : ℕ) → HasTrees image old trees

@@ -112,14 +112,3 @@ abbrev pub OneTreeLaw : Type 0
 OneTreeLaw = (image : List ℕ) (pending : FinMap nat_cmp ℕ) (old : Walked) (trees : List Tree) (pairs : Pairs) (is : Side) (known : Known)
     (before : Option Expect) (now : Expect)
     → IsTree image pending old trees pairs is known before now → GivesTree image pending old pairs is known before now
-
--- so it is where nothing is known of the old tree
-abbrev pub NothingTreeLaw : Type 0
-NothingTreeLaw = (image : List ℕ) (pending : FinMap nat_cmp ℕ) (old : Walked) (trees : List Tree) (pairs : Pairs) (is : Side) (known : Known)
-    → HasTrees image old trees → ((tree address : ℕ) → pairs tree address ≡ table_of (live_in old.seen) tree address)
-    → is.image ≡ overlaid pending 0 image → IsRoot now → IsOldOf image old trees now before → KnowsNothing old is known
--- so it is with each tree of which the old one is known
-abbrev pub AlikeTreeLaw : Type 0
-AlikeTreeLaw = (image : List ℕ) (pending : FinMap nat_cmp ℕ) (old : Walked) (trees : List Tree) (pairs : Pairs) (is : Side) (known : Known)
-    → is.image ≡ overlaid pending 0 image → IsRoot now → IsOldOf image old trees now before → KnowsTree image pending old is known before
-    → GivesTree image pending old pairs is known before now

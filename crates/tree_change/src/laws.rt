@@ -1,37 +1,24 @@
 //! Laws of what changes in trees. Each stands on a function that does nothing.
 
-ghost use Rattle.tree_change.specs.OneTree.{NothingTreeLaw, OneTreeLaw};
-ghost use Rattle.tree_change.specs.OneTree.{AlikeTreeLaw, OneTreeLaw};
 ghost use Rattle.tree_change.specs.AllTrees.{AllTreesLaw, GoneLaw, NamedLaw};
+ghost use Rattle.tree_change.specs.OneTree.{OneTreeLaw};
 
 /// What the two walks of a tree give is what changes in it, and their first finding is that of the whole walk.
 pub fn one_tree_law()
     ensures { OneTreeLaw }
 {}
 
-/// So it is where nothing is known of the old tree.
-pub fn nothing_tree_law()
-    ensures { NothingTreeLaw }
-/// What the two walks of a tree give, where blocks are read alike in both images and the old tree is known, is what changes in it.
-pub fn alike_tree_law()
-    ensures { AlikeTreeLaw }
-
 /// The first finding of the trees that are named now is that of their whole walks.
 pub fn named_law()
     ensures { NamedLaw }
-
-/// The same, where it is so with each tree.
-pub fn named_from_law()
-    ensures { OneTreeLaw → NamedLaw }
+{}
 
 /// The walks of trees that are gone have no finding.
 pub fn gone_trees_law()
     ensures { GoneLaw }
+{}
 
 /// What changes in each tree of an image is all that changes.
 pub fn all_trees_law()
     ensures { AllTreesLaw }
-
-/// What changes in each tree of an image is all that changes, by what changes in one.
-pub fn all_from_law()
-    ensures { OneTreeLaw → AllTreesLaw }
+{}

@@ -11,9 +11,5 @@ mod trees;
 mod walks;
 
 pub use change::{Change, Diff};
-pub use laws::{
-    all_trees_law, gone_trees_law, named_from_law, named_law, nothing_tree_law, one_tree_law,
-};
-pub use laws::{alike_tree_law, all_trees_law, gone_trees_law, named_law, one_tree_law};
-pub use laws::{all_from_law, all_trees_law, gone_trees_law, named_law, one_tree_law};
+pub use laws::{all_trees_law, gone_trees_law, named_law, one_tree_law};
 pub use path::{Path, PathStep};

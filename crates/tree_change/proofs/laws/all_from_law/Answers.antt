@@ -1,5 +1,0 @@
-use Rattle.tree_change.proofs.AllTrees.{all_trees}
-use Rattle.tree_change.proofs.laws.all_from_law.Goals as goal
-
-pub returns : goal.returns
-returns c = all_trees
