@@ -1,9 +1,13 @@
 //! What changes in trees.
 
-ghost use Rattle.std.specs.Prelude.{◌≡◌, ◌+◌, ℕ, OnOk};
+ghost use Rattle.std.specs.Prelude.{◌≡◌, ◌+◌, ◌*◌, ◌≤◌, ℕ, length, IfOk, IfSome, OnOk};
 ghost use Rattle.recon_disk.specs.Keeping.{Kept};
-ghost use Rattle.block_source.specs.Gives.{is_disk_halt};
+ghost use Rattle.block_source.specs.Gives.{Gives, is_disk_halt};
+ghost use Rattle.block_source.specs.Takes.{handing};
 ghost use Rattle.tree_change.specs.AllTrees.{no_parts, with_parts};
+ghost use Rattle.tree_change.specs.Gathered.{gathers};
+ghost use Rattle.tree_change.specs.Told.{known_by, side_with};
+ghost use Rattle.tree_change.specs.Walks.{old_or_none};
 ghost use Rattle.tree_change.specs.Making.{AddsParts, FitSides, TellsParts, gone_parts_in, gone_in, named_parts_in, parts_by, parts_in};
 
 use crate::gather::Gathered;
@@ -72,6 +76,28 @@ impl TreeParts {
         self.old_items.append(&mut more.old_items)?;
         self.new_items.append(&mut more.new_items)?;
         Ok(())
+    }
+}
+
+// Walks a tree as it was, where it was, which stops at these blocks of the tree as it is.
+fn walk_before<D: Disk, L>(
+    alloc: Global,
+    disk: &mut D,
+    sides: &Sides<'_, L>,
+    steps: &mut Steps<L>,
+    met: &[Expect],
+    before: Option<Expect>,
+) -> Result<Gathered, Halt>
+    requires fit { FitSides sides.now (D.len disk.old) }
+    ensures gives { Gives D.Disk disk.old (sides.now).was.cache.now (handing gathers result)
+        (λ image. old_or_none (known_by (sides.now).known) met.now (side_with (sides.now).was image) before) }
+    ensures reads { IfOk result (λ read. IfSome (D.bytes disk.old) (λ _.
+        D.reads disk.new ≤ D.reads disk.old + 2 * length read.blocks.items)) }
+    ensures kept { Kept D.Disk disk.old disk.new (is_disk_halt result) }
+{
+    match before {
+        Some(e) => walk_old(alloc, disk, &sides.was, &sides.known, met, steps, &e),
+        None => Ok(Gathered::new(alloc)),
     }
 }
 
