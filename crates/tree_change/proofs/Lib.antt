@@ -31,3 +31,4 @@ pub mod Split
 pub mod EveryTree
 pub mod Unordered
 pub mod EachTree
+pub mod OneChange

@@ -115,10 +115,7 @@ pub(crate) fn change_tree<D: Disk, L>(
     ensures kept { Kept D.Disk disk.old disk.new (is_disk_halt result) }
 {
     let new = walk_new(alloc, disk, &sides.is, &sides.known, steps, now)?;
-    let old = match before {
-        Some(e) => walk_old(alloc, disk, &sides.was, &sides.known, &new.met, steps, &e)?,
-        None => Gathered::new(alloc),
-    };
+    let old = walk_before(alloc, disk, sides, steps, &new.met, before)?;
     let mut old_blocks = Vec::new(alloc);
     add_known(sides.table, steps, &old.blocks, &mut old_blocks)?;
     let mut new_blocks = Vec::new(alloc);
