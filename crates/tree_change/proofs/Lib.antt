@@ -2,3 +2,4 @@ pub mod Gathering
 pub mod Leaving
 pub mod RootRules
 pub mod Naming
+pub mod Merges

@@ -6,3 +6,4 @@ pub mod Change
 pub mod AllTrees
 pub mod Leaves
 pub mod Roots
+pub mod Merges

@@ -5,6 +5,7 @@ mod change;
 mod gather;
 mod laws;
 mod lives;
+mod merge;
 mod path;
 mod roots;
 
