@@ -1,5 +1,5 @@
 -- Lists that are merged, and lists in order.
-use Rattle.std.proofs.Common.{◌≡◌, ℕ, ◌+◌, ◌<◌, ◌≤◌, ◌^◌, ◌==◌, ◌||◌, ◌&&◌, nat_lt, not, cond, Bool, true, false, List, [], ◌∷◌, ◌++◌, length, map, take, get_or, Option, Some, None, refl, sym, ap, subst, ◌∙◌, arith}
+use Rattle.std.proofs.Common.{◌≡◌, ℕ, ◌+◌, ◌<◌, ◌≤◌, ◌^◌, ◌==◌, ◌||◌, ◌&&◌, nat_lt, not, cond, Bool, true, false, List, [], ◌∷◌, ◌++◌, length, map, take, drop, get_or, Option, Some, None, refl, sym, ap, subst, ◌∙◌, arith}
 use Rattle.std.specs.List.{AllByRecursion, AllPairs, filter, filter_map, list_any}
 use Rattle.std.specs.List.Sorted.{IsPermutation, IsSortedByKey, IsSortedByKeyClosure}
 use Rattle.std.specs.Cmp.{IsTotalOrder, nat_cmp_total, on_total, then_total}
@@ -10,7 +10,8 @@ use Rattle.std.specs.BTreeSet.{BTreeSet, contains}
 use Rattle.std.proofs.lemmas.List.Sorted.{All-permutation, IsPermutation-map, ranks_by, sorted_far}
 use Rattle.std.proofs.lemmas.List.Elements.{All-from_recursion, filter-append, filter_map-append, recursion_from_All}
 use Rattle.std.proofs.lemmas.List.Folds.{list_any-append}
-use Rattle.std.proofs.lemmas.List.{append-nil, append_assoc, map-append, take_more}
+use Rattle.std.proofs.lemmas.List.{append-nil, append_assoc, get_or-map, length-map, map-append, take_more}
+use Rattle.std.proofs.Math.Seq.{take-append_seam}
 use Rattle.std.proofs.lemmas.Fn.{always_returns_same}
 use Rattle.std.specs.Fn.{Called, ComputesKey}
 use Rattle.std.specs.Prelude.{IfOk, Result, Ok, Err, option_to_list}
@@ -165,3 +166,55 @@ kept_less p old now xs i d inside so fails =
 pub ok_then : {A E : Type 0} (P Q : A → Type 0) (result : Result A E) → ((value : A) → P value → Q value) → IfOk result P → IfOk result Q
 ok_then P Q (Ok value) follows is = follows value is
 ok_then P Q (Err e) follows is = is
+
+-- a sort by a key gives the elements in an order, where the test by their keys is its test
+pub sorted_of : {X K : Type 0} (key : X → K) {cmp : K → K → Ordering} → IsTotalOrder cmp → (before : X → X → Bool)
+    → ((a b : X) → is_lt (cmp (key a) (key b)) ≡ before a b) → {F : Type 0} {g : Mut F (Bor X × Unit {0}) K} {f : F} (whole xs : List X)
+    → IsPermutation whole xs → ((key : X → K) → ComputesKey g key f → IsSortedByKey key cmp xs)
+    → ((a : Bor X × Unit {0}) (r : K) (f' : F) → Called g f a r f' → (r ≡ key a.0.now) × (f' ≡ f)) → IsSortedOf before whole xs
+sorted_of key order before same whole xs all up calls = record {
+  all = all;
+  ascends = λ i j d less inside. sym (same (get_or xs j d) (get_or xs i d)) ∙ sorted_by key order xs up calls i j d less inside;
+}
+
+-- the same, where each element stands for another
+pub sorted_for : {X Y : Type 0} (stands : X → Y) (of : X → X → Bool) (before : Y → Y → Bool) → ((a b : X) → of a b ≡ before (stands a) (stands b))
+    → (whole xs : List X) → IsSortedOf of whole xs → IsSortedOf before (map stands whole) (map stands xs)
+sorted_for stands of before same whole [] is = record { all = IsPermutation-map stands whole [] is.all; ascends = λ i j d less inside. absurd (omega arith) }
+sorted_for stands of before same whole (x ∷ xs) is = record {
+  all = IsPermutation-map stands whole (x ∷ xs) is.all;
+  ascends = λ i j d less inside.
+      (let
+      last : j < length (x ∷ xs) = subst (λ n. j < n) (length-map (x ∷ xs) stands) inside in let
+      first : i < length (x ∷ xs) = omega arith in
+      ap (λ b. before b (get_or (map stands (x ∷ xs)) i d)) (get_or-map stands (x ∷ xs) j x d last)
+      ∙ ap (before (stands (get_or (x ∷ xs) j x))) (get_or-map stands (x ∷ xs) i x d first)
+      ∙ sym (same (get_or (x ∷ xs) j x) (get_or (x ∷ xs) i x))
+      ∙ is.ascends i j x less last);
+}
+
+-- the test of an item's place by its tree and key
+pub item_test : (t s : ℕ) (a b : Key) → is_lt (ordering_then (nat_cmp t s) (by_key a b)) ≡ (nat_lt t s || (t == s && key_below a b))
+item_test t s a b = below_is (nat_lt t s) (t == s) (by_key a b) ∙ ap (λ o. nat_lt t s || (t == s && o)) (key_before a b)
+
+-- a tree and a key, and an address and a tree, in order
+abbrev pub by_item : ℕ × Key → ℕ × Key → Ordering
+by_item x y = ordering_then (nat_cmp x.0 y.0) (by_key x.1 y.1)
+
+pub item_total : IsTotalOrder by_item
+item_total = then_total (on_total (λ (k : ℕ × Key). k.0) nat_cmp_total) (on_total (λ (k : ℕ × Key). k.1) key_total)
+
+abbrev pub by_two : ℕ × ℕ → ℕ × ℕ → Ordering
+by_two x y = ordering_then (nat_cmp x.0 y.0) (nat_cmp x.1 y.1)
+
+pub two_total : IsTotalOrder by_two
+two_total = then_total (on_total (λ (k : ℕ × ℕ). k.0) nat_cmp_total) (on_total (λ (k : ℕ × ℕ). k.1) nat_cmp_total)
+
+-- what a slice that was lent of a list is put back into it
+pub sorted_in : {X : Type 0} (before : X → X → Bool) (items lent new : List X) (len : ℕ) → lent ≡ items → length new ≡ length lent → length lent ≡ len
+    → IsSortedOf before lent new → IsSortedOf before items (take len (new ++ drop (length new) items))
+sorted_in before items lent new len same long is sorted =
+    subst (λ l. IsSortedOf before items l) (sym back) (subst (λ l. IsSortedOf before l new) same sorted)
+  where
+    back : take len (new ++ drop (length new) items) ≡ new
+    back = ap (λ n. take n (new ++ drop (length new) items)) (sym (long ∙ is)) ∙ take-append_seam new (drop (length new) items)

@@ -167,12 +167,13 @@ fn put_key(keys: &mut BTreeSet<Key>, root: Option<RootAt>) -> Result<(), NoMemor
     ensures { OnOk result ((key : AKey) →
         contains by_key keys.new key ≡ (contains by_key keys.old key || has_key (option_to_list root) key)) }
 {
-    if let Some(root) = root
-        && keys.insert(root.key).is_err()
-    {
-        return Err(NoMemory);
+    let Some(root) = root else {
+        return Ok(());
+    };
+    match keys.insert(root.key) {
+        Ok(_) => Ok(()),
+        Err(_) => Err(NoMemory),
     }
-    Ok(())
 }
 
 // Puts those trees behind others whose root items have none of some keys.
