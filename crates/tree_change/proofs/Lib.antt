@@ -3,3 +3,4 @@ pub mod Leaving
 pub mod RootRules
 pub mod Naming
 pub mod Merges
+pub mod DistinctChunks

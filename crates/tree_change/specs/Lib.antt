@@ -7,3 +7,4 @@ pub mod AllTrees
 pub mod Leaves
 pub mod Roots
 pub mod Merges
+pub mod Distinct

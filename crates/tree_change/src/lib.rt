@@ -2,6 +2,7 @@
 #![tactic(auto)]
 
 mod change;
+mod distinct;
 mod gather;
 mod laws;
 mod lives;
