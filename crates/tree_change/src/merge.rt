@@ -226,7 +226,10 @@ fn root_in(item: &ItemAt) -> Option<RootAt>
 pub(crate) fn sort_items(alloc: Global, items: &mut Vec<ItemAt>) -> Result<(), NoMemory>
     ensures { OnOk result (IsSortedOf item_before (map located_item items.old.items) (map located_item items.new.items)) }
 {
-    match items.as_mut_slice().sort_by_key(alloc, |item| (item.tree, item.key)) {
+    match items
+        .as_mut_slice()
+        .sort_by_key(alloc, |item| (item.tree, item.key))
+    {
         Ok(()) => Ok(()),
         Err(_) => Err(NoMemory),
     }
@@ -236,7 +239,10 @@ pub(crate) fn sort_items(alloc: Global, items: &mut Vec<ItemAt>) -> Result<(), N
 pub(crate) fn sort_lives(alloc: Global, lives: &mut Vec<Live>) -> Result<(), NoMemory>
     ensures { OnOk result (IsSortedOf is_before lives.old.items lives.new.items) }
 {
-    match lives.as_mut_slice().sort_by_key(alloc, |live| (live.address, live.tree)) {
+    match lives
+        .as_mut_slice()
+        .sort_by_key(alloc, |live| (live.address, live.tree))
+    {
         Ok(()) => Ok(()),
         Err(_) => Err(NoMemory),
     }
