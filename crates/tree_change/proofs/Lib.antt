@@ -32,3 +32,5 @@ pub mod EveryTree
 pub mod Unordered
 pub mod EachTree
 pub mod OneChange
+pub mod Merges
+pub mod DistinctChunks

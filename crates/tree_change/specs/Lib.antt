@@ -8,3 +8,5 @@ pub mod Told
 pub mod Leaves
 pub mod Roots
 pub mod Making
+pub mod Merges
+pub mod Distinct

@@ -2,9 +2,11 @@
 #![tactic(auto)]
 
 mod change;
+mod distinct;
 mod gather;
 mod laws;
 mod lives;
+mod merge;
 mod path;
 mod roots;
 mod trees;

@@ -114,7 +114,7 @@ fn add_moved<L>(
     ensures { OnOk result (into.new.items ≡ into.old.items ++ moved_by (pairs_of table.now) (last_in lasts.now) met.now) }
 {
     for e in met {
-        put_some(into, moved_of(table, steps, lasts, e))?;
+        push_some(into, moved_of(table, steps, lasts, e))?;
     }
     Ok(())
 }
@@ -142,17 +142,17 @@ pub(crate) fn add_known<L>(
     ensures { OnOk result (into.new.items ≡ into.old.items ++ pairs_at (pairs_of table.now) blocks.now) }
 {
     for block in blocks {
-        put_some(into, table.get(block.tree, block.address, steps))?;
+        push_some(into, table.get(block.tree, block.address, steps))?;
     }
     Ok(())
 }
 
-// Puts a pair behind others, where there is one.
-fn put_some(into: &mut Vec<Live>, live: Option<Live>) -> Result<(), NoMemory>
-    ensures { OnOk result (into.new.items ≡ into.old.items ++ option_to_list live) }
+/// Puts one behind others, where there is one.
+pub(crate) fn push_some<T: Copy>(into: &mut Vec<T>, one: Option<T>) -> Result<(), NoMemory>
+    ensures { OnOk result (into.new.items ≡ into.old.items ++ option_to_list one) }
 {
-    if let Some(live) = live
-        && into.push(live).is_err()
+    if let Some(one) = one
+        && into.push(one).is_err()
     {
         return Err(NoMemory);
     }

@@ -7,5 +7,5 @@ use Rattle.tree_change.proofs.lives.add_moved.Goals as goal
 pub loop-e-preserved : goal.loop-e-preserved
 loop-e-preserved g c =
     some_more (moved_by_one (pairs_of c.args.table.now) (last_in c.args.lasts.now))
-    c.args.into.now.items c.loop-e.into.items c.put_some.new.into.items _ c.args.met.now c.loop-e.e-index _ c.loop-e-test.true c.loop-e.invariant
-    c.moved_of.ensures c.in_ok-put_some.ensures
+    c.args.into.now.items c.loop-e.into.items c.push_some.new.into.items _ c.args.met.now c.loop-e.e-index _ c.loop-e-test.true c.loop-e.invariant
+    c.moved_of.ensures c.in_ok-push_some.ensures
