@@ -34,3 +34,4 @@ pub mod EachTree
 pub mod OneChange
 pub mod Merges
 pub mod DistinctChunks
+pub mod TopTrees

@@ -85,10 +85,10 @@ tree_told sides (Some image) before now new old old_blocks old_start new_blocks 
     let count = length old.blocks + length new.read.blocks in (
       count,
       both_give pairs (known_by sides.known) (was_side sides image) (is_side sides image) before now new old new_is old_walk
-      ∙ ap fine (sym (made_same old_blocks (pairs_at pairs old.blocks) new_blocks (lives_of new.ended new.read.blocks) moved
-      (moved_of pairs new.ended new.met) old new.read count
-      (b ∙ ap (λ l. l ++ pairs_at pairs old.blocks) a) (e.0 ∙ ap (λ l. l ++ lives_of new.ended new.read.blocks) c)
-      (e.1 ∙ ap (λ l. l ++ moved_of pairs new.ended new.met) d))),
+          ∙ ap fine (sym (made_same old_blocks (pairs_at pairs old.blocks) new_blocks (lives_of new.ended new.read.blocks) moved
+          (moved_of pairs new.ended new.met) old new.read count
+          (b ∙ ap (λ l. l ++ pairs_at pairs old.blocks) a) (e.0 ∙ ap (λ l. l ++ lives_of new.ended new.read.blocks) c)
+          (e.1 ∙ ap (λ l. l ++ moved_of pairs new.ended new.met) d))),
       omega (arith, few, more),
     )
   where

@@ -1,17 +1,25 @@
 -- What changes in trees, as private functions make it.
-use Rattle.std.specs.Prelude.{ℕ, ◌≡◌, ◌≤◌, ◌+◌, ◌*◌, true, List, map, Option, Result, Ok, Err, IfSome}
+use Rattle.std.specs.Prelude.{ℕ, ◌≡◌, ◌≤◌, ◌<◌, ◌+◌, ◌*◌, ◌^◌, ◌⊎◌, true, List, map, Option, Some, None, Result, Ok, Err, IfSome}
+use Rattle.std.specs.List.{AllByRecursion}
 use Rattle.std.specs.FinMap.{empty}
 use Rattle.verdict.specs.Trees.{is_node_size}
+use Rattle.verdict.specs.Rules.{finding_or}
+use Rattle.verdict.specs.declared.place.Chunk.{Chunk}
 use Rattle.verdict.specs.declared.finding.Finding.{Finding}
 use Rattle.recon_disk.specs.declared.disk.Disk.{Ghosts}
 use Rattle.write_cache.specs.Cache.{overlaid}
 use Rattle.live_index.specs.Table.{pairs_of}
 use Rattle.node_reader.specs.declared.expect.Expect.{Expect}
+use Rattle.records.specs.Contents.{chunk_tree_root, root_tree_root, roots_fault}
+use Rattle.volume_items.specs.MapRules.{map_finding}
+use Rattle.volume_items.specs.declared.root.RootItem.{RootItem}
 use Rattle.volume_items.specs.declared.root_at.RootAt.{RootAt}
 use Rattle.block_source.specs.declared.halt.Halt.{Halt}
 use Rattle.block_source.specs.declared.halt.Halt.TheVariants.{Found}
 use Rattle.tree_change.specs.AllTrees.{gone_all, named_parts, with_parts}
+use Rattle.shared_trees.specs.MergedLaw.{begins_before}
 use Rattle.tree_change.specs.Gathered.{located_item}
+use Rattle.tree_change.specs.Merging.{IsSortedOf, chunks_left, named_before, root_at, roots_left}
 use Rattle.tree_change.specs.Told.{known_by, side_with}
 use Rattle.tree_change.specs.Walks.{Parts, Side, gone_parts, tree_parts}
 use Rattle.tree_change.specs.declared.trees.Sides.{Sides}
@@ -75,3 +83,39 @@ AddsParts disk old new some all (Err (Found finding)) parts = IfSome (disk.bytes
 AddsParts disk old new some all (Err other) parts = Unit {0}
 AddsParts disk old new some all (Ok done) parts =
     IfSome (disk.bytes old) (λ image. (more : Parts) × (parts image ≡ Ok more) × IsAdded some all more (disk.reads old) (disk.reads new))
+
+-- chunks are merged of the old ones and of what changes in the chunk tree
+pub record MakesChunks {L : Type 0} (sides : Sides L) (image : List ℕ) (parts : Parts) (chunks : List Chunk) : Type 0 where
+  pub tree : parts_in sides (Some (chunk_tree_root sides.was.sup.now)) (chunk_tree_root sides.is.sup.now) image ≡ Ok parts
+  pub merged : AllByRecursion (λ (c : Chunk). c.start + c.length < 2 ^ 64) (chunks_left sides.was.map.now parts.old_items parts.new_items)
+      → IsSortedOf begins_before (chunks_left sides.was.map.now parts.old_items parts.new_items) chunks
+
+-- Where the disk tells its bytes, a step makes the new chunks, on which the rules on the map keep, and puts what changes in the chunk tree
+-- behind other parts; or it has the finding of the tree's walk, or of the rules on the map.
+abbrev pub TellsChunks : {D L : Type 0} → (disk : Ghosts D) → D → D → TreeParts → TreeParts → Sides L → Result (List Chunk) Halt → Type 0
+TellsChunks disk old new some all sides (Err (Found finding)) = IfSome (disk.bytes old) (λ image.
+    (parts_in sides (Some (chunk_tree_root sides.was.sup.now)) (chunk_tree_root sides.is.sup.now) image ≡ Err finding)
+    ⊎ ((parts : Parts) × (chunks : List Chunk) × MakesChunks sides image parts chunks × (map_finding chunks sides.is.map.now sides.is.end ≡ Some finding)))
+TellsChunks disk old new some all sides (Err other) = Unit {0}
+TellsChunks disk old new some all sides (Ok chunks) = IfSome (disk.bytes old) (λ image.
+    (parts : Parts) × MakesChunks sides image parts chunks × (map_finding chunks sides.is.map.now sides.is.end ≡ None)
+    × IsAdded some all parts (disk.reads old) (disk.reads new))
+
+-- root items are merged of the old ones and of what changes in the root tree
+pub record MakesRoots {L : Type 0} (sides : Sides L) (olds : List RootAt) (image : List ℕ) (parts : Parts) (roots : List RootAt) : Type 0 where
+  pub tree : parts_in sides (Some (root_tree_root sides.was.sup.now)) (root_tree_root sides.is.sup.now) image ≡ Ok parts
+  pub merged : IsSortedOf named_before (roots_left olds parts.old_items parts.new_items) roots
+
+-- what the rules on the list of root items say of these roots
+abbrev pub RootsJudged : ℕ → List RootAt → Result (Unit {0}) Finding → Type 0
+RootsJudged compat_ro roots judged = (items : List RootItem) → roots ≡ map root_at items → finding_or (roots_fault compat_ro items) (tt {0}) ≡ judged
+
+-- the same of the new roots
+abbrev pub TellsRoots : {D L : Type 0} → (disk : Ghosts D) → D → D → TreeParts → TreeParts → Sides L → List RootAt → Result (List RootAt) Halt → Type 0
+TellsRoots disk old new some all sides olds (Err (Found finding)) = IfSome (disk.bytes old) (λ image.
+    (parts_in sides (Some (root_tree_root sides.was.sup.now)) (root_tree_root sides.is.sup.now) image ≡ Err finding)
+    ⊎ ((parts : Parts) × (roots : List RootAt) × MakesRoots sides olds image parts roots × RootsJudged sides.is.sup.now.compat_ro roots (Err finding)))
+TellsRoots disk old new some all sides olds (Err other) = Unit {0}
+TellsRoots disk old new some all sides olds (Ok roots) = IfSome (disk.bytes old) (λ image.
+    (parts : Parts) × MakesRoots sides olds image parts roots × RootsJudged sides.is.sup.now.compat_ro roots (Ok (tt {0}))
+    × IsAdded some all parts (disk.reads old) (disk.reads new))

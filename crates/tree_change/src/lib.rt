@@ -9,6 +9,7 @@ mod lives;
 mod merge;
 mod path;
 mod roots;
+mod tops;
 mod trees;
 mod walks;
 

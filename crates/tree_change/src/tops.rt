@@ -1,0 +1,61 @@
+//! What changes in the chunk tree and in the root tree, with the chunks and the roots that follow from it.
+
+ghost use Rattle.recon_disk.specs.Keeping.{Kept};
+ghost use Rattle.block_source.specs.Gives.{is_disk_halt};
+ghost use Rattle.block_source.specs.Takes.{handing};
+ghost use Rattle.tree_change.specs.Making.{FitSides, TellsChunks, TellsRoots};
+
+use crate::merge::{merge_chunks, merge_roots};
+use crate::roots::{check_roots, chunk_root, top_root};
+use crate::trees::{Sides, TreeParts, change_tree};
+use block_source::Halt;
+use chunk_map::ChunkMap;
+use recon_disk::{Disk, Steps};
+use std::alloc::Global;
+use volume_items::RootAt;
+
+/// The new chunks, by what changes in the chunk tree, which is put behind other parts. The sides are read by the old chunks, and by
+/// those of the new system array.
+pub(crate) fn change_chunks<D: Disk, L>(
+    alloc: Global,
+    disk: &mut D,
+    sides: &Sides<'_, L>,
+    steps: &mut Steps<L>,
+    all: &mut TreeParts,
+) -> Result<ChunkMap, Halt>
+    requires fit { FitSides sides.now (D.len disk.old) }
+    ensures tells { TellsChunks D.Disk disk.old disk.new all.old all.new sides.now result }
+    ensures kept { Kept D.Disk disk.old disk.new (is_disk_halt result) }
+{
+    let before = chunk_root(sides.was.sup);
+    let now = chunk_root(sides.is.sup);
+    let made = change_tree(alloc, disk, sides, steps, Some(before), &now)?;
+    let map = merge_chunks(alloc, sides.was.map, &made.old_items, &made.new_items)?;
+    if let Some(found) = map.map_fault(sides.is.map, sides.is.sup.devid, sides.is.end) {
+        return Err(Halt::Found(found));
+    }
+    all.add(made)?;
+    Ok(map)
+}
+
+/// Where the new trees begin, by what changes in the root tree, which is put behind other parts.
+pub(crate) fn change_roots<D: Disk, L>(
+    alloc: Global,
+    disk: &mut D,
+    sides: &Sides<'_, L>,
+    steps: &mut Steps<L>,
+    olds: &[RootAt],
+    all: &mut TreeParts,
+) -> Result<Vec<RootAt>, Halt>
+    requires fit { FitSides sides.now (D.len disk.old) }
+    ensures tells { TellsRoots D.Disk disk.old disk.new all.old all.new sides.now olds.now (handing (λ roots. roots.items) result) }
+    ensures kept { Kept D.Disk disk.old disk.new (is_disk_halt result) }
+{
+    let before = top_root(sides.was.sup);
+    let now = top_root(sides.is.sup);
+    let made = change_tree(alloc, disk, sides, steps, Some(before), &now)?;
+    let roots = merge_roots(alloc, olds, &made.old_items, &made.new_items)?;
+    check_roots(alloc, sides.is.sup.compat_ro, &roots)?;
+    all.add(made)?;
+    Ok(roots)
+}
