@@ -1,6 +1,7 @@
 -- Of several chunks that hold one address one is kept, and all addresses stand at the same places.
-use Rattle.std.proofs.Common.{◌≡◌, ℕ, ◌+◌, ◌<◌, ◌≤◌, ◌^◌, ◌==◌, ◌&&◌, nat_le, not, cond, Bool, true, false, List, [], ◌∷◌, ◌++◌, length, take, inl, inr, refl, sym, ap, subst, ◌∙◌, arith}
-use Rattle.std.specs.Prelude.{Option, Some, None, is_some, ◌⊎◌, if◌then◌else◌}
+use Rattle.std.proofs.Common.{◌≡◌, ℕ, ◌+◌, ◌<◌, ◌≤◌, ◌^◌, ◌==◌, ◌&&◌, nat_le, not, cond, Bool, true, false}
+use Rattle.std.proofs.Common.{List, [], ◌∷◌, ◌++◌, length, take, inl, inr, refl, sym, ap, subst, ◌∙◌, arith}
+use Rattle.std.specs.Prelude.{Some, is_some, if◌then◌else◌}
 use Rattle.std.specs.List.{AllByRecursion, fold}
 use Rattle.std.proofs.lemmas.Bool.{eqb-true}
 use Rattle.std.proofs.lemmas.Grind.{common_steps}
@@ -11,7 +12,7 @@ use Rattle.verdict.specs.declared.place.Chunk.{Chunk}
 use Rattle.touched_pairs.specs.Moves.{AreApart, LieApart, held_and_moved, is_moved, same_chunk, same_second}
 use Rattle.touched_pairs.specs.Touched.{same_place}
 use Rattle.shared_trees.specs.ArrayMoves.{LieApartOrSame}
-use Rattle.tree_change.specs.Distinct.{distinct, is_new, with_new}
+use Rattle.tree_change.specs.Distinct.{distinct, with_new}
 use Rattle.tree_change.specs.Merges.{fits}
 
 -- ---- lists of which all elements have something
@@ -20,7 +21,8 @@ all_map : {X : Type 0} (P Q : X → Type 0) (xs : List X) → ((x : X) → P x �
 all_map P Q [] to all = tt
 all_map P Q (x ∷ xs) to all = (to x all.0, all_map P Q xs to all.1)
 
-all_zip : {X : Type 0} (P Q R : X → Type 0) (xs : List X) → ((x : X) → P x → Q x → R x) → AllByRecursion P xs → AllByRecursion Q xs → AllByRecursion R xs
+all_zip : {X : Type 0} (P Q R : X → Type 0) (xs : List X) → ((x : X) → P x → Q x → R x) → AllByRecursion P xs → AllByRecursion Q xs
+    → AllByRecursion R xs
 all_zip P Q R [] to all others = tt
 all_zip P Q R (x ∷ xs) to all others = (to x all.0 others.0, all_zip P Q R xs to all.1 others.1)
 
@@ -91,12 +93,14 @@ skip_free : (kept rest : List Chunk) (d : Chunk) (a n : ℕ) → holds_range d a
 skip_free [] rest d a n free = sym (ap (λ b. cond b (Some d) (home rest a n)) free)
 skip_free (c ∷ kept) rest d a n free = ap (λ o. cond (holds_range c a n) (Some c) o) (skip_free kept rest d a n free)
 
-skip_held : (kept rest : List Chunk) (d : Chunk) (a n : ℕ) → 0 < d.length → AllByRecursion (λ c. LieApartOrSame c d) kept → is_some (home kept d.start 1) ≡ true
+skip_held : (kept rest : List Chunk) (d : Chunk) (a n : ℕ) → 0 < d.length → AllByRecursion (λ c. LieApartOrSame c d) kept
+    → is_some (home kept d.start 1) ≡ true
     → home (kept ++ rest) a n ≡ home (kept ++ d ∷ rest) a n
 skip_held [] rest d a n some all held = cc
 skip_held (c ∷ kept) rest d a n some all held = by (skip_held kept rest d a n some all.1) (holds_range c d.start 1) refl held
   where
-    same_one : same_chunk c d ≡ true → (b : Bool) → holds_range c a n ≡ b → cond b (Some c) (home (kept ++ rest) a n) ≡ cond b (Some c) (home (kept ++ d ∷ rest) a n)
+    same_one : same_chunk c d ≡ true → (b : Bool) → holds_range c a n ≡ b
+        → cond b (Some c) (home (kept ++ rest) a n) ≡ cond b (Some c) (home (kept ++ d ∷ rest) a n)
     same_one same true here = refl
     same_one same false here = skip_free kept rest d a n (sym (holds_alike c d a n same) ∙ here)
 
@@ -119,8 +123,11 @@ Later (d ∷ rest) = AllByRecursion (LieApartOrSame d) rest × Later rest
 
 later_of : (rest : List Chunk) → AllByRecursion (λ c. AllByRecursion (LieApartOrSame c) rest) rest → Later rest
 later_of [] all = tt
-later_of (d ∷ rest) all =
-    (all.0.1, later_of rest (all_map (λ c. AllByRecursion (LieApartOrSame c) (d ∷ rest)) (λ c. AllByRecursion (LieApartOrSame c) rest) rest (λ c both. both.1) all.1))
+later_of (d ∷ rest) all = (
+  all.0.1,
+  later_of rest
+      (all_map (λ c. AllByRecursion (LieApartOrSame c) (d ∷ rest)) (λ c. AllByRecursion (LieApartOrSame c) rest) rest (λ c both. both.1) all.1),
+)
 
 -- the chunks that are kept so far lie apart; those that are left lie apart from them or are the same, and so they do from each other
 record Keeps (kept rest : List Chunk) : Type 0 where
@@ -137,7 +144,8 @@ keeps_more : (kept rest : List Chunk) (d : Chunk) → Keeps kept (d ∷ rest) �
 keeps_more kept rest d is free = record {
   apart = apart_more kept d is.apart (all_free kept d is.fine.0.0 is.each.0 free);
   each =
-      all_zip (λ e. AllByRecursion (λ c. LieApartOrSame c e) kept) (LieApartOrSame d) (λ e. AllByRecursion (λ c. LieApartOrSame c e) (kept ++ d ∷ [])) rest
+      all_zip (λ e. AllByRecursion (λ c. LieApartOrSame c e) kept) (LieApartOrSame d)
+      (λ e. AllByRecursion (λ c. LieApartOrSame c e) (kept ++ d ∷ [])) rest
       (λ e all last. all_push (λ c. LieApartOrSame c e) kept d all last) is.each.1 is.later.0;
   later = is.later.1;
   fine = is.fine.1;
@@ -157,18 +165,21 @@ gives kept (d ∷ rest) is = by (is_some (home kept d.start 1)) refl (gives (kep
     step b found = ap (λ f. if f && not (is_some (home kept d.start 1)) then kept ++ d ∷ [] else kept) (fits_is d is.fine.0.1)
         ∙ ap (λ f. if not f then kept ++ d ∷ [] else kept) found
 
-    by : (b : Bool) → is_some (home kept d.start 1) ≡ b → (Keeps (kept ++ d ∷ []) rest → Gives (kept ++ d ∷ []) rest) → (Keeps kept rest → Gives kept rest) → Gives kept (d ∷ rest)
+    by : (b : Bool) → is_some (home kept d.start 1) ≡ b → (Keeps (kept ++ d ∷ []) rest → Gives (kept ++ d ∷ []) rest)
+        → (Keeps kept rest → Gives kept rest) → Gives kept (d ∷ rest)
     by true found more less =
         let given = less (keeps_less kept rest d is) in
         record {
           apart = subst (λ l. AreApart (fold with_new l rest)) (sym (step true found)) given.apart;
-          homes = λ a n. ap (λ l. home (fold with_new l rest) a n) (step true found) ∙ given.homes a n ∙ skip_held kept rest d a n is.fine.0.0 is.each.0 found;
+          homes = λ a n. ap (λ l. home (fold with_new l rest) a n) (step true found) ∙ given.homes a n
+              ∙ skip_held kept rest d a n is.fine.0.0 is.each.0 found;
         }
     by false found more less =
         let given = more (keeps_more kept rest d is found) in
         record {
           apart = subst (λ l. AreApart (fold with_new l rest)) (sym (step false found)) given.apart;
-          homes = λ a n. ap (λ l. home (fold with_new l rest) a n) (step false found) ∙ given.homes a n ∙ ap (λ l. home l a n) (append_assoc kept (d ∷ []) rest);
+          homes = λ a n. ap (λ l. home (fold with_new l rest) a n) (step false found) ∙ given.homes a n
+              ∙ ap (λ l. home l a n) (append_assoc kept (d ∷ []) rest);
         }
 
 -- the chunks that are kept of a list lie apart, and the same one holds each range
@@ -178,7 +189,12 @@ pub distinct_apart : (whole : List Chunk) → AllByRecursion (λ c. AllByRecursi
 distinct_apart whole all fine = (given.apart, λ address n end. ap (λ o. place_in o address n end) (given.homes address n))
   where
     given : Gives [] whole
-    given = gives [] whole (record { apart = tt; each = all_any (λ d. AllByRecursion (λ c. LieApartOrSame c d) []) whole (λ d. tt); later = later_of whole all; fine = fine })
+    given = gives [] whole (record {
+      apart = tt;
+      each = all_any (λ d. AllByRecursion (λ c. LieApartOrSame c d) []) whole (λ d. tt);
+      later = later_of whole all;
+      fine = fine;
+    })
 
 -- ---- where two lists place all addresses alike, the same blocks move from an old list to them
 
@@ -198,4 +214,5 @@ pub distinct_kept : (whole items some : List Chunk) (i : ℕ) → items ≡ whol
     → AreApart some × ((address n end : ℕ) → place some address n end ≡ place whole address n end)
 distinct_kept whole items some i same past is all fine =
     let taken : take i items ≡ items = grind (arith, common_steps) in
-    subst (λ l. AreApart l × ((address n end : ℕ) → place l address n end ≡ place whole address n end)) (sym (is ∙ ap distinct (taken ∙ same))) (distinct_apart whole all fine)
+    subst (λ l. AreApart l × ((address n end : ℕ) → place l address n end ≡ place whole address n end)) (sym (is ∙ ap distinct (taken ∙ same)))
+    (distinct_apart whole all fine)

@@ -24,12 +24,14 @@ pub gathered_all : (all : Gathers) (records : List Seen)
 gathered_all all [] = both all.blocks (all.blocks ++ []) all.items (all.items ++ []) (sym (append-nil all.blocks)) (sym (append-nil all.items))
 gathered_all all (BlockSeen block ∷ records) =
     gathered_all (with_seen all (BlockSeen block)) records
-    ∙ both (all.blocks ++ block ∷ [] ++ blocks_seen records) (all.blocks ++ (block ∷ blocks_seen records)) (all.items ++ items records) (all.items ++ items records)
+    ∙ both (all.blocks ++ block ∷ [] ++ blocks_seen records) (all.blocks ++ (block ∷ blocks_seen records)) (all.items ++ items records)
+    (all.items ++ items records)
     (append_assoc all.blocks (block ∷ []) (blocks_seen records)) refl
 gathered_all all (PointerSeen pointer ∷ records) = gathered_all all records
 gathered_all all (ItemSeen one ∷ records) =
     gathered_all (with_seen all (ItemSeen one)) records
-    ∙ both (all.blocks ++ blocks_seen records) (all.blocks ++ blocks_seen records) (all.items ++ one ∷ [] ++ items records) (all.items ++ (one ∷ items records))
+    ∙ both (all.blocks ++ blocks_seen records) (all.blocks ++ blocks_seen records) (all.items ++ one ∷ [] ++ items records)
+    (all.items ++ (one ∷ items records))
     refl (append_assoc all.items (one ∷ []) (items records))
 
 -- of nothing before, they are the blocks and the items among them

@@ -31,7 +31,8 @@ one None h same = rw (sym same) refl
 one (Some x) h same = rw (sym same) refl
 
 pub some_more : {A B : Type 0} (f : A → Option B) (old now new : List B) (some : Option B) (xs : List A) (i : ℕ) (d : A) → i < length xs
-    → now ≡ old ++ filter_map f (take i xs) → some ≡ f (get_or xs i d) → new ≡ now ++ option_to_list some → new ≡ old ++ filter_map f (take (i + 1) xs)
+    → now ≡ old ++ filter_map f (take i xs) → some ≡ f (get_or xs i d) → new ≡ now ++ option_to_list some
+    → new ≡ old ++ filter_map f (take (i + 1) xs)
 some_more f old now new some xs i d inside so is more =
     more ∙ ap (λ l. l ++ option_to_list some) so ∙ append_assoc old (filter_map f (take i xs)) (option_to_list some)
     ∙ ap (λ l. old ++ (filter_map f (take i xs) ++ l)) (one some (f (get_or xs i d)) is)

@@ -1,7 +1,8 @@
 -- Lists that are merged, and lists in order.
-use Rattle.std.proofs.Common.{◌≡◌, ℕ, ◌+◌, ◌<◌, ◌≤◌, ◌^◌, ◌==◌, ◌||◌, ◌&&◌, nat_lt, not, cond, Bool, true, false, List, [], ◌∷◌, ◌++◌, length, map, take, drop, get_or, Option, Some, None, refl, sym, ap, subst, ◌∙◌, arith}
+use Rattle.std.proofs.Common.{◌≡◌, ℕ, ◌+◌, ◌<◌, ◌^◌, ◌==◌, ◌||◌, ◌&&◌, nat_lt, not, cond, Bool, true, false, List, []}
+use Rattle.std.proofs.Common.{◌∷◌, ◌++◌, length, map, take, drop, get_or, Option, Some, None, refl, sym, ap, subst, ◌∙◌, arith}
 use Rattle.std.specs.List.{AllByRecursion, AllPairs, filter, filter_map, list_any}
-use Rattle.std.specs.List.Sorted.{IsPermutation, IsSortedByKey, IsSortedByKeyClosure}
+use Rattle.std.specs.List.Sorted.{IsPermutation, IsSortedByKey}
 use Rattle.std.specs.Cmp.{IsTotalOrder, nat_cmp_total, on_total, then_total}
 use Rattle.std.specs.Ordering.{is_lt, nat_cmp, ordering_then}
 use Rattle.std.specs.declared.cmp.Ordering.{Ordering}
@@ -52,7 +53,8 @@ pub merged_chunks : (none old olds kept whole sorted lent some : List Chunk) (st
     → ((start : ℕ) → contains nat_cmp starts start ≡ has_start (chunks_among gone) start)
     → kept ≡ none ++ filter (λ (chunk : Chunk). not (contains nat_cmp starts chunk.start)) olds
     → whole ≡ kept ++ chunks_among came → IsSortedOf begins_before whole sorted → lent ≡ sorted → some ≡ filter fits lent
-    → AllByRecursion (λ (c : Chunk). c.start + c.length < 2 ^ 64) (chunks_left old gone came) → IsSortedOf begins_before (chunks_left old gone came) some
+    → AllByRecursion (λ (c : Chunk). c.start + c.length < 2 ^ 64) (chunks_left old gone came)
+    → IsSortedOf begins_before (chunks_left old gone came) some
 merged_chunks none old olds kept whole sorted lent some starts gone came empty same has keeps adds is lends fit all =
     subst (λ l. IsSortedOf begins_before (chunks_left old gone came) l) (sym some_is) left
   where
@@ -60,7 +62,8 @@ merged_chunks none old olds kept whole sorted lent some starts gone came empty s
     whole_is = adds ∙ ap (λ l. l ++ chunks_among came)
         (keeps ∙ ap (λ l. l ++ filter (λ (chunk : Chunk). not (contains nat_cmp starts chunk.start)) olds) empty
         ∙ ap (filter (λ (chunk : Chunk). not (contains nat_cmp starts chunk.start))) same
-        ∙ filter_alike (λ (chunk : Chunk). not (contains nat_cmp starts chunk.start)) (λ (chunk : Chunk). not (begins_with (chunks_among gone) chunk)) (λ chunk. ap not (has chunk.start)) old)
+        ∙ filter_alike (λ (chunk : Chunk). not (contains nat_cmp starts chunk.start))
+        (λ (chunk : Chunk). not (begins_with (chunks_among gone) chunk)) (λ chunk. ap not (has chunk.start)) old)
 
     left : IsSortedOf begins_before (chunks_left old gone came) sorted
     left = subst (λ w. IsSortedOf begins_before w sorted) whole_is is
@@ -78,7 +81,8 @@ merged_roots none old kept whole roots keys gone came empty has keeps adds is = 
     whole_is : whole ≡ roots_left old gone came
     whole_is = adds ∙ ap (λ l. l ++ roots_among came)
         (keeps ∙ ap (λ l. l ++ filter (λ (root : RootAt). not (contains by_key keys root.key)) old) empty
-        ∙ filter_alike (λ (root : RootAt). not (contains by_key keys root.key)) (λ (root : RootAt). not (has_named (roots_among gone) root)) (λ root. ap not (has root.key)) old)
+        ∙ filter_alike (λ (root : RootAt). not (contains by_key keys root.key)) (λ (root : RootAt). not (has_named (roots_among gone) root))
+        (λ root. ap not (has root.key)) old)
 
 -- one item more, where it may give something
 one : {B : Type 0} (h : Option B) → filter_map (λ (x : Option B). x) (h ∷ []) ≡ option_to_list h
@@ -93,7 +97,8 @@ among_more f g xs i d inside =
     ∙ filter_map-append g (map f (take i xs)) (f (get_or xs i d) ∷ [])
     ∙ ap (λ l. filter_map g (map f (take i xs)) ++ l) (one (g (f (get_or xs i d))))
 
-pub added_more : {A B C : Type 0} (f : A → B) (g : B → Option C) (old now new : List C) (some : Option C) (xs : List A) (i : ℕ) (d : A) → i < length xs
+pub added_more : {A B C : Type 0} (f : A → B) (g : B → Option C) (old now new : List C) (some : Option C) (xs : List A) (i : ℕ) (d : A)
+    → i < length xs
     → now ≡ old ++ filter_map g (map f (take i xs)) → some ≡ g (f (get_or xs i d)) → new ≡ now ++ option_to_list some
     → new ≡ old ++ filter_map g (map f (take (i + 1) xs))
 added_more f g old now new some xs i d inside so is more =
@@ -102,7 +107,8 @@ added_more f g old now new some xs i d inside so is more =
     ∙ ap (λ l. old ++ l) (sym (among_more f g xs i d inside))
 
 -- the same of what one of them has
-pub has_more : {A B C Q : Type 0} (f : A → B) (g : B → Option C) (test : Q → C → Bool) (now new : Q → Bool) (some : Option C) (xs : List A) (i : ℕ) (d : A)
+pub has_more : {A B C Q : Type 0} (f : A → B) (g : B → Option C) (test : Q → C → Bool) (now new : Q → Bool) (some : Option C) (xs : List A)
+    (i : ℕ) (d : A)
     → i < length xs → ((q : Q) → now q ≡ list_any (test q) (filter_map g (map f (take i xs)))) → some ≡ g (f (get_or xs i d))
     → ((q : Q) → new q ≡ (now q || list_any (test q) (option_to_list some)))
     → (q : Q) → new q ≡ list_any (test q) (filter_map g (map f (take (i + 1) xs)))
@@ -113,12 +119,14 @@ has_more f g test now new some xs i d inside so is more q =
     ∙ list_any-append (test q) (filter_map g (map f (take i xs))) (option_to_list (g (f (get_or xs i d)))))
 
 -- what a sort by a key ensures, where each call gives the key of its element
-pub sorted_by : {X K : Type 0} (key : X → K) {cmp : K → K → Ordering} → IsTotalOrder cmp → {F : Type 0} {g : Mut F (Bor X × Unit {0}) K} {f : F} (xs : List X)
+pub sorted_by : {X K : Type 0} (key : X → K) {cmp : K → K → Ordering} → IsTotalOrder cmp
+    → {F : Type 0} {g : Mut F (Bor X × Unit {0}) K} {f : F} (xs : List X)
     → ((key : X → K) → ComputesKey g key f → IsSortedByKey key cmp xs)
     → ((a : Bor X × Unit {0}) (r : K) (f' : F) → Called g f a r f' → (r ≡ key a.0.now) × (f' ≡ f))
     → AllPairs (λ a b. is_lt (cmp (key b) (key a)) ≡ false) xs
 sorted_by key {cmp} order {F} {g} {f} xs up calls i j d less inside =
-    sorted_far (λ x y. is_lt (cmp (key x) (key y))) (ranks_by order key) xs (up key (always_returns_same g (λ a r. r ≡ key a.0.now) f calls)) i j d (omega arith) inside
+    sorted_far (λ x y. is_lt (cmp (key x) (key y))) (ranks_by order key) xs (up key (always_returns_same g (λ a r. r ≡ key a.0.now) f calls)) i j
+    d (omega arith) inside
 
 below_is : (s t : Bool) (o : Ordering) → is_lt (ordering_then (cond s Less (cond t Equal Greater)) o) ≡ (s || (t && is_lt o))
 below_is true t o = refl
@@ -143,7 +151,8 @@ key_before a b =
     ∙ ap (λ t. nat_lt a.objectid b.objectid || (a.objectid == b.objectid && t)) (pair_before a.kind b.kind a.offset b.offset)
 
 pub key_total : IsTotalOrder by_key
-key_total = then_total (on_total (λ (k : Key). k.objectid) nat_cmp_total) (then_total (on_total (λ (k : Key). k.kind) nat_cmp_total) (on_total (λ (k : Key). k.offset) nat_cmp_total))
+key_total = then_total (on_total (λ (k : Key). k.objectid) nat_cmp_total)
+    (then_total (on_total (λ (k : Key). k.kind) nat_cmp_total) (on_total (λ (k : Key). k.offset) nat_cmp_total))
 
 -- one more that passes a test or does not
 filter_more : {X : Type 0} (p : X → Bool) (xs : List X) (i : ℕ) (d : X) → i < length xs
@@ -180,7 +189,10 @@ sorted_of key order before same whole xs all up calls = record {
 -- the same, where each element stands for another
 pub sorted_for : {X Y : Type 0} (stands : X → Y) (of : X → X → Bool) (before : Y → Y → Bool) → ((a b : X) → of a b ≡ before (stands a) (stands b))
     → (whole xs : List X) → IsSortedOf of whole xs → IsSortedOf before (map stands whole) (map stands xs)
-sorted_for stands of before same whole [] is = record { all = IsPermutation-map stands whole [] is.all; ascends = λ i j d less inside. absurd (omega arith) }
+sorted_for stands of before same whole [] is = record {
+  all = IsPermutation-map stands whole [] is.all;
+  ascends = λ i j d less inside. absurd (omega arith);
+}
 sorted_for stands of before same whole (x ∷ xs) is = record {
   all = IsPermutation-map stands whole (x ∷ xs) is.all;
   ascends = λ i j d less inside.

@@ -1,5 +1,6 @@
 -- The rules on the list of root items, where it says of each item where its tree begins.
-use Rattle.std.proofs.Common.{◌≡◌, ℕ, ◌+◌, ◌<◌, ◌≤◌, true, false, ◌||◌, ◌==◌, cond, List, [], ◌∷◌, ◌++◌, length, map, take, drop, get_or, Option, Some, None, refl, sym, ap, ◌∙◌, arith}
+use Rattle.std.proofs.Common.{◌≡◌, ℕ, ◌+◌, ◌<◌, ◌≤◌, true, false, ◌||◌, ◌==◌, cond, List, [], ◌∷◌}
+use Rattle.std.proofs.Common.{◌++◌, length, map, take, drop, get_or, Option, Some, None, refl, sym, ap, ◌∙◌, arith}
 use Rattle.std.specs.Prelude.{if◌then◌else◌}
 use Rattle.std.specs.List.{list_any}
 use Rattle.std.proofs.lemmas.Grind.{common_steps}
@@ -23,7 +24,8 @@ repeated_alike : (before items : List RootItem) → repeated_in (map root_at bef
 unfolding repeated_in repeated_after
 repeated_alike before [] = refl
 repeated_alike before (item ∷ items) =
-    ap (λ b. if b then Some (roots_finding 1 item.key) else repeated_in (map root_at before ++ root_at item ∷ []) (map root_at items)) (named_alike item.key.objectid before)
+    ap (λ b. if b then Some (roots_finding 1 item.key) else repeated_in (map root_at before ++ root_at item ∷ []) (map root_at items))
+    (named_alike item.key.objectid before)
     ∙ ap (λ rec. if list_any (names item.key.objectid) before then Some (roots_finding 1 item.key) else rec)
     (ap (λ front. repeated_in front (map root_at items)) (sym (map-append root_at before (item ∷ []))) ∙ repeated_alike (before ++ item ∷ []) items)
 
@@ -40,7 +42,8 @@ fault_is compat_ro roots items is =
     ∙ ap (λ rows. or_found (repeated_after [] items) (first_failing rows)) (missing_alike compat_ro items))
 
 repeated_step : (before roots : List RootAt) (root : RootAt)
-    → repeated_in before (root ∷ roots) ≡ cond (list_any (has_id root.key.objectid) before) (Some (roots_finding 1 root.key)) (repeated_in (before ++ root ∷ []) roots)
+    → repeated_in before (root ∷ roots)
+    ≡ cond (list_any (has_id root.key.objectid) before) (Some (roots_finding 1 root.key)) (repeated_in (before ++ root ∷ []) roots)
 unfolding repeated_in
 repeated_step before roots root = refl
 
@@ -51,20 +54,24 @@ repeated_end before = refl
 -- the one at a place, behind those before it
 repeated_at : (roots : List RootAt) (i : ℕ) (d : RootAt) → i < length roots
     → repeated_in (take i roots) (drop i roots)
-    ≡ cond (list_any (has_id (get_or roots i d).key.objectid) (take i roots)) (Some (roots_finding 1 (get_or roots i d).key)) (repeated_in (take (i + 1) roots) (drop (i + 1) roots))
+    ≡ cond (list_any (has_id (get_or roots i d).key.objectid) (take i roots)) (Some (roots_finding 1 (get_or roots i d).key))
+    (repeated_in (take (i + 1) roots) (drop (i + 1) roots))
 repeated_at roots i d inside =
     ap (repeated_in (take i roots)) (drop_more roots i d inside)
     ∙ repeated_step (take i roots) (drop (i + 1) roots) (get_or roots i d)
-    ∙ ap (λ front. cond (list_any (has_id (get_or roots i d).key.objectid) (take i roots)) (Some (roots_finding 1 (get_or roots i d).key)) (repeated_in front (drop (i + 1) roots)))
+    ∙ ap (λ front. cond (list_any (has_id (get_or roots i d).key.objectid) (take i roots)) (Some (roots_finding 1 (get_or roots i d).key))
+    (repeated_in front (drop (i + 1) roots)))
     (sym (take_more roots i d inside))
 
 -- it has the id of an earlier one
-pub repeated_here : (roots : List RootAt) (i : ℕ) (d : RootAt) (whole : Option Finding) → i < length roots → list_any (has_id (get_or roots i d).key.objectid) (take i roots) ≡ true
+pub repeated_here : (roots : List RootAt) (i : ℕ) (d : RootAt) (whole : Option Finding) → i < length roots
+    → list_any (has_id (get_or roots i d).key.objectid) (take i roots) ≡ true
     → repeated_in (take i roots) (drop i roots) ≡ whole → whole ≡ Some (roots_finding 1 (get_or roots i d).key)
 repeated_here roots i d whole inside seen left = sym left ∙ repeated_at roots i d inside ∙ rw seen refl
 
 -- it has another id
-pub repeated_past : (roots : List RootAt) (i : ℕ) (d : RootAt) (whole : Option Finding) → i < length roots → list_any (has_id (get_or roots i d).key.objectid) (take i roots) ≡ false
+pub repeated_past : (roots : List RootAt) (i : ℕ) (d : RootAt) (whole : Option Finding) → i < length roots
+    → list_any (has_id (get_or roots i d).key.objectid) (take i roots) ≡ false
     → repeated_in (take i roots) (drop i roots) ≡ whole → repeated_in (take (i + 1) roots) (drop (i + 1) roots) ≡ whole
 repeated_past roots i d whole inside seen left = sym (repeated_at roots i d inside ∙ rw seen refl) ∙ left
 

@@ -18,7 +18,8 @@ pub(crate) fn distinct_chunks(alloc: Global, map: &ChunkMap) -> Result<ChunkMap,
     ensures { IfOk result (λ some.
         AllByRecursion (λ c. AllByRecursion (LieApartOrSame c) map.now) map.now
         → AllByRecursion (λ (c : AChunk). (0 < c.length) × (c.start + c.length < 2 ^ 64)) map.now
-        → AreApart some × ((address n end : ℕ) → place some address n end ≡ place map.now address n end)) }
+        → AreApart some × ((address n end : ℕ) →
+        place some address n end ≡ place map.now address n end)) }
 {
     let mut some = ChunkMap::new(alloc);
     for chunk in map.chunks() {

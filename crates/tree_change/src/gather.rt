@@ -36,7 +36,8 @@ impl Gathered {
 
     // Puts a copy of an item behind the others.
     fn add(&mut self, one: &RecAt<'_>) -> Result<(), NoMemory>
-        ensures { OnOk result (gathers self.new ≡ with_seen (gathers self.old) (ItemSeen (located one.now))) }
+        ensures { OnOk result (
+            gathers self.new ≡ with_seen (gathers self.old) (ItemSeen (located one.now))) }
     {
         let item = ItemAt {
             tree: one.tree,

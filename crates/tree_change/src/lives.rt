@@ -59,7 +59,8 @@ impl Lasts {
 
 // The greatest keys of the blocks that a walk is done with. They take their memory from this allocator.
 fn lasts_of(alloc: Global, ended: &[Ended]) -> Result<Lasts, NoMemory>
-    ensures { IfOk result (λ lasts. (address : ℕ) → last_in lasts address ≡ last_at ended.now address) }
+    ensures { IfOk result (λ lasts. (address : ℕ) →
+        last_in lasts address ≡ last_at ended.now address) }
 {
     let mut lasts = Lasts::new(alloc);
     for one in ended {
@@ -92,7 +93,8 @@ pub(crate) fn add_new<L>(
 
 // Puts the blocks that were read behind other live pairs.
 fn add_lives(lasts: &Lasts, blocks: &[BlockAt], into: &mut Vec<Live>) -> Result<(), NoMemory>
-    ensures { OnOk result (into.new.items ≡ into.old.items ++ lives_by (last_in lasts.now) blocks.now) }
+    ensures { OnOk result (
+        into.new.items ≡ into.old.items ++ lives_by (last_in lasts.now) blocks.now) }
 {
     for block in blocks {
         let live = live_of(block, lasts.of(block.address));
@@ -111,7 +113,8 @@ fn add_moved<L>(
     met: &[Expect],
     into: &mut Vec<Live>,
 ) -> Result<(), NoMemory>
-    ensures { OnOk result (into.new.items ≡ into.old.items ++ moved_by (pairs_of table.now) (last_in lasts.now) met.now) }
+    ensures { OnOk result (into.new.items ≡
+        into.old.items ++ moved_by (pairs_of table.now) (last_in lasts.now) met.now) }
 {
     for e in met {
         push_some(into, moved_of(table, steps, lasts, e))?;
@@ -139,7 +142,8 @@ pub(crate) fn add_known<L>(
     blocks: &[BlockAt],
     into: &mut Vec<Live>,
 ) -> Result<(), NoMemory>
-    ensures { OnOk result (into.new.items ≡ into.old.items ++ pairs_at (pairs_of table.now) blocks.now) }
+    ensures { OnOk result (
+        into.new.items ≡ into.old.items ++ pairs_at (pairs_of table.now) blocks.now) }
 {
     for block in blocks {
         push_some(into, table.get(block.tree, block.address, steps))?;

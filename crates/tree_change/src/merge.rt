@@ -42,7 +42,8 @@ pub(crate) fn merge_chunks(
 ) -> Result<ChunkMap, NoMemory>
     ensures { IfOk result (λ merged.
         let left = chunks_left old.now (map located_item gone.now) (map located_item came.now) in
-        AllByRecursion (λ (c : AChunk). c.start + c.length < 2 ^ 64) left → IsSortedOf begins_before left merged) }
+        AllByRecursion (λ (c : AChunk). c.start + c.length < 2 ^ 64) left
+        → IsSortedOf begins_before left merged) }
 {
     let starts = starts_of(alloc, gone)?;
     let mut chunks = Vec::new(alloc);
@@ -55,7 +56,8 @@ pub(crate) fn merge_chunks(
 // Where the chunks among items begin.
 fn starts_of(alloc: Global, items: &[ItemAt]) -> Result<BTreeSet<u64>, NoMemory>
     ensures { IfOk result (λ starts. (start : ℕ) →
-        contains nat_cmp starts start ≡ has_start (chunks_among (map located_item items.now)) start) }
+        contains nat_cmp starts start
+        ≡ has_start (chunks_among (map located_item items.now)) start) }
 {
     let mut starts = BTreeSet::new(alloc);
     for item in items {
@@ -67,7 +69,8 @@ fn starts_of(alloc: Global, items: &[ItemAt]) -> Result<BTreeSet<u64>, NoMemory>
 // Puts where a chunk begins among starts, where there is one.
 fn put_start(starts: &mut BTreeSet<u64>, chunk: Option<Chunk>) -> Result<(), NoMemory>
     ensures { OnOk result ((start : ℕ) →
-        contains nat_cmp starts.new start ≡ (contains nat_cmp starts.old start || has_start (option_to_list chunk) start)) }
+        contains nat_cmp starts.new start
+        ≡ (contains nat_cmp starts.old start || has_start (option_to_list chunk) start)) }
 {
     if let Some(chunk) = chunk
         && starts.insert(chunk.start).is_err()
@@ -80,7 +83,8 @@ fn put_start(starts: &mut BTreeSet<u64>, chunk: Option<Chunk>) -> Result<(), NoM
 // Puts those chunks behind others that do not begin at one of some starts.
 fn keep_chunks(old: &[Chunk], starts: &BTreeSet<u64>, into: &mut Vec<Chunk>) -> Result<(), NoMemory>
     ensures { OnOk result (into.new.items ≡
-        into.old.items ++ filter (λ (chunk : AChunk). not (contains nat_cmp starts.now chunk.start)) old.now) }
+        into.old.items
+        ++ filter (λ (chunk : AChunk). not (contains nat_cmp starts.now chunk.start)) old.now) }
 {
     for chunk in old {
         if starts.contains(&chunk.start) {
@@ -93,7 +97,8 @@ fn keep_chunks(old: &[Chunk], starts: &BTreeSet<u64>, into: &mut Vec<Chunk>) -> 
 
 // Puts the chunks among items behind others.
 fn add_chunks(items: &[ItemAt], into: &mut Vec<Chunk>) -> Result<(), NoMemory>
-    ensures { OnOk result (into.new.items ≡ into.old.items ++ chunks_among (map located_item items.now)) }
+    ensures { OnOk result (
+        into.new.items ≡ into.old.items ++ chunks_among (map located_item items.now)) }
 {
     for item in items {
         push_some(into, chunk_in(item))?;
@@ -165,7 +170,8 @@ fn keys_of(alloc: Global, items: &[ItemAt]) -> Result<BTreeSet<Key>, NoMemory>
 // Puts the key of a root item among keys, where there is one.
 fn put_key(keys: &mut BTreeSet<Key>, root: Option<RootAt>) -> Result<(), NoMemory>
     ensures { OnOk result ((key : AKey) →
-        contains by_key keys.new key ≡ (contains by_key keys.old key || has_key (option_to_list root) key)) }
+        contains by_key keys.new key
+        ≡ (contains by_key keys.old key || has_key (option_to_list root) key)) }
 {
     let Some(root) = root else {
         return Ok(());
@@ -179,7 +185,8 @@ fn put_key(keys: &mut BTreeSet<Key>, root: Option<RootAt>) -> Result<(), NoMemor
 // Puts those trees behind others whose root items have none of some keys.
 fn keep_roots(old: &[RootAt], keys: &BTreeSet<Key>, into: &mut Vec<RootAt>) -> Result<(), NoMemory>
     ensures { OnOk result (into.new.items ≡
-        into.old.items ++ filter (λ (root : ARoot). not (contains by_key keys.now root.key)) old.now) }
+        into.old.items
+        ++ filter (λ (root : ARoot). not (contains by_key keys.now root.key)) old.now) }
 {
     for root in old {
         if keys.contains(&root.key) {
@@ -192,7 +199,8 @@ fn keep_roots(old: &[RootAt], keys: &BTreeSet<Key>, into: &mut Vec<RootAt>) -> R
 
 // Puts where trees begin by the root items among items behind others.
 fn add_roots(items: &[ItemAt], into: &mut Vec<RootAt>) -> Result<(), NoMemory>
-    ensures { OnOk result (into.new.items ≡ into.old.items ++ roots_among (map located_item items.now)) }
+    ensures { OnOk result (
+        into.new.items ≡ into.old.items ++ roots_among (map located_item items.now)) }
 {
     for item in items {
         push_some(into, root_in(item))?;
@@ -224,7 +232,8 @@ fn root_in(item: &ItemAt) -> Option<RootAt>
 
 /// Puts items in the order of their trees and keys. What it takes meanwhile it takes from this allocator.
 pub(crate) fn sort_items(alloc: Global, items: &mut Vec<ItemAt>) -> Result<(), NoMemory>
-    ensures { OnOk result (IsSortedOf item_before (map located_item items.old.items) (map located_item items.new.items)) }
+    ensures { OnOk result (IsSortedOf item_before
+        (map located_item items.old.items) (map located_item items.new.items)) }
 {
     match items
         .as_mut_slice()

@@ -7,5 +7,6 @@ use Rattle.tree_change.proofs.lives.add_known.Goals as goal
 pub loop-block-preserved : goal.loop-block-preserved
 loop-block-preserved g c =
     some_more (λ (block : BlockAt). pairs_of c.args.table.now block.tree block.address)
-    c.args.into.now.items c.loop-block.into.items c.push_some.new.into.items _ c.args.blocks.now c.loop-block.block-index _ c.loop-block-test.true c.loop-block.invariant
+    c.args.into.now.items c.loop-block.into.items c.push_some.new.into.items _ c.args.blocks.now c.loop-block.block-index _ c.loop-block-test.true
+    c.loop-block.invariant
     c.get.ensures.value c.in_ok-push_some.ensures

@@ -9,6 +9,7 @@ use Rattle.tree_change.proofs.merge.add_chunks.Goals as goal
 
 pub loop-item-preserved : goal.loop-item-preserved
 loop-item-preserved c =
-    added_more located_item (λ (one : Located). chunk_in one.part) c.args.into.now.items c.loop-item.into.items c.push_some.new.into.items c.chunk_in.result
+    added_more located_item (λ (one : Located). chunk_in one.part) c.args.into.now.items c.loop-item.into.items c.push_some.new.into.items
+    c.chunk_in.result
     c.args.items.now c.loop-item.item-index c.item-item.result c.loop-item-test.true c.loop-item.invariant
     (c.chunk_in.ensures ∙ ap (λ (item : ItemAt). chunk_in (owned_part item.part)) c.item-item.is) c.in_ok-push_some.ensures

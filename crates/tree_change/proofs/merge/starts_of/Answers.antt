@@ -12,6 +12,8 @@ use Rattle.tree_change.proofs.merge.starts_of.Goals as goal
 
 pub loop-item-preserved : goal.loop-item-preserved
 loop-item-preserved c =
-    has_more located_item (λ (one : Located). chunk_in one.part) (λ (start : ℕ) (chunk : Chunk). chunk.start == start) (contains nat_cmp c.loop-item.starts)
-    (contains nat_cmp c.put_start.new.starts) c.chunk_in.result c.args.items.now c.loop-item.item-index c.item-item.result c.loop-item-test.true c.loop-item.invariant
+    has_more located_item (λ (one : Located). chunk_in one.part) (λ (start : ℕ) (chunk : Chunk). chunk.start == start)
+    (contains nat_cmp c.loop-item.starts)
+    (contains nat_cmp c.put_start.new.starts) c.chunk_in.result c.args.items.now c.loop-item.item-index c.item-item.result c.loop-item-test.true
+    c.loop-item.invariant
     (c.chunk_in.ensures ∙ ap (λ (item : ItemAt). chunk_in (owned_part item.part)) c.item-item.is) c.in_ok-put_start.ensures
