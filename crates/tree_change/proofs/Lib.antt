@@ -10,3 +10,4 @@ pub mod Whole
 pub mod Leaving
 pub mod RootRules
 pub mod Naming
+pub mod Unique

@@ -7,3 +7,4 @@ pub mod AllTrees
 pub mod Told
 pub mod Leaves
 pub mod Roots
+pub mod Helping

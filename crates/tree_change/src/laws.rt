@@ -2,6 +2,7 @@
 
 ghost use Rattle.tree_change.specs.OneTree.{NothingTreeLaw, OneTreeLaw};
 ghost use Rattle.tree_change.specs.AllTrees.{AllTreesLaw, GoneLaw, NamedLaw};
+ghost use Rattle.tree_change.specs.Helping.{UniqueLaw};
 
 /// What the two walks of a tree give is what changes in it, and their first finding is that of the whole walk.
 pub fn one_tree_law()
@@ -31,4 +32,9 @@ pub fn gone_trees_law()
 /// What changes in each tree of an image is all that changes.
 pub fn all_trees_law()
     ensures { AllTreesLaw }
+{}
+
+/// A sorted list is the one in order.
+pub fn unique_law()
+    ensures { UniqueLaw }
 {}
