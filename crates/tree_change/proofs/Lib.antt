@@ -11,3 +11,4 @@ pub mod Leaving
 pub mod RootRules
 pub mod Naming
 pub mod Unique
+pub mod Contents

@@ -2,7 +2,7 @@
 
 ghost use Rattle.tree_change.specs.OneTree.{NothingTreeLaw, OneTreeLaw};
 ghost use Rattle.tree_change.specs.AllTrees.{AllTreesLaw, GoneLaw, NamedLaw};
-ghost use Rattle.tree_change.specs.Helping.{UniqueLaw};
+ghost use Rattle.tree_change.specs.Helping.{ContentsStepLaw, UniqueLaw};
 
 /// What the two walks of a tree give is what changes in it, and their first finding is that of the whole walk.
 pub fn one_tree_law()
@@ -37,4 +37,9 @@ pub fn all_trees_law()
 /// A sorted list is the one in order.
 pub fn unique_law()
     ensures { UniqueLaw }
+{}
+
+/// The finding on the system array of an image is that of what it holds.
+pub fn contents_step_law()
+    ensures { ContentsStepLaw }
 {}
