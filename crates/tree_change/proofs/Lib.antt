@@ -12,3 +12,4 @@ pub mod RootRules
 pub mod Naming
 pub mod Unique
 pub mod Contents
+pub mod Knowing

@@ -2,7 +2,7 @@
 
 ghost use Rattle.tree_change.specs.OneTree.{NothingTreeLaw, OneTreeLaw};
 ghost use Rattle.tree_change.specs.AllTrees.{AllTreesLaw, GoneLaw, NamedLaw};
-ghost use Rattle.tree_change.specs.Helping.{ContentsStepLaw, UniqueLaw};
+ghost use Rattle.tree_change.specs.Helping.{ContentsStepLaw, KnowsTreesLaw, UniqueLaw};
 
 /// What the two walks of a tree give is what changes in it, and their first finding is that of the whole walk.
 pub fn one_tree_law()
@@ -42,4 +42,9 @@ pub fn unique_law()
 /// The finding on the system array of an image is that of what it holds.
 pub fn contents_step_law()
     ensures { ContentsStepLaw }
+{}
+
+/// What the calls promise that mark and list by the table of the old pairs is what is known of the old trees.
+pub fn knows_trees_law()
+    ensures { KnowsTreesLaw }
 {}
