@@ -13,3 +13,4 @@ pub mod Naming
 pub mod Unique
 pub mod Contents
 pub mod Knowing
+pub mod Chunks

@@ -1,5 +1,6 @@
 -- What helping lemmas say, until the code that they are for stands on them.
-use Rattle.std.specs.Prelude.{ℕ, ◌≡◌, true, List, length, Ok, Err}
+use Rattle.std.specs.Prelude.{ℕ, ◌≡◌, ◌+◌, ◌<◌, ◌^◌, true, List, length, Ok, Err}
+use Rattle.std.specs.List.{AllByRecursion}
 use Rattle.std.specs.Ordering.{nat_cmp}
 use Rattle.std.specs.FinMap.{FinMap}
 use Rattle.verdict.specs.declared.finding.Finding.{Finding}
@@ -8,7 +9,10 @@ use Rattle.super_reader.specs.Superblock.{array_place}
 use Rattle.super_reader.specs.declared.Super.{Super}
 use Rattle.volume_items.specs.SystemArray.{array_chunks}
 use Rattle.live_index.specs.Pairs.{Pairs}
+use Rattle.node_reader.specs.declared.expect.Expect.{Expect}
 use Rattle.records.specs.Contents.{contents, superblock_in}
+use Rattle.records.specs.Seen.{Seen}
+use Rattle.records.specs.Walk.{walk_in}
 use Rattle.touched_pairs.specs.Marking.{AreMarkedFrom}
 use Rattle.touched_pairs.specs.Marks.{no_mark}
 use Rattle.touched_pairs.specs.Moves.{held_and_moved, is_moved}
@@ -21,7 +25,7 @@ use Rattle.shared_trees.specs.Marking.{AreNarrow}
 use Rattle.shared_trees.specs.Shared.{are_read_alike}
 use Rattle.shared_trees.specs.SharedLaw.{HasTrees, touches_old}
 use Rattle.shared_trees.specs.TableLaw.{Tree}
-use Rattle.shared_trees.specs.MergedLaw.{IsInOrder, begins_before}
+use Rattle.shared_trees.specs.MergedLaw.{IsInOrder, begins_before, chunks_seen}
 use Rattle.tree_change.specs.AllTrees.{KnowsTrees}
 use Rattle.tree_change.specs.Merging.{IsSortedOf}
 use Rattle.tree_change.specs.Walks.{Side}
@@ -47,3 +51,8 @@ KnowsTreesLaw = (image : List ℕ) (pending : FinMap nat_cmp ℕ) (old : Walked)
     → AreListedBy pairs moving under
     → KnowsTrees image pending old trees is
     (record { pairs = pairs; marked = marked; moved = is_moved old.chunks is.chunks old.sup.nodesize (length image); under = under })
+
+-- the chunks among the records of a walk end at addresses of 64 bits
+abbrev pub FitsAllLaw : Type 0
+FitsAllLaw = (sup : Super) (chunks : List Chunk) (e : Expect) (image : List ℕ) (records : List Seen) → walk_in sup chunks e image ≡ Ok records
+    → AllByRecursion (λ (c : Chunk). c.start + c.length < 2 ^ 64) (chunks_seen records)
