@@ -44,6 +44,7 @@ use Rattle.shared_trees.proofs.Treed.{chunk_tree, steps_of}
 use Rattle.tree_change.specs.Merging.{IsSortedOf, chunks_left}
 use Rattle.tree_change.specs.OneTree.{IsTree, OneTreeLaw, side_of}
 use Rattle.tree_change.specs.Walks.{Known, Parts, Side, tree_parts}
+use Rattle.tree_change.proofs.Olds.{same_ok}
 use Rattle.tree_change.proofs.Unique.{only_list}
 
 -- a chunk ends at an address of 64 bits, and so does that of an item
@@ -193,3 +194,65 @@ fits_all sup chunks e image records is =
     all_end (items records)
     (walk_fits (sort_of e.tree) (λ key part. EndsIn part) (λ at key bytes part sort has. item_ends at key bytes part has) sup
     (stored_in image chunks sup.nodesize) e records refl is)
+
+-- the chunk map, where the walk of the chunk tree has these records, or a finding
+map_of : (sup : Super) (array : List Chunk) (image : List ℕ) (records : List Seen) → chunk_records sup array image ≡ Ok records
+    → chunk_map_in sup array image
+    ≡ and_then (finding_or (map_finding (chunks_seen records) array (length image)) (tt {0})) (λ _. Ok (chunks_seen records))
+map_of sup array image records is =
+    map_seen sup array image ∙ ap (λ (walk : Records). and_then walk (λ all.
+    and_then (finding_or (map_finding (chunks_seen all) array (length image)) (tt {0})) (λ _. Ok (chunks_seen all)))) is
+
+map_failed : (sup : Super) (array : List Chunk) (image : List ℕ) (finding : Finding) → chunk_records sup array image ≡ Err finding
+    → chunk_map_in sup array image ≡ Err finding
+map_failed sup array image finding is =
+    map_seen sup array image ∙ ap (λ (walk : Records). and_then walk (λ all.
+    and_then (finding_or (map_finding (chunks_seen all) array (length image)) (tt {0})) (λ _. Ok (chunks_seen all)))) is
+
+-- the chunks of an image are those among the records of its chunk tree
+chunks_are_seen : (image : List ℕ) (old : Walked) (olds : List Seen) → walked image ≡ Ok old
+    → walk_in old.sup old.chunks (chunk_tree_root old.sup) image ≡ Ok olds → chunks_seen olds ≡ old.chunks
+unfolding walk_in
+chunks_are_seen image old olds walks is =
+    let s = steps_of image old walks in
+    let alike = chunk_tree image old s.array walks s.arrays in
+    let given = map_of old.sup s.array image olds (sym alike.walk ∙ is) in
+    let step =
+    step_ok (finding_or (map_finding (chunks_seen olds) s.array (length image)) (tt {0})) (λ _. Ok (chunks_seen olds)) old.chunks
+    (sym given ∙ s.chunks_are) in
+    same_ok (chunks_seen olds) old.chunks step.2
+
+-- The chunk map is what is merged of the old chunks, of what is gone and of what came, where the rules on it keep.
+pub chunks_made : OneTreeLaw → (image : List ℕ) (pending : FinMap nat_cmp ℕ) (old : Walked) (trees : List Tree) (pairs : Pairs) (is : Side)
+    (known : Known) (parts : Parts) (map : List Chunk)
+    → IsTree image pending old trees pairs is known (Some (chunk_tree_root old.sup)) (chunk_tree_root is.sup)
+    → tree_parts pairs known (side_of image old) is (Some (chunk_tree_root old.sup)) (chunk_tree_root is.sup) ≡ Ok parts
+    → (AllByRecursion Ends (chunks_left old.chunks parts.old_items parts.new_items)
+    → IsSortedOf begins_before (chunks_left old.chunks parts.old_items parts.new_items) map)
+    → chunk_map_in is.sup is.chunks is.image ≡ and_then (finding_or (map_finding map is.chunks (length is.image)) (tt {0})) (λ _. Ok map)
+chunks_made law image pending old trees pairs is known parts map tree given sort =
+    let gives = law image pending old trees pairs is known (Some (chunk_tree_root old.sup)) (chunk_tree_root is.sup) tree in
+    let p = gives.parts parts given in
+    let olds = p.0 in
+    let news = p.1 in
+    let whole = chunks_left old.chunks parts.old_items parts.new_items in
+    let order : IsInOrder begins_before whole (chunks_seen news) =
+    subst (λ chunks. IsInOrder begins_before (chunks_left chunks parts.old_items parts.new_items) (chunks_seen news))
+    (chunks_are_seen image old olds tree.has.walks p.2) (p.4.chunks refl) in
+    let ends : AllByRecursion Ends whole =
+    recursion_from_All Ends whole
+    (All-permutation Ends (chunks_seen news) whole (IsPermutation-sym whole (chunks_seen news) order.all)
+    (All-from_recursion Ends (chunks_seen news) (fits_all is.sup is.chunks (chunk_tree_root is.sup) is.image news p.3))) in
+    let same : map ≡ chunks_seen news = only_list begins_before whole map (chunks_seen news) (sort ends) order in
+    map_of is.sup is.chunks is.image news p.3
+    ∙ ap (λ chunks. and_then (finding_or (map_finding chunks is.chunks (length is.image)) (tt {0})) (λ _. Ok chunks)) (sym same)
+
+-- the first finding on the parts of a chunk tree is that of the chunk map
+pub chunks_found : OneTreeLaw → (image : List ℕ) (pending : FinMap nat_cmp ℕ) (old : Walked) (trees : List Tree) (pairs : Pairs) (is : Side)
+    (known : Known) → IsTree image pending old trees pairs is known (Some (chunk_tree_root old.sup)) (chunk_tree_root is.sup)
+    → (finding : Finding)
+    → tree_parts pairs known (side_of image old) is (Some (chunk_tree_root old.sup)) (chunk_tree_root is.sup) ≡ Err finding
+    → chunk_map_in is.sup is.chunks is.image ≡ Err finding
+chunks_found law image pending old trees pairs is known tree finding failed =
+    let gives = law image pending old trees pairs is known (Some (chunk_tree_root old.sup)) (chunk_tree_root is.sup) tree in
+    map_failed is.sup is.chunks is.image finding (gives.found finding failed)

@@ -14,3 +14,4 @@ pub mod Unique
 pub mod Contents
 pub mod Knowing
 pub mod Chunks
+pub mod RootItems
