@@ -1,5 +1,6 @@
 -- The chunk map of an image, by what changes in its chunk tree.
-use Rattle.std.proofs.Common.{◌≡◌, ℕ, ◌+◌, ◌<◌, ◌^◌, ◌||◌, ◌==◌, Bool, true, false, not, List, [], ◌∷◌, length, refl, ap, sym, subst, ◌∙◌, arith, if◌then◌else◌}
+use Rattle.std.proofs.Common.{◌≡◌, ℕ, ◌+◌, ◌<◌, ◌^◌, ◌||◌, ◌==◌, Bool, true, false, not, List, [], ◌∷◌, length, refl, ap, sym, subst, ◌∙◌, arith}
+use Rattle.std.proofs.Common.{if◌then◌else◌}
 use Rattle.std.proofs.lemmas.Bool.{ltb-false, or_parts}
 use Rattle.std.proofs.lemmas.List.Elements.{All-from_recursion, recursion_from_All}
 use Rattle.std.proofs.lemmas.List.Sorted.{All-permutation, IsPermutation-sym}
@@ -13,7 +14,10 @@ use Rattle.verdict.specs.Rules.{and_then, finding_or, first_failing}
 use Rattle.verdict.specs.Trees.{sort_of}
 use Rattle.verdict.specs.declared.finding.Finding.{Finding}
 use Rattle.verdict.specs.declared.key.Key.{Key}
-use Rattle.verdict.specs.declared.kinds.TheConstants.{BLOCK_GROUP_ITEM, CHUNK_ITEM, DEV_EXTENT, DEV_ITEM, DIR_INDEX, DIR_ITEM, EXTENT_CSUM, EXTENT_DATA, EXTENT_DATA_REF, EXTENT_ITEM, INODE_EXTREF, INODE_ITEM, INODE_REF, METADATA_ITEM, ORPHAN_ITEM, PERSISTENT_ITEM, ROOT_BACKREF, ROOT_ITEM, ROOT_REF, SHARED_BLOCK_REF, SHARED_DATA_REF, TREE_BLOCK_REF, XATTR_ITEM}
+use Rattle.verdict.specs.declared.kinds.TheConstants.{BLOCK_GROUP_ITEM, CHUNK_ITEM, DEV_EXTENT, DEV_ITEM, DIR_INDEX, DIR_ITEM, EXTENT_CSUM}
+use Rattle.verdict.specs.declared.kinds.TheConstants.{EXTENT_DATA, EXTENT_DATA_REF, EXTENT_ITEM, INODE_EXTREF, INODE_ITEM, INODE_REF, METADATA_ITEM}
+use Rattle.verdict.specs.declared.kinds.TheConstants.{ORPHAN_ITEM, PERSISTENT_ITEM, ROOT_BACKREF, ROOT_ITEM, ROOT_REF, SHARED_BLOCK_REF}
+use Rattle.verdict.specs.declared.kinds.TheConstants.{SHARED_DATA_REF, TREE_BLOCK_REF, XATTR_ITEM}
 use Rattle.verdict.specs.declared.place.At.{At}
 use Rattle.verdict.specs.declared.place.Chunk.{Chunk}
 use Rattle.verdict.specs.declared.place.TreeSort.{TreeSort}
@@ -30,11 +34,13 @@ use Rattle.live_index.specs.Pairs.{Pairs}
 use Rattle.node_reader.specs.Stored.{stored_in}
 use Rattle.node_reader.specs.declared.expect.Expect.{Expect}
 use Rattle.records.specs.Contents.{chunk_map_in, chunk_records, chunk_tree_root}
-use Rattle.records.specs.Item.{as_part, chunk_tree_record, device_tree_record, extent_tree_record, file_tree_record, groups_tree_record, inode_record, item_record, record_in, root_tree_record, sums_tree_record, unlisted}
+use Rattle.records.specs.Item.{as_part, chunk_tree_record, device_tree_record, extent_tree_record, file_tree_record, groups_tree_record, inode_record}
+use Rattle.records.specs.Item.{item_record, record_in, root_tree_record, sums_tree_record, unlisted}
 use Rattle.records.specs.Part.{Located, Part}
-use Rattle.records.specs.Part.Part.{ChunkPart, DevExtentPart, DevicePart, EntriesPart, ExtentPart, FileExtentPart, GroupPart, InodePart, KeyedPart, LinkPart, NamesPart, OrphanPart, RootPart, SumsPart, UnreadPart, XattrPart}
+use Rattle.records.specs.Part.Part.{ChunkPart, DevExtentPart, DevicePart, EntriesPart, ExtentPart, FileExtentPart, GroupPart, InodePart, KeyedPart}
+use Rattle.records.specs.Part.Part.{LinkPart, NamesPart, OrphanPart, RootPart, SumsPart, UnreadPart, XattrPart}
 use Rattle.records.specs.Seen.{Seen}
-use Rattle.records.specs.Walk.{Records, walk_in, walk_of}
+use Rattle.records.specs.Walk.{Records, walk_in}
 use Rattle.shared_trees.specs.LivePairs.{Walked, walked}
 use Rattle.shared_trees.specs.MergedLaw.{IsInOrder, begins_before, chunk_in, chunks_seen, items}
 use Rattle.shared_trees.specs.TableLaw.{Tree}

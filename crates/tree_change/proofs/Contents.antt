@@ -1,6 +1,6 @@
 -- What the steps to what an image holds give: the finding of each step is that of the whole, and where none has one the walks of the image have
 -- none. And what is known of an image for which the bases stand.
-use Rattle.std.proofs.Common.{◌≡◌, ℕ, Bool, List, [], ◌∷◌, ◌++◌, length, refl, ap, sym, subst, ◌∙◌}
+use Rattle.std.proofs.Common.{◌≡◌, ℕ, Bool, List, ◌∷◌, ◌++◌, length, refl, ap, sym, ◌∙◌}
 use Rattle.std.specs.Prelude.{Result, Ok, Err, map}
 use Rattle.std.specs.List.{filter_map}
 use Rattle.verdict.specs.Rules.{and_then, finding_or}
@@ -13,7 +13,8 @@ use Rattle.volume_items.specs.SystemArray.{array_chunks}
 use Rattle.volume_items.specs.declared.root.RootItem.{RootItem}
 use Rattle.volume_items.specs.declared.root_at.RootAt.{RootAt}
 use Rattle.live_index.specs.Pairs.{Pairs}
-use Rattle.records.specs.Contents.{Contents, all_records, chunk_map_in, chunk_records, contents, root_items_in, root_records, roots_fault, super_record, superblock_in, tree_records}
+use Rattle.records.specs.Contents.{Contents, all_records, chunk_map_in, chunk_records, contents, root_items_in, root_records, roots_fault}
+use Rattle.records.specs.Contents.{super_record, superblock_in, tree_records}
 use Rattle.records.specs.Seen.{Seen, accounted}
 use Rattle.records.specs.Walk.{behind}
 use Rattle.shared_trees.specs.LivePairs.{Walked, live_in, table_of, walked}

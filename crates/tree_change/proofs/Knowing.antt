@@ -1,7 +1,6 @@
 -- What the calls promise that mark and list by the table of the old pairs is what is known of the old trees.
-use Rattle.std.proofs.Common.{◌≡◌, ℕ, ◌⊎◌, inl, inr, Bool, true, not, ◌&&◌, List, length, refl, ap, sym, ◌∙◌}
-use Rattle.std.specs.Prelude.{Some, Ok, is_some}
-use Rattle.std.specs.List.{AllByRecursion}
+use Rattle.std.proofs.Common.{◌≡◌, ℕ, ◌⊎◌, inl, inr, true, not, ◌&&◌, List, length, refl, ap, sym, ◌∙◌}
+use Rattle.std.specs.Prelude.{Some, is_some}
 use Rattle.std.specs.Ordering.{nat_cmp}
 use Rattle.std.specs.FinMap.{FinMap}
 use Rattle.verdict.specs.Chunks.{home, place}
@@ -44,7 +43,8 @@ marked_as pairs must may must_too may_too old new same_must same_may from = reco
 }
   where
     by : (tree address : ℕ)
-        → (old tree address ≡ true) ⊎ ((start : ℕ) × (may tree start ≡ true) × (is_some (pairs tree start) ≡ true) × ClimbsTo pairs tree address start)
+        → (old tree address ≡ true)
+        ⊎ ((start : ℕ) × (may tree start ≡ true) × (is_some (pairs tree start) ≡ true) × ClimbsTo pairs tree address start)
         → (old tree address ≡ true)
         ⊎ ((start : ℕ) × (may_too tree start ≡ true) × (is_some (pairs tree start) ≡ true) × ClimbsTo pairs tree address start)
     by tree address (inl was) = inl was

@@ -191,9 +191,11 @@ only_list {A} before whole list other sort order =
     (before (slice_index_or list j d) (slice_index_or list i d)) (sort.ascends i j d less within)) in
     same_lists before list other
     (strict_of before list (λ i j d less within. (up.ascends i j d less within, sort.ascends i j d less within)))
-    (strict_of before other (λ i j d less within. (order.ascends i j d less within,
-    other_not (before (slice_index_or other i d) (slice_index_or other j d)) (before (slice_index_or other j d) (slice_index_or other i d))
-    (order.ascends i j d less within) (one_way i j d less within))))
+    (strict_of before other (λ i j d less within. (
+      order.ascends i j d less within,
+      other_not (before (slice_index_or other i d) (slice_index_or other j d)) (before (slice_index_or other j d) (slice_index_or other i d))
+          (order.ascends i j d less within) (one_way i j d less within),
+    )))
     (has_permuted other list perm) (has_permuted list other (IsPermutation-sym other list perm))
   where
     OneWay : A → A → Type 0

@@ -2,7 +2,7 @@
 
 ghost use Rattle.tree_change.specs.OneTree.{NothingTreeLaw, OneTreeLaw};
 ghost use Rattle.tree_change.specs.AllTrees.{AllTreesLaw, GoneLaw, NamedLaw};
-ghost use Rattle.tree_change.specs.Helping.{ContentsStepLaw, FitsAllLaw, KnowsTreesLaw, UniqueLaw};
+ghost use Rattle.tree_change.specs.Helping.{Helps};
 
 /// What the two walks of a tree give is what changes in it, and their first finding is that of the whole walk.
 pub fn one_tree_law()
@@ -34,22 +34,7 @@ pub fn all_trees_law()
     ensures { AllTreesLaw }
 {}
 
-/// A sorted list is the one in order.
-pub fn unique_law()
-    ensures { UniqueLaw }
-{}
-
-/// The finding on the system array of an image is that of what it holds.
-pub fn contents_step_law()
-    ensures { ContentsStepLaw }
-{}
-
-/// What the calls promise that mark and list by the table of the old pairs is what is known of the old trees.
-pub fn knows_trees_law()
-    ensures { KnowsTreesLaw }
-{}
-
-/// The chunks among the records of a walk end at addresses of 64 bits.
-pub fn chunks_made_law()
-    ensures { FitsAllLaw }
+/// What helping lemmas say, until the code that they are for stands on them.
+pub fn helping_law()
+    ensures { Helps }
 {}
