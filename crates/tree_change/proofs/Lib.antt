@@ -35,3 +35,8 @@ pub mod OneChange
 pub mod Merges
 pub mod DistinctChunks
 pub mod TopTrees
+pub mod Unique
+pub mod Contents
+pub mod Knowing
+pub mod Chunks
+pub mod RootItems
