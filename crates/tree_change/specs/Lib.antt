@@ -10,4 +10,3 @@ pub mod Roots
 pub mod Making
 pub mod Merges
 pub mod Distinct
-pub mod Helping

@@ -1,11 +1,7 @@
 //! Laws of what changes in trees. Each stands on a function that does nothing.
 
 ghost use Rattle.tree_change.specs.AllTrees.{AllTreesLaw, GoneLaw, NamedLaw};
-<<<<<<< HEAD
 ghost use Rattle.tree_change.specs.OneTree.{OneTreeLaw};
-=======
-ghost use Rattle.tree_change.specs.Helping.{Helps};
->>>>>>> 0726e043ea68944922ba8cdd2eb23e6db1963a99
 
 /// What the two walks of a tree give is what changes in it, and their first finding is that of the whole walk.
 pub fn one_tree_law()
@@ -27,7 +23,3 @@ pub fn all_trees_law()
     ensures { AllTreesLaw }
 {}
 
-/// What helping lemmas say, until the code that they are for stands on them.
-pub fn helping_law()
-    ensures { Helps }
-{}
