@@ -47,9 +47,9 @@ module _ {L : Type 0} (sides : Sides L) where
   chunks_told None some all made chunks before now first last a b tree merged none behind = tt
   chunks_told (Some image) some all made chunks before now first last a b tree merged none behind = (
     parts_by made tree.0,
-    chunks_are made chunks before now image tree.0 a b tree.1.0 merged,
+    chunks_are made chunks before now image tree.0 a b tree.1 merged,
     none,
-    record { behind = λ count. behind count tree.0; reads = tree.1.1 },
+    record { behind = λ count. behind count tree.0; reads = tree.2 },
   )
 
   pub chunks_found : (told : Option (List ℕ)) (made : TreeParts) (chunks : List Chunk) (before now : Expect) (first last : ℕ) (finding : Finding)
@@ -60,4 +60,4 @@ module _ {L : Type 0} (sides : Sides L) where
       × (map_finding chunks sides.is.map.now sides.is.end ≡ Some finding)))
   chunks_found None made chunks before now first last finding a b tree merged some = tt
   chunks_found (Some image) made chunks before now first last finding a b tree merged some =
-      inr (parts_by made tree.0, chunks, chunks_are made chunks before now image tree.0 a b tree.1.0 merged, some)
+      inr (parts_by made tree.0, chunks, chunks_are made chunks before now image tree.0 a b tree.1 merged, some)

@@ -22,4 +22,3 @@ pub fn gone_trees_law()
 pub fn all_trees_law()
     ensures { AllTreesLaw }
 {}
-

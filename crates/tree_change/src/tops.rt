@@ -31,11 +31,13 @@ pub(crate) fn change_chunks<D: Disk, L>(
     let now = chunk_root(sides.is.sup);
     let made = change_tree(alloc, disk, sides, steps, Some(before), &now)?;
     let map = merge_chunks(alloc, sides.was.map, &made.old_items, &made.new_items)?;
-    if let Some(found) = map.map_fault(sides.is.map, sides.is.sup.devid, sides.is.end) {
-        return Err(Halt::Found(found));
+    match map.map_fault(sides.is.map, sides.is.sup.devid, sides.is.end) {
+        Some(found) => Err(Halt::Found(found)),
+        None => {
+            all.add(made)?;
+            Ok(map)
+        }
     }
-    all.add(made)?;
-    Ok(map)
 }
 
 /// Where the new trees begin, by what changes in the root tree, which is put behind other parts.
