@@ -61,3 +61,42 @@ module _ {L : Type 0} (sides : Sides L) where
   chunks_found None made chunks before now first last finding a b tree merged some = tt
   chunks_found (Some image) made chunks before now first last finding a b tree merged some =
       inr (parts_by made tree.0, chunks, chunks_are made chunks before now image tree.0 a b tree.1 merged, some)
+
+  -- the same of the root tree
+  roots_are : (olds : List RootAt) (made : TreeParts) (roots : List RootAt) (before now : Expect) (image : List ℕ) (count : ℕ)
+      → before ≡ root_tree_root sides.was.sup.now → now ≡ root_tree_root sides.is.sup.now
+      → parts_in sides (Some before) now image ≡ Ok (parts_by made count)
+      → IsSortedOf named_before (roots_left olds (map located_item made.old_items.items) (map located_item made.new_items.items)) roots
+      → MakesRoots sides olds image (parts_by made count) roots
+  roots_are olds made roots before now image count a b tree merged = record {
+    tree = ap (λ e. parts_in sides (Some e) (root_tree_root sides.is.sup.now) image) (sym a) ∙ ap (λ e. parts_in sides (Some before) e image) (sym b) ∙ tree;
+    merged = merged;
+  }
+
+  pub roots_told : (told : Option (List ℕ)) (olds : List RootAt) (some all made : TreeParts) (roots : List RootAt) (before now : Expect) (first last : ℕ)
+      → before ≡ root_tree_root sides.was.sup.now → now ≡ root_tree_root sides.is.sup.now
+      → IfSome told (IsMade before now made first last)
+      → IsSortedOf named_before (roots_left olds (map located_item made.old_items.items) (map located_item made.new_items.items)) roots
+      → RootsJudged sides.is.sup.now.compat_ro roots (Ok (tt {0}))
+      → ((count other : ℕ) → parts_by all (count + other) ≡ with_parts (parts_by some count) (parts_by made other))
+      → IfSome told (λ image. (parts : Parts) × MakesRoots sides olds image parts roots
+      × RootsJudged sides.is.sup.now.compat_ro roots (Ok (tt {0})) × IsAdded some all parts first last)
+  roots_told None olds some all made roots before now first last a b tree merged judged behind = tt
+  roots_told (Some image) olds some all made roots before now first last a b tree merged judged behind = (
+    parts_by made tree.0,
+    roots_are olds made roots before now image tree.0 a b tree.1 merged,
+    judged,
+    record { behind = λ count. behind count tree.0; reads = tree.2 },
+  )
+
+  pub roots_found : (told : Option (List ℕ)) (olds : List RootAt) (made : TreeParts) (roots : List RootAt) (before now : Expect) (first last : ℕ)
+      (finding : Finding) → before ≡ root_tree_root sides.was.sup.now → now ≡ root_tree_root sides.is.sup.now
+      → IfSome told (IsMade before now made first last)
+      → IsSortedOf named_before (roots_left olds (map located_item made.old_items.items) (map located_item made.new_items.items)) roots
+      → RootsJudged sides.is.sup.now.compat_ro roots (Err finding)
+      → IfSome told (λ image. (parts_in sides (Some (root_tree_root sides.was.sup.now)) (root_tree_root sides.is.sup.now) image ≡ Err finding)
+      ⊎ ((parts : Parts) × (roots : List RootAt) × MakesRoots sides olds image parts roots
+      × RootsJudged sides.is.sup.now.compat_ro roots (Err finding)))
+  roots_found None olds made roots before now first last finding a b tree merged judged = tt
+  roots_found (Some image) olds made roots before now first last finding a b tree merged judged =
+      inr (parts_by made tree.0, roots, roots_are olds made roots before now image tree.0 a b tree.1 merged, judged)

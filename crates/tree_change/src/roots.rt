@@ -1,6 +1,6 @@
 //! Where trees begin, and the rules on the list of root items.
 
-ghost use Rattle.std.specs.Prelude.{◌≡◌, ℕ, List, [], map, is_some, None, Ok, IfOk, OnOk};
+ghost use Rattle.std.specs.Prelude.{◌≡◌, ℕ, List, [], map, false, is_some, None, Ok, IfOk, OnOk};
 ghost use Rattle.std.specs.List.{list_any};
 ghost use Rattle.verdict.specs.Rules.{finding_or, first_failing};
 ghost use Rattle.volume_items.specs.declared.root.RootItem.{RootItem};
@@ -11,7 +11,7 @@ ghost use Rattle.records.specs.Contents.{
   roots_fault,
   roots_finding,
 };
-ghost use Rattle.block_source.specs.Gives.{IsOutcome};
+ghost use Rattle.block_source.specs.Gives.{IsOutcome, is_disk_halt};
 ghost use Rattle.tree_change.specs.Merging.{root_at};
 ghost use Rattle.tree_change.specs.AllTrees.{has_id, named_at, root_named};
 ghost use Rattle.tree_change.specs.Roots.{missing_in, named_in, repeated_in, with_named};
@@ -138,8 +138,9 @@ impl Ids {
 /// and 7, and for 11 where the block groups have a tree of their own (X2).
 #[tactic(auto, using(crate::proofs::RootRules::fault_is))]
 pub(crate) fn check_roots(alloc: Global, compat_ro: u64, roots: &[RootAt]) -> Result<(), Halt>
-    ensures { (items : List RootItem) → roots.now ≡ map root_at items
+    ensures judged { (items : List RootItem) → roots.now ≡ map root_at items
         → IsOutcome result (finding_or (roots_fault compat_ro items) (tt {0})) }
+    ensures calm { is_disk_halt result ≡ false }
 {
     if let Some(found) = repeated(alloc, roots)? {
         return Err(Halt::Found(found));
