@@ -19,7 +19,7 @@ use live_index::{Live, LiveIndex};
 use node_reader::Expect;
 use recon_disk::{Disk, Steps};
 use records::ItemAt;
-use std::alloc::Global;
+use std::alloc::{AllocError, Global};
 use volume_items::RootAt;
 
 /// What changes in trees: the pairs that are not shared, the shared ones that are shifted, and the items of the first.
@@ -65,7 +65,7 @@ impl TreeParts {
     }
 
     /// Puts what changes in other trees behind it.
-    pub(crate) fn add(&mut self, more: TreeParts) -> Result<(), Halt>
+    pub(crate) fn add(&mut self, more: TreeParts) -> Result<(), AllocError>
         ensures { OnOk result ((count other : ℕ) →
             parts_by self.new (count + other) ≡ with_parts (parts_by self.old count) (parts_by more other)) }
     {
