@@ -1,6 +1,6 @@
 -- What changes in trees, put behind one another.
 use Rattle.std.proofs.Common.{◌≡◌, ℕ, ◌+◌, ◌*◌, ◌<◌, ◌≤◌, List, [], ◌∷◌, ◌++◌, length, map, drop, get_or, Option, Some, None, Ok, Err, refl, ap, sym, ◌∙◌, subst, arith, true, false, Bool}
-use Rattle.std.specs.Prelude.{IfSome, Result, is_some, if◌then◌else◌, not}
+use Rattle.std.specs.Prelude.{IfSome, Result, is_some, if◌then◌else◌, ◌||◌}
 use Rattle.std.specs.List.{list_any}
 use Rattle.std.specs.Ordering.{nat_cmp}
 use Rattle.std.specs.FinMap.{FinMap, empty}
@@ -36,7 +36,7 @@ parts_same {a} {a'} {b} {b'} {c} {c'} {d} {d'} {e} {e'} {n} {n'} sa sb sc sd se 
 
 -- no parts before others or behind them
 none_before : (some : Parts) → with_parts no_parts some ≡ some
-none_before some = refl
+none_before some = parts_same refl refl refl refl refl (omega arith)
 
 none_behind : (some : Parts) → with_parts some no_parts ≡ some
 none_behind some =
@@ -105,15 +105,15 @@ pub so_more : (told : Option (List ℕ)) (some all next made : TreeParts) (befor
 so_more None some all next made before now after here rest left whole so step tells puts = tt
 so_more (Some image) some all next made before now after here rest left whole so step tells puts =
     (with_parts so.0 (parts_by made tells.0),
-    so.1.0 ∙ ap (behind_parts so.0) (step image ∙ ap (λ first. then_parts first (left image)) tells.1.0)
+    so.1 ∙ ap (behind_parts so.0) (step image ∙ ap (λ first. then_parts first (left image)) tells.1)
     ∙ behind_behind so.0 (parts_by made tells.0) (left image),
-    added_more some all next made so.0 tells.0 before now after so.1.1 puts tells.1.1)
+    added_more some all next made so.0 tells.0 before now after so.2 puts tells.2)
 
 -- where nothing is here, what is left stays
 pub so_past : (told : Option (List ℕ)) (some all : TreeParts) (before now : ℕ) (rest left whole : List ℕ → Result Parts Finding)
     → So told some all before now rest whole → ((image : List ℕ) → rest image ≡ left image) → So told some all before now left whole
 so_past None some all before now rest left whole so same = tt
-so_past (Some image) some all before now rest left whole so same = (so.0, so.1.0 ∙ ap (behind_parts so.0) (same image), so.1.1)
+so_past (Some image) some all before now rest left whole so same = (so.0, so.1 ∙ ap (behind_parts so.0) (same image), so.2)
 
 -- at last nothing is left
 pub so_done : (told : Option (List ℕ)) (some all : TreeParts) (before now : ℕ) (rest whole : List ℕ → Result Parts Finding)
@@ -121,7 +121,7 @@ pub so_done : (told : Option (List ℕ)) (some all : TreeParts) (before now : �
     → IfSome told (λ image. (more : Parts) × (whole image ≡ Ok more) × IsAdded some all more before now)
 so_done None some all before now rest whole so none = tt
 so_done (Some image) some all before now rest whole so none =
-    (so.0, so.1.0 ∙ ap (behind_parts so.0) (none image) ∙ ap Ok (none_behind so.0), so.1.1)
+    (so.0, so.1 ∙ ap (behind_parts so.0) (none image) ∙ ap Ok (none_behind so.0), so.2)
 
 -- a step that stops, stops with the finding of the whole
 pub so_halts : {D A : Type 0} (disk : Ghosts D) (first now after : D) (some all other : TreeParts) (here rest left whole : List ℕ → Result Parts Finding)
@@ -136,7 +136,7 @@ so_halts {D} {A} disk first now after some all other here rest left whole halt r
         → IfSome told (λ image. here image ≡ Err finding) → IfSome told (λ image. whole image ≡ Err finding)
     at finding None so found = tt
     at finding (Some image) so found =
-        so.1.0 ∙ ap (behind_parts so.0) (step image ∙ ap (λ f. then_parts f (left image)) found)
+        so.1 ∙ ap (behind_parts so.0) (step image ∙ ap (λ f. then_parts f (left image)) found)
 
     by : (h : Halt) → TellsParts disk now after (Err h) here → AddsParts {A = A} disk first after some other (Err h) whole
     by (Found finding) tells =
@@ -164,6 +164,34 @@ named_any [] id = refl
 named_any (root ∷ roots) id = by (has_id id root) (named_any roots id)
   where
     by : (b : Bool) → is_some (root_named roots id) ≡ list_any (has_id id) roots
-        → is_some (if b then Some (named_at root) else root_named roots id) ≡ (if b then true else list_any (has_id id) roots)
+        → is_some (if b then Some (named_at root) else root_named roots id) ≡ (b || list_any (has_id id) roots)
     by true more = refl
     by false more = more
+
+pub named_has : (named : Option Expect) (roots : List RootAt) (id : ℕ) (has b : Bool) → named ≡ root_named roots id → has ≡ is_some named → has ≡ b
+    → list_any (has_id id) roots ≡ b
+named_has named roots id has b is so same = sym (named_any roots id) ∙ ap is_some (sym is) ∙ sym so ∙ same
+
+-- a place of the list of trees that were, where one is gone and where it is not, and its end
+pub gone_step : {L : Type 0} (sides : Sides L) (news olds : List RootAt) (i : ℕ) (d : RootAt) (before : Expect) → i < length olds
+    → list_any (has_id (get_or olds i d).key.objectid) news ≡ false → before ≡ named_at (get_or olds i d) → (image : List ℕ)
+    → gone_parts_in sides news (drop i olds) image ≡ then_parts (gone_in sides before image) (gone_parts_in sides news (drop (i + 1) olds) image)
+unfolding gone_all
+gone_step sides news olds i d before inside none is image =
+    ap (λ roots. gone_parts_in sides news roots image) (drop_more olds i d inside)
+    ∙ ap (λ b. if b then gone_parts_in sides news (drop (i + 1) olds) image
+    else then_parts (gone_in sides (named_at (get_or olds i d)) image) (gone_parts_in sides news (drop (i + 1) olds) image)) none
+    ∙ ap (λ e. then_parts (gone_in sides e image) (gone_parts_in sides news (drop (i + 1) olds) image)) (sym is)
+
+pub gone_past : {L : Type 0} (sides : Sides L) (news olds : List RootAt) (i : ℕ) (d : RootAt) → i < length olds
+    → list_any (has_id (get_or olds i d).key.objectid) news ≡ true → (image : List ℕ)
+    → gone_parts_in sides news (drop i olds) image ≡ gone_parts_in sides news (drop (i + 1) olds) image
+unfolding gone_all
+gone_past sides news olds i d inside some image =
+    ap (λ roots. gone_parts_in sides news roots image) (drop_more olds i d inside)
+    ∙ ap (λ b. if b then gone_parts_in sides news (drop (i + 1) olds) image
+    else then_parts (gone_in sides (named_at (get_or olds i d)) image) (gone_parts_in sides news (drop (i + 1) olds) image)) some
+
+pub gone_none : {L : Type 0} (sides : Sides L) (news olds : List RootAt) → olds ≡ [] → (image : List ℕ) → gone_parts_in sides news olds image ≡ Ok no_parts
+unfolding gone_all
+gone_none sides news olds none image = ap (λ roots. gone_parts_in sides news roots image) none
