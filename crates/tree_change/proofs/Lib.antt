@@ -10,6 +10,7 @@ pub mod Whole
 pub mod Leaving
 pub mod RootRules
 pub mod Naming
+pub mod Adding
 pub mod OneWalked
 pub mod OneKept
 pub mod OneNew
