@@ -93,7 +93,7 @@ added_more : (some all next made : TreeParts) (more : Parts) (other before now a
     → IsAdded some next (with_parts more (parts_by made other)) before after
 added_more some all next made more other before now after added puts few = record {
   behind = λ count. ap (parts_by next) (omega arith) ∙ puts (count + more.count) other
-  ∙ ap (λ p. with_parts p (parts_by made other)) (added.behind count) ∙ with_with (parts_by some count) more (parts_by made other);
+      ∙ ap (λ p. with_parts p (parts_by made other)) (added.behind count) ∙ with_with (parts_by some count) more (parts_by made other);
   reads = omega (arith, added.reads, few);
 }
 
@@ -103,11 +103,12 @@ pub so_more : (told : Option (List ℕ)) (some all next made : TreeParts) (befor
     → ((count other : ℕ) → parts_by next (count + other) ≡ with_parts (parts_by all count) (parts_by made other))
     → So told some next before after left whole
 so_more None some all next made before now after here rest left whole so step tells puts = tt
-so_more (Some image) some all next made before now after here rest left whole so step tells puts =
-    (with_parts so.0 (parts_by made tells.0),
-    so.1 ∙ ap (behind_parts so.0) (step image ∙ ap (λ first. then_parts first (left image)) tells.1)
-    ∙ behind_behind so.0 (parts_by made tells.0) (left image),
-    added_more some all next made so.0 tells.0 before now after so.2 puts tells.2)
+so_more (Some image) some all next made before now after here rest left whole so step tells puts = (
+  with_parts so.0 (parts_by made tells.0),
+  so.1 ∙ ap (behind_parts so.0) (step image ∙ ap (λ first. then_parts first (left image)) tells.1)
+      ∙ behind_behind so.0 (parts_by made tells.0) (left image),
+  added_more some all next made so.0 tells.0 before now after so.2 puts tells.2,
+)
 
 -- where nothing is here, what is left stays
 pub so_past : (told : Option (List ℕ)) (some all : TreeParts) (before now : ℕ) (rest left whole : List ℕ → Result Parts Finding)

@@ -26,6 +26,7 @@ use Rattle.shared_trees.proofs.Rooted.{step_ok}
 use Rattle.shared_trees.proofs.Treed.{has_trees, steps_of}
 use Rattle.tree_change.specs.Change.{BasesStand}
 use Rattle.tree_change.specs.Merging.{root_at}
+use Rattle.tree_change.specs.Compared.{IsBased}
 
 -- where a chunk map is given, the walk of the chunk tree has no finding
 pub chunks_walk : (sup : Super) (array chunks : List Chunk) (image : List ℕ) → chunk_map_in sup array image ≡ Ok chunks
@@ -95,20 +96,7 @@ module _ (judged : List ℕ) (fresh : Super) (super_is : superblock_in judged �
             let all = all_fine records fine in
             (all.0, rw (super_is, array_is, chunks_are, items, all.1) refl)
 
--- What is known of an image for which the bases stand: its walks have no finding, and what is known is what they give.
-pub record IsBased (image : List ℕ) (sup : Super) (chunks : List Chunk) (roots : List RootAt) (pairs : Pairs) : Type 0 where
-  pub old : Walked
-  pub walks : walked image ≡ Ok old
-  pub super_is : sup ≡ old.sup
-  pub chunks_are : chunks ≡ old.chunks
-  pub array : List Chunk
-  pub array_is : array_chunks (array_place old.sup) old.sup.array old.sup.array_size ≡ Ok array
-  pub olds : List RootItem
-  pub items : root_items_in old.sup old.chunks image ≡ Ok olds
-  pub roots_are : roots ≡ map root_at olds
-  pub pairs_are : (tree address : ℕ) → pairs tree address ≡ table_of (live_in old.seen) tree address
-  pub has : HasTrees image old (trees_in old.sup old.chunks old.chunks olds image)
-
+-- what is known of an image for which the bases stand
 pub bases_are : (image : List ℕ) (sup : Super) (chunks : List Chunk) (roots : List RootAt) (sum_free : ℕ → ℕ → Bool) (pairs : Pairs)
     → BasesStand image sup chunks roots sum_free pairs → IsBased image sup chunks roots pairs
 unfolding contents

@@ -10,3 +10,4 @@ pub mod Roots
 pub mod Making
 pub mod Merges
 pub mod Distinct
+pub mod Compared

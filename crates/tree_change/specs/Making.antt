@@ -119,3 +119,32 @@ TellsRoots disk old new some all sides olds (Err other) = Unit {0}
 TellsRoots disk old new some all sides olds (Ok roots) = IfSome (disk.bytes old) (λ image.
     (parts : Parts) × MakesRoots sides olds image parts roots × RootsJudged sides.is.sup.now.compat_ro roots (Ok (tt {0}))
     × IsAdded some all parts (disk.reads old) (disk.reads new))
+
+-- what changes in the root tree, in the trees that are named now, and in those that are gone
+pub record MakesOthers {L : Type 0} (sides : Sides L) (olds : List RootAt) (image : List ℕ) (parts : Parts) : Type 0 where
+  pub roots : List RootAt
+  pub root_parts : Parts
+  pub named : Parts
+  pub gone : Parts
+  pub makes : MakesRoots sides olds image root_parts roots
+  pub judged : RootsJudged sides.is.sup.now.compat_ro roots (Ok (tt {0}))
+  pub named_are : named_parts_in sides olds roots image ≡ Ok named
+  pub gone_are : gone_parts_in sides roots olds image ≡ Ok gone
+  pub all : parts ≡ with_parts root_parts (with_parts named gone)
+
+-- the first finding of these: of the root tree's walk, of the rules on its items, of a tree that is named now, or of one that is gone
+pub data FindsOthers {L : Type 0} (sides : Sides L) (olds : List RootAt) (image : List ℕ) (finding : Finding) : Type 0 where
+  InTree : parts_in sides (Some (root_tree_root sides.was.sup.now)) (root_tree_root sides.is.sup.now) image ≡ Err finding
+      → FindsOthers sides olds image finding
+  InItems : (parts : Parts) (roots : List RootAt) → MakesRoots sides olds image parts roots → RootsJudged sides.is.sup.now.compat_ro roots (Err finding)
+      → FindsOthers sides olds image finding
+  InNamed : (parts : Parts) (roots : List RootAt) → MakesRoots sides olds image parts roots → RootsJudged sides.is.sup.now.compat_ro roots (Ok (tt {0}))
+      → named_parts_in sides olds roots image ≡ Err finding → FindsOthers sides olds image finding
+  InGone : (roots : List RootAt) → gone_parts_in sides roots olds image ≡ Err finding → FindsOthers sides olds image finding
+
+-- a step puts what changes in these behind other parts; or it has the finding
+abbrev pub TellsOthers : {D A L : Type 0} → (disk : Ghosts D) → D → D → TreeParts → TreeParts → Sides L → List RootAt → Result A Halt → Type 0
+TellsOthers disk old new some all sides olds (Err (Found finding)) = IfSome (disk.bytes old) (λ image. FindsOthers sides olds image finding)
+TellsOthers disk old new some all sides olds (Err other) = Unit {0}
+TellsOthers disk old new some all sides olds (Ok done) = IfSome (disk.bytes old) (λ image.
+    (parts : Parts) × MakesOthers sides olds image parts × IsAdded some all parts (disk.reads old) (disk.reads new))

@@ -2,6 +2,7 @@
 #![tactic(auto)]
 
 mod change;
+mod compared;
 mod distinct;
 mod gather;
 mod laws;

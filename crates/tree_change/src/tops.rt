@@ -3,11 +3,11 @@
 ghost use Rattle.recon_disk.specs.Keeping.{Kept};
 ghost use Rattle.block_source.specs.Gives.{is_disk_halt};
 ghost use Rattle.block_source.specs.Takes.{handing};
-ghost use Rattle.tree_change.specs.Making.{FitSides, TellsChunks, TellsRoots};
+ghost use Rattle.tree_change.specs.Making.{FitSides, TellsChunks, TellsOthers, TellsRoots};
 
 use crate::merge::{merge_chunks, merge_roots};
 use crate::roots::{check_roots, chunk_root, top_root};
-use crate::trees::{Sides, TreeParts, change_tree};
+use crate::trees::{Sides, TreeParts, change_all_gone, change_named, change_tree};
 use block_source::Halt;
 use chunk_map::ChunkMap;
 use recon_disk::{Disk, Steps};
@@ -60,4 +60,22 @@ pub(crate) fn change_roots<D: Disk, L>(
     check_roots(alloc, sides.is.sup.compat_ro, &roots)?;
     all.add(made)?;
     Ok(roots)
+}
+
+/// Puts what changes in the root tree, in the trees that are named now and in those that are gone behind other parts.
+pub(crate) fn change_others<D: Disk, L>(
+    alloc: Global,
+    disk: &mut D,
+    sides: &Sides<'_, L>,
+    steps: &mut Steps<L>,
+    olds: &[RootAt],
+    all: &mut TreeParts,
+) -> Result<(), Halt>
+    requires fit { FitSides sides.now (D.len disk.old) }
+    ensures tells { TellsOthers D.Disk disk.old disk.new all.old all.new sides.now olds.now result }
+    ensures kept { Kept D.Disk disk.old disk.new (is_disk_halt result) }
+{
+    let roots = change_roots(alloc, disk, sides, steps, olds, all)?;
+    change_named(alloc, disk, sides, steps, olds, &roots, all)?;
+    change_all_gone(alloc, disk, sides, steps, &roots, olds, all)
 }
