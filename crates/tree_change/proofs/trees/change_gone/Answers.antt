@@ -5,7 +5,8 @@ use Rattle.tree_change.proofs.trees.change_gone.Goals as goal
 
 pub returns-in_err-old-clause-tells : goal.returns-in_err-old-clause-tells
 returns-in_err-old-clause-tells g c =
-    gone_halts g.D.Disk c.args.disk.now _ c.args.sides.now c.args.before.now c.in_err-old.field-0.0 _ (search rules) c.requires.fit.none c.in_err-old.ensures.gives
+    gone_halts g.D.Disk c.args.disk.now _ c.args.sides.now c.args.before.now c.in_err-old.field-0.0 _ (search rules)
+    c.requires.fit.none c.in_err-old.ensures.gives
 
 pub returns-clause-tells : goal.returns-clause-tells
 returns-clause-tells g c =
