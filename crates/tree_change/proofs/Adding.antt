@@ -1,21 +1,16 @@
 -- What changes in trees, put behind one another.
-use Rattle.std.proofs.Common.{◌≡◌, ℕ, ◌+◌, ◌*◌, ◌<◌, ◌≤◌, List, [], ◌∷◌, ◌++◌, length, map, drop, get_or, Option, Some, None, Ok, Err, refl, ap, sym, ◌∙◌, subst, arith, true, false, Bool}
+use Rattle.std.proofs.Common.{◌≡◌, ℕ, ◌+◌, ◌*◌, ◌<◌, ◌≤◌, List, [], ◌∷◌, length, drop, get_or, Option, Some, None, Ok, Err, refl, ap, sym, ◌∙◌, subst, arith, true, false, Bool}
 use Rattle.std.specs.Prelude.{IfSome, Result, is_some, if◌then◌else◌, ◌||◌}
 use Rattle.std.specs.List.{list_any}
-use Rattle.std.specs.Ordering.{nat_cmp}
-use Rattle.std.specs.FinMap.{FinMap, empty}
 use Rattle.std.proofs.lemmas.List.{append_assoc, append-nil, drop_more}
 use Rattle.verdict.specs.Rules.{and_then}
 use Rattle.verdict.specs.declared.finding.Finding.{Finding}
 use Rattle.recon_disk.specs.Keeping.{Kept}
 use Rattle.recon_disk.specs.declared.disk.Disk.{Ghosts}
-use Rattle.write_cache.specs.Cache.{overlaid}
-use Rattle.live_index.specs.Table.{pairs_of}
 use Rattle.live_index.specs.declared.live.Live.{Live}
 use Rattle.node_reader.specs.declared.expect.Expect.{Expect}
 use Rattle.volume_items.specs.declared.root_at.RootAt.{RootAt}
 use Rattle.records.specs.Part.{Located}
-use Rattle.block_source.specs.Gives.{Gives}
 use Rattle.block_source.specs.declared.halt.Halt.{Halt}
 use Rattle.block_source.specs.declared.halt.Halt.TheVariants.{Found, Disk, NoMemory}
 use Rattle.tree_change.specs.AllTrees.{gone_all, has_id, named_at, named_parts, no_parts, root_named, with_parts}
@@ -28,7 +23,8 @@ use Rattle.tree_change.specs.declared.trees.TreeParts.{TreeParts}
 abbrev made_of : List Live → List Live → List Live → List Located → List Located → ℕ → Parts
 made_of a b c d e n = record { old_blocks = a; new_blocks = b; moved = c; old_items = d; new_items = e; count = n }
 
-parts_same : {a a' b b' c c' : List Live} {d d' e e' : List Located} {n n' : ℕ} → a ≡ a' → b ≡ b' → c ≡ c' → d ≡ d' → e ≡ e' → n ≡ n'
+-- parts that hold the same are the same
+pub parts_same : {a a' b b' c c' : List Live} {d d' e e' : List Located} {n n' : ℕ} → a ≡ a' → b ≡ b' → c ≡ c' → d ≡ d' → e ≡ e' → n ≡ n'
     → made_of a b c d e n ≡ made_of a' b' c' d' e' n'
 parts_same {a} {a'} {b} {b'} {c} {c'} {d} {d'} {e} {e'} {n} {n'} sa sb sc sd se sn =
     ap (λ x. made_of x b c d e n) sa ∙ ap (λ x. made_of a' x c d e n) sb ∙ ap (λ x. made_of a' b' x d e n) sc
@@ -72,7 +68,8 @@ abbrev pub So : Option (List ℕ) → TreeParts → TreeParts → ℕ → ℕ �
 So told some all before now rest whole =
     IfSome told (λ image. (more : Parts) × (whole image ≡ behind_parts more (rest image)) × IsAdded some all more before now)
 
-pub record PartsSoFar {D : Type 0} (disk : Ghosts D) (first now : D) (some all : TreeParts) (rest whole : List ℕ → Result Parts Finding) : Type 0 where
+pub record PartsSoFar {D : Type 0} (disk : Ghosts D) (first now : D) (some all : TreeParts)
+    (rest whole : List ℕ → Result Parts Finding) : Type 0 where
   pub kept : Kept disk first now false
   pub so : So (disk.bytes first) some all (disk.reads first) (disk.reads now) rest whole
 
@@ -83,7 +80,8 @@ added_none all reads = record {
   reads = omega arith;
 }
 
-pub so_first : (told : Option (List ℕ)) (all : TreeParts) (reads : ℕ) (whole : List ℕ → Result Parts Finding) → So told all all reads reads whole whole
+pub so_first : (told : Option (List ℕ)) (all : TreeParts) (reads : ℕ) (whole : List ℕ → Result Parts Finding)
+    → So told all all reads reads whole whole
 so_first None all reads whole = tt
 so_first (Some image) all reads whole = (no_parts, behind_none (whole image), added_none all reads)
 
@@ -125,8 +123,8 @@ so_done (Some image) some all before now rest whole so none =
     (so.0, so.1 ∙ ap (behind_parts so.0) (none image) ∙ ap Ok (none_behind so.0), so.2)
 
 -- a step that stops, stops with the finding of the whole
-pub so_halts : {D A : Type 0} (disk : Ghosts D) (first now after : D) (some all other : TreeParts) (here rest left whole : List ℕ → Result Parts Finding)
-    (halt : Halt) (result : Result A Halt)
+pub so_halts : {D A : Type 0} (disk : Ghosts D) (first now after : D) (some all other : TreeParts)
+    (here rest left whole : List ℕ → Result Parts Finding) (halt : Halt) (result : Result A Halt)
     → result ≡ Err halt → PartsSoFar disk first now some all rest whole
     → ((image : List ℕ) → rest image ≡ then_parts (here image) (left image))
     → TellsParts disk now after (Err halt) here → AddsParts {A = A} disk first after some other result whole
@@ -146,16 +144,18 @@ so_halts {D} {A} disk first now after some all other here rest left whole halt r
     by NoMemory tells = tt
 
 -- a place of the list of trees that are named now, and its end
-pub named_step : {L : Type 0} (sides : Sides L) (olds news : List RootAt) (i : ℕ) (d : RootAt) (before : Option Expect) (now : Expect) → i < length news
-    → before ≡ root_named olds (get_or news i d).key.objectid → now ≡ named_at (get_or news i d) → (image : List ℕ)
-    → named_parts_in sides olds (drop i news) image ≡ then_parts (parts_in sides before now image) (named_parts_in sides olds (drop (i + 1) news) image)
+pub named_step : {L : Type 0} (sides : Sides L) (olds news : List RootAt) (i : ℕ) (d : RootAt) (before : Option Expect) (now : Expect)
+    → i < length news → before ≡ root_named olds (get_or news i d).key.objectid → now ≡ named_at (get_or news i d) → (image : List ℕ)
+    → named_parts_in sides olds (drop i news) image
+    ≡ then_parts (parts_in sides before now image) (named_parts_in sides olds (drop (i + 1) news) image)
 unfolding named_parts
 named_step sides olds news i d before now inside is_before is_now image =
     ap (λ roots. named_parts_in sides olds roots image) (drop_more news i d inside)
     ∙ ap (λ e. then_parts (parts_in sides e (named_at (get_or news i d)) image) (named_parts_in sides olds (drop (i + 1) news) image)) (sym is_before)
     ∙ ap (λ e. then_parts (parts_in sides before e image) (named_parts_in sides olds (drop (i + 1) news) image)) (sym is_now)
 
-pub named_none : {L : Type 0} (sides : Sides L) (olds news : List RootAt) → news ≡ [] → (image : List ℕ) → named_parts_in sides olds news image ≡ Ok no_parts
+pub named_none : {L : Type 0} (sides : Sides L) (olds news : List RootAt) → news ≡ [] → (image : List ℕ)
+    → named_parts_in sides olds news image ≡ Ok no_parts
 unfolding named_parts
 named_none sides olds news none image = ap (λ roots. named_parts_in sides olds roots image) none
 
@@ -193,6 +193,7 @@ gone_past sides news olds i d inside some image =
     ∙ ap (λ b. if b then gone_parts_in sides news (drop (i + 1) olds) image
     else then_parts (gone_in sides (named_at (get_or olds i d)) image) (gone_parts_in sides news (drop (i + 1) olds) image)) some
 
-pub gone_none : {L : Type 0} (sides : Sides L) (news olds : List RootAt) → olds ≡ [] → (image : List ℕ) → gone_parts_in sides news olds image ≡ Ok no_parts
+pub gone_none : {L : Type 0} (sides : Sides L) (news olds : List RootAt) → olds ≡ [] → (image : List ℕ)
+    → gone_parts_in sides news olds image ≡ Ok no_parts
 unfolding gone_all
 gone_none sides news olds none image = ap (λ roots. gone_parts_in sides news roots image) none

@@ -11,6 +11,7 @@ pub mod Leaving
 pub mod RootRules
 pub mod Naming
 pub mod Adding
+pub mod Vanishing
 pub mod OneWalked
 pub mod OneKept
 pub mod OneNew

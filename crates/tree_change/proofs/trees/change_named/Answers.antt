@@ -1,4 +1,4 @@
-use Rattle.std.proofs.Common.{rules, ◌∙◌, ◌+◌, ap, drop, get_or, sym}
+use Rattle.std.proofs.Common.{rules, ◌∙◌, ◌+◌, drop}
 use Rattle.std.proofs.lemmas.List.{drop_all}
 use Rattle.tree_change.specs.Making.{named_parts_in, parts_in}
 use Rattle.tree_change.proofs.Adding.{named_none, named_step, so_done, so_first, so_halts, so_more}
@@ -27,7 +27,8 @@ loop-root-preserved g c =
     record {
       kept = search rules;
       so = so_more (g.D.Disk.bytes c.args.disk.now) c.args.all.now c.loop-root.all c.add.new.self c.in_ok-made.made
-          (g.D.Disk.reads c.args.disk.now) (g.D.Disk.reads c.loop-root.disk) (g.D.Disk.reads c.change_tree.new.disk) (parts_in sides c.root_of.result c.named_at.result)
+          (g.D.Disk.reads c.args.disk.now) (g.D.Disk.reads c.loop-root.disk) (g.D.Disk.reads c.change_tree.new.disk)
+          (parts_in sides c.root_of.result c.named_at.result)
           (named_parts_in sides olds (drop i c.args.news.now)) (named_parts_in sides olds (drop (i + 1) c.args.news.now))
           (named_parts_in sides olds c.args.news.now) c.loop-root.invariant.so
           (named_step sides olds c.args.news.now i _ _ _ c.loop-root-test.true (c.root_of.ensures ∙ c.in_ok-ids.ensures _) c.named_at.ensures)
@@ -37,4 +38,5 @@ loop-root-preserved g c =
 pub returns-clause-adds : goal.returns-clause-adds
 returns-clause-adds g c =
     so_done (g.D.Disk.bytes c.args.disk.now) _ _ _ _ _ _ c.loop-root.invariant.so
-    (named_none c.args.sides.now c.args.olds.now (drop c.loop-root.root-index c.args.news.now) (drop_all c.loop-root.root-index c.args.news.now (search rules)))
+    (named_none c.args.sides.now c.args.olds.now (drop c.loop-root.root-index c.args.news.now)
+    (drop_all c.loop-root.root-index c.args.news.now (search rules)))
