@@ -7,6 +7,7 @@ ghost use Rattle.volume_items.specs.SystemArray.{array_chunks};
 ghost use Rattle.block_source.specs.Gives.{IsOutcome, is_disk_halt};
 ghost use Rattle.tree_change.specs.Compared.{FitsCompared, TellsMap, TellsRest};
 
+use crate::array::{lie_apart, refuse_map};
 use crate::distinct::distinct_chunks;
 use crate::tops::{change_chunks, change_others};
 use crate::trees::{Sides, TreeParts};
@@ -55,9 +56,18 @@ pub(crate) fn change_map<D: Disk, L>(
     ensures tells { TellsMap D.Disk disk.old disk.new all.old all.new both.now array.now result }
     ensures kept { Kept D.Disk disk.old disk.new (is_disk_halt result) }
 {
+    let (nodesize, end) = (both.was.sup.nodesize, both.was.end);
+    let is = BlockSource {
+        cache: both.cache,
+        map: array,
+        sup: both.fresh,
+        end,
+    };
+    if !lie_apart(array) {
+        return refuse_map(alloc, disk, &is);
+    }
     let old_array = system_chunks(alloc, both.was.sup)?;
     let some = distinct_chunks(alloc, array)?;
-    let (nodesize, end) = (both.was.sup.nodesize, both.was.end);
     let moving = moved_pairs(alloc, both.kept, &old_array, &some, nodesize, end, steps)?;
     let starts = Starts::listed(alloc, both.kept, &moving, steps)?;
     let moves = Move {
@@ -68,12 +78,7 @@ pub(crate) fn change_map<D: Disk, L>(
     };
     let sides = Sides {
         was: both.was,
-        is: BlockSource {
-            cache: both.cache,
-            map: array,
-            sup: both.fresh,
-            end,
-        },
+        is,
         table: both.table,
         known: KnownTrees {
             table: both.kept,

@@ -1,6 +1,7 @@
 //! What changes between the trees of two images.
 #![tactic(auto)]
 
+mod array;
 mod change;
 mod compared;
 mod distinct;
