@@ -1,6 +1,6 @@
 -- What the two steps of a comparison make is what changes from the one image to the other; and their first finding is that of what the new
 -- image holds.
-use Rattle.std.proofs.Common.{◌≡◌, ℕ, ◌+◌, List, length, ◌⊎◌, inl, inr, refl, sym, subst, ◌∙◌}
+use Rattle.std.proofs.Common.{◌≡◌, ℕ, ◌+◌, List, length, inl, inr, refl, sym, subst, ◌∙◌}
 use Rattle.std.specs.Prelude.{Ok, Err, map}
 use Rattle.std.specs.List.Sorted.{IsPermutation}
 use Rattle.verdict.specs.declared.finding.Finding.{Finding}
@@ -8,8 +8,7 @@ use Rattle.verdict.specs.declared.place.Chunk.{Chunk}
 use Rattle.live_index.specs.Table.{pairs_of}
 use Rattle.super_reader.specs.Superblock.{array_place}
 use Rattle.volume_items.specs.SystemArray.{array_chunks}
-use Rattle.volume_items.specs.declared.root.RootItem.{RootItem}
-use Rattle.records.specs.Contents.{chunk_map_in, contents, root_items_in, tree_records}
+use Rattle.records.specs.Contents.{chunk_map_in, contents}
 use Rattle.touched_pairs.specs.Touched.{written_in}
 use Rattle.shared_trees.specs.LivePairs.{Walked, walked}
 use Rattle.shared_trees.specs.Shared.{unshared_in}
@@ -52,8 +51,7 @@ all_changes both image is array chunks known tree_parts rest array_is m r =
       root_tree = r.root_tree;
       named_trees = r.named_trees;
       gone_trees = r.gone_trees;
-    }) in
-    (
+    }) in (
       new,
       step.1,
       refl,
@@ -76,8 +74,7 @@ change_is both image is array chunks known tree_parts rest change array_is m r o
     let old = is.based.old in
     let all = all_changes both image is array chunks known tree_parts rest array_is m r in
     let new = all.0 in
-    let written = written_in both.cache.now in
-    (
+    let written = written_in both.cache.now in (
       new,
       all.1,
       record {
