@@ -1,106 +1,13 @@
 -- A list that is sorted is the one that is in order.
-use Rattle.std.proofs.Common.{◌≡◌, ℕ, ◌<◌, ◌≤◌, Bool, true, false, ◌||◌, ◌&&◌, List, [], ◌∷◌, ◌⊎◌, inl, inr, length, refl, ap, sym, suc}
+use Rattle.std.proofs.Common.{◌≡◌, ℕ, ◌<◌, Bool, true, false, ◌||◌, ◌&&◌, List, [], ◌∷◌, ◌⊎◌, inl, inr, length, refl, ap, sym, suc}
 use Rattle.std.proofs.Common.{subst, ◌∙◌, arith, slice_index_or}
-use Rattle.std.proofs.lemmas.Bool.{cases_eq, cases_lt}
-use Rattle.std.proofs.lemmas.List.Edits.{Swapped, length-swap, swapped_from_swap}
 use Rattle.std.proofs.lemmas.List.Elements.{All-from_recursion, recursion_from_All}
-use Rattle.std.proofs.lemmas.List.Sorted.{All-permutation, IsPermutation-keeps, IsPermutation-sym, IsPermutation-trans}
-use Rattle.std.specs.List.{AllByRecursion, AllPairs, swap}
+use Rattle.std.proofs.lemmas.List.Sorted.{All-permutation, IsPermutation-sym, IsPermutation-trans}
+use Rattle.std.specs.List.{AllByRecursion, AllPairs}
 use Rattle.std.specs.List.Sorted.{IsPermutation}
 use Rattle.shared_trees.specs.MergedLaw.{IsInOrder}
 use Rattle.tree_change.specs.Merging.{IsSortedOf}
-
--- where the element of an exchanged list was
-abbrev From : ℕ → ℕ → ℕ → ℕ → Type 0
-From i j k m = ((k ≡ i) × (m ≡ j)) ⊎ (((k ≡ j) × (m ≡ i)) ⊎ ((k ≡ i → ⊥) × (k ≡ j → ⊥) × (m ≡ k)))
-
-from_apart : (i j k m u v : ℕ) → From i j k u → From i j m v → k < m → u ≡ v → ⊥
-from_apart i j k m u v (inl a) (inl b) less same = let x = a.0 in let y = b.0 in absurd (omega (arith, x, y))
-from_apart i j k m u v (inl a) (inr (inl b)) less same =
-    let x = a.0 in let y = b.0 in let z = a.1 in let w = b.1 in absurd (omega (arith, x, y, z, w))
-from_apart i j k m u v (inl a) (inr (inr b)) less same = b.1 (sym b.2 ∙ (sym same ∙ a.1))
-from_apart i j k m u v (inr (inl a)) (inl b) less same =
-    let x = a.0 in let y = b.0 in let z = a.1 in let w = b.1 in absurd (omega (arith, x, y, z, w))
-from_apart i j k m u v (inr (inl a)) (inr (inl b)) less same = let x = a.0 in let y = b.0 in absurd (omega (arith, x, y))
-from_apart i j k m u v (inr (inl a)) (inr (inr b)) less same = b.0 (sym b.2 ∙ (sym same ∙ a.1))
-from_apart i j k m u v (inr (inr a)) (inl b) less same = a.1 (sym a.2 ∙ (same ∙ b.1))
-from_apart i j k m u v (inr (inr a)) (inr (inl b)) less same = a.0 (sym a.2 ∙ (same ∙ b.1))
-from_apart i j k m u v (inr (inr a)) (inr (inr b)) less same = let x = a.2 in let y = b.2 in absurd (omega (arith, x, y))
-
-module _ {X : Type 0} where
-  source : (l : List X) (i j k : ℕ) (d : X) → i < length l → j < length l
-      → (m : ℕ) × (slice_index_or (swap l i j) k d ≡ slice_index_or l m d) × From i j k m
-  source [] i j k d p q = absurd (omega arith)
-  source (x ∷ l) i j k d p q = by (cases_eq k i) (cases_eq k j)
-    where
-      w : Swapped (λ n. slice_index_or (x ∷ l) n d) (λ n. slice_index_or (swap (x ∷ l) i j) n d) i j
-      w = swapped_from_swap (x ∷ l) (swap (x ∷ l) i j) i j d p q refl
-
-      by : (k ≡ i) ⊎ (k ≡ i → ⊥) → (k ≡ j) ⊎ (k ≡ j → ⊥)
-          → (m : ℕ) × (slice_index_or (swap (x ∷ l) i j) k d ≡ slice_index_or (x ∷ l) m d) × From i j k m
-      by (inl e) other = (j, ap (λ n. slice_index_or (swap (x ∷ l) i j) n d) e ∙ w.0, inl (e, refl))
-      by (inr a) (inl e) = (i, ap (λ n. slice_index_or (swap (x ∷ l) i j) n d) e ∙ w.1, inr (inl (e, refl)))
-      by (inr a) (inr b) = (k, w.2 k a b, inr (inr (a, b, refl)))
-
-module _ {X : Type 0} (R : X → X → Type 0) (turns : (a b : X) → R a b → R b a) where
-  -- what holds of any two of a list, in one order or the other, holds of any two of a list that has the same
-  swapped_pairs : (l : List X) (i j : ℕ) → i < length l → j < length l → AllPairs R l → AllPairs R (swap l i j)
-  swapped_pairs l i j p q all k m d less within =
-      let u = source l i j k d p q in
-      let v = source l i j m d p q in
-      let long = length-swap l i j in
-      by u.0 v.0 u.1 v.1 (inside k u.0 u.2 (omega (arith, long))) (inside m v.0 v.2 (omega (arith, long)))
-      (from_apart i j k m u.0 v.0 u.2 v.2 less)
-    where
-      inside : (k m : ℕ) → From i j k m → k < length l → m < length l
-      inside k m (inl a) is = let x = a.1 in omega (arith, x)
-      inside k m (inr (inl a)) is = let x = a.1 in omega (arith, x)
-      inside k m (inr (inr a)) is = let x = a.2 in omega (arith, x)
-
-      by : (u v : ℕ) → slice_index_or (swap l i j) k d ≡ slice_index_or l u d → slice_index_or (swap l i j) m d ≡ slice_index_or l v d
-          → u < length l → v < length l → (u ≡ v → ⊥) → R (slice_index_or (swap l i j) k d) (slice_index_or (swap l i j) m d)
-      by u v a b x y apart = rw (a, b) (turned (order u v apart))
-        where
-          order : (u v : ℕ) → (u ≡ v → ⊥) → (u < v) ⊎ (v < u)
-          order u v apart = by_less (cases_lt u v)
-            where
-              by_less : (u < v) ⊎ (v ≤ u) → (u < v) ⊎ (v < u)
-              by_less (inl less) = inl less
-              by_less (inr more) = inr (omega (arith, more, apart))
-
-          turned : (u < v) ⊎ (v < u) → R (slice_index_or l u d) (slice_index_or l v d)
-          turned (inl less) = all u v d less y
-          turned (inr less) = turns (slice_index_or l v d) (slice_index_or l u d) (all v u d less x)
-
-  permuted_pairs : (xs ys : List X) → IsPermutation xs ys → AllPairs R xs → AllPairs R ys
-  permuted_pairs xs ys perm all =
-      IsPermutation-keeps xs (AllPairs R) all (λ l i j p q h. swapped_pairs l i j p q h) ys perm
-
--- Where any two of a list are in one order or the other, a sorted list that has the same is in order.
-in_order : {X : Type 0} (before : X → X → Bool) (target made sorted : List X) → IsPermutation target made → IsSortedOf before made sorted
-    → AllPairs (λ a b. (before a b || before b a) ≡ true) target → IsInOrder before target sorted
-in_order {X} before target made sorted perm sort apart =
-    let whole : IsPermutation target sorted = IsPermutation-trans target made sorted perm sort.all in
-    let all = permuted_pairs (λ a b. (before a b || before b a) ≡ true) turns target sorted whole apart in
-    record {
-      all = whole;
-      ascends = λ i j d less within. first (before (slice_index_or sorted i d) (slice_index_or sorted j d))
-          (before (slice_index_or sorted j d) (slice_index_or sorted i d)) (all i j d less within) (sort.ascends i j d less within);
-    }
-  where
-    turn : (a b : Bool) → (a || b) ≡ true → (b || a) ≡ true
-    turn true true is = refl
-    turn true false is = refl
-    turn false true is = refl
-    turn false false is = is
-
-    turns : (a b : X) → (before a b || before b a) ≡ true → (before b a || before a b) ≡ true
-    turns a b is = turn (before a b) (before b a) is
-
-    first : (a b : Bool) → (a || b) ≡ true → b ≡ false → a ≡ true
-    first true b is none = refl
-    first false true is none = absurd (cc)
-    first false false is none = is
+use Rattle.tree_change.proofs.Unordered.{in_order, permuted_pairs}
 
 -- one is among some
 abbrev Has : {X : Type 0} → X → List X → Type 0
