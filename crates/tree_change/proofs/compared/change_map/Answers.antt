@@ -1,0 +1,28 @@
+use Rattle.std.proofs.Common.{refl, rules}
+use Rattle.live_index.specs.Table.{pairs_of}
+use Rattle.touched_pairs.specs.Marks.{marked_by}
+use Rattle.shared_trees.specs.Under.{under_of}
+use Rattle.tree_change.proofs.ByArray.{array_known, known_array, known_as, map_told, refused, size_some}
+use Rattle.tree_change.proofs.compared.change_map.Goals as goal
+
+pub returns-then-not-lie_apart-clause-tells : goal.returns-then-not-lie_apart-clause-tells
+returns-then-not-lie_apart-clause-tells g c =
+    refused g.D.Disk c.args.disk.now c.refuse_map.new.disk c.args.all.now c.args.all.now c.args.both.now c.args.array.now c.refuse_map.result
+    c.refuse_map.ensures.none c.refuse_map.ensures.gives
+
+pub returns-clause-tells : goal.returns-clause-tells
+returns-clause-tells g c =
+    let both = c.args.both.now in
+    let array = c.args.array.now in
+    let old_array = c.in_ok-old_array.old_array in
+    let some = c.in_ok-some.some in
+    let moving = marked_by c.in_ok-moving.moving in
+    let under = under_of c.in_ok-starts.starts in
+    let sound = c.lie_apart.ensures (search rules) in
+    let distinct = c.in_ok-some.ensures sound.0 sound.1 in
+    map_told g.D.Disk c.args.disk.now c.change_chunks.new.disk c.args.all.now c.change_chunks.new.all both array _
+    (known_array both array old_array some moving under (g.D.Disk.len c.args.disk.now)) (λ image. refl) (λ image. refl)
+    (known_as (pairs_of both.kept.now) (marked_by both.marks.now) under _) refl refl refl refl refl refl
+    (λ image is. array_known both array old_array some moving under (g.D.Disk.len c.args.disk.now) c.requires.fit image is
+    c.in_ok-old_array.ensures distinct.1 (c.in_ok-moving.ensures.ok distinct.0 (size_some _ c.requires.fit.was_size)) c.in_ok-starts.ensures.ok)
+    c.change_chunks.result c.change_chunks.ensures.tells
