@@ -42,3 +42,4 @@ pub mod Contents
 pub mod Knowing
 pub mod Chunks
 pub mod RootItems
+pub mod Others
