@@ -40,7 +40,7 @@ none_behind some =
     (append-nil some.new_items) (omega arith)
 
 -- three of them
-with_with : (some more last : Parts) → with_parts (with_parts some more) last ≡ with_parts some (with_parts more last)
+pub with_with : (some more last : Parts) → with_parts (with_parts some more) last ≡ with_parts some (with_parts more last)
 with_with some more last =
     parts_same (append_assoc some.old_blocks more.old_blocks last.old_blocks) (append_assoc some.new_blocks more.new_blocks last.new_blocks)
     (append_assoc some.moved more.moved last.moved) (append_assoc some.old_items more.old_items last.old_items)

@@ -44,3 +44,4 @@ pub mod Chunks
 pub mod RootItems
 pub mod Difference
 pub mod ByArray
+pub mod Others
