@@ -13,7 +13,7 @@ use Rattle.super_reader.specs.declared.Super.{Super}
 use Rattle.volume_items.specs.SystemArray.{array_chunks}
 use Rattle.volume_items.specs.declared.root.RootItem.{RootItem}
 use Rattle.volume_items.specs.declared.root_at.RootAt.{RootAt}
-use Rattle.records.specs.Contents.{chunk_map_in, chunk_tree_root, root_items_in, root_tree_root, superblock_in, tree_records}
+use Rattle.records.specs.Contents.{chunk_map_in, chunk_tree_root, contents, root_items_in, root_tree_root, superblock_in, tree_records}
 use Rattle.records.specs.Seen.{Seen}
 use Rattle.block_source.specs.declared.halt.Halt.{Halt}
 use Rattle.block_source.specs.declared.halt.Halt.TheVariants.{Found}
@@ -27,10 +27,14 @@ use Rattle.shared_trees.specs.Shared.{are_read_alike}
 use Rattle.shared_trees.specs.SharedLaw.{HasTrees}
 use Rattle.shared_trees.specs.TableLaw.{trees_in}
 use Rattle.tree_change.specs.AllTrees.{IsOver, gone_all, named_parts, with_parts}
+use Rattle.tree_change.specs.Change.{IsDifference, ReadsFew, is_before, item_before}
+use Rattle.tree_change.specs.Gathered.{located_item}
 use Rattle.tree_change.specs.Making.{IsAdded}
-use Rattle.tree_change.specs.Merging.{root_at}
+use Rattle.tree_change.specs.Merging.{IsSortedOf, root_at}
 use Rattle.tree_change.specs.OneTree.{KnowsNothing, KnowsTree, side_of}
 use Rattle.tree_change.specs.Walks.{Known, Parts, Side, tree_parts}
+use Rattle.tree_change.specs.declared.change.Change.{Change}
+use Rattle.tree_change.specs.declared.change.Diff.TheVariants.{Change as Changed}
 use Rattle.tree_change.specs.declared.compared.Compared.{Compared}
 use Rattle.tree_change.specs.declared.trees.TreeParts.{TreeParts}
 
@@ -140,3 +144,21 @@ TellsRest disk old new some all both chunks (Err other) = Unit {0}
 TellsRest disk old new some all both chunks (Ok done) = IfSome (disk.bytes old) (λ image.
     (is : IsCompared both image) → HasNewMap both image chunks
     → (parts : Parts) × MakesRest both image is.based.old is.based.olds chunks parts × IsAdded some all parts (disk.reads old) (disk.reads new))
+
+-- what changes, of these parts and of the new chunks
+pub record IsFinished (parts : TreeParts) (chunks : List Chunk) (change : Change) : Type 0 where
+  pub old_blocks : change.old_blocks.items ≡ parts.old_blocks.items
+  pub new_blocks : change.new_blocks.items ≡ parts.new_blocks.items
+  pub moved : IsSortedOf is_before parts.moved.items change.moved.items
+  pub old_items : IsSortedOf item_before (map located_item parts.old_items.items) (map located_item change.old_items.items)
+  pub new_items : IsSortedOf item_before (map located_item parts.new_items.items) (map located_item change.new_items.items)
+  pub map_is : change.map ≡ chunks
+
+-- what the whole step tells: what changes, at few reads, or the first finding of what the new image holds
+abbrev pub TellsChange : {D L : Type 0} → (disk : Ghosts D) → D → D → Compared L → Result Change Halt → Type 0
+TellsChange disk old new both (Err (Found finding)) = IfSome (disk.bytes old) (λ image.
+    IsCompared both image → contents (judged_by both image) ≡ Err finding)
+TellsChange disk old new both (Err other) = Unit {0}
+TellsChange disk old new both (Ok change) = IfSome (disk.bytes old) (λ image.
+    IsCompared both image → IsDifference image (judged_by both image) (written_in both.cache.now) (Changed change)
+    × ReadsFew (disk.reads old) (disk.reads new) (Changed change))

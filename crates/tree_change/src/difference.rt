@@ -1,0 +1,167 @@
+//! What changes from an accepted image to the image that pending writes make of it.
+
+ghost use Rattle.std.specs.Prelude.{◌≡◌, ◌≤◌, true, IfOk};
+ghost use Rattle.std.specs.FinMap.{empty};
+ghost use Rattle.recon_disk.specs.Keeping.{Kept};
+ghost use Rattle.live_index.specs.Pairs.{no_pairs};
+ghost use Rattle.live_index.specs.Table.{pairs_of};
+ghost use Rattle.super_reader.specs.Superblock.{IsReadable};
+ghost use Rattle.block_source.specs.Gives.{is_disk_fault, is_disk_halt};
+ghost use Rattle.shared_trees.specs.Shared.{are_read_alike};
+ghost use Rattle.tree_change.specs.Change.{GivesDifference};
+ghost use Rattle.tree_change.specs.Compared.{FitsCompared, FitsOld, IsFinished, KeepsBy, TellsChange, TellsOld};
+
+use crate::change::{Change, Diff};
+use crate::compared::{Compared, change_map, change_rest, system_chunks};
+use crate::merge::{sort_items, sort_lives};
+use crate::trees::TreeParts;
+use block_source::{BlockSource, Fault, Halt, told};
+use chunk_map::{Bases, ChunkMap};
+use live_index::LiveIndex;
+use recon_disk::{Disk, Steps};
+use std::alloc::Global;
+use super_reader::Super;
+use touched_pairs::touched_pairs;
+use verdict::{Family, Finding, NoMemory, is_node_size};
+use volume_items::RootAt;
+use write_cache::WriteCache;
+
+/// What changes from an accepted image to the image that the pending writes make of it, or the first finding of what that holds. The
+/// disk's bytes are the accepted image, for which the bases stand, and `fresh` is the superblock of the new image. It reads the blocks of
+/// both that they do not share, each copy once, and no other; a commit that writes nothing but a superblock with its own bytes reads none.
+/// Where blocks are not read alike by both superblocks, nothing is shared. Lists take their memory from this allocator.
+pub fn difference<D: Disk, L, B: Bases<Table = LiveIndex<L>>>(
+    alloc: Global,
+    disk: &mut D,
+    cache: &WriteCache,
+    bases: &B,
+    fresh: &Super,
+    steps: &mut Steps<L>,
+) -> Result<Diff, Fault>
+    ensures gives { GivesDifference D.Disk disk.old disk.new cache.now (B.superblock bases.now) (B.chunks bases.now)
+        (B.root_items bases.now) (B.is_sum_free bases.now) (pairs_of (B.table bases.now)) fresh.now result }
+    ensures kept { Kept D.Disk disk.old disk.new (is_disk_fault result) }
+{
+    let end = disk.length()?;
+    let none = WriteCache::new(alloc);
+    let was = BlockSource {
+        cache: &none,
+        map: bases.map(),
+        sup: bases.sup(),
+        end,
+    };
+    match told(change_from(alloc, disk, &was, cache, fresh, bases.roots(), bases.live(), steps))? {
+        Ok(change) => Ok(Diff::Change(change)),
+        Err(finding) => Ok(Diff::Found(finding)),
+    }
+}
+
+// What changes from an image as it was, which is read so.
+fn change_from<D: Disk, L>(
+    alloc: Global,
+    disk: &mut D,
+    was: &BlockSource<'_>,
+    cache: &WriteCache,
+    fresh: &Super,
+    roots: &[RootAt],
+    table: &LiveIndex<L>,
+    steps: &mut Steps<L>,
+) -> Result<Change, Halt>
+    requires end { was.now.end ≡ D.len disk.old }
+    requires none { was.now.cache.now ≡ empty }
+    ensures tells { TellsOld D.Disk disk.old disk.new was.now cache.now fresh.now roots.now (pairs_of table.now) result }
+    ensures kept { Kept D.Disk disk.old disk.new (is_disk_halt result) }
+{
+    check_readable(was.sup)?;
+    check_readable(fresh)?;
+    let nothing = LiveIndex::new(alloc);
+    let kept = if are_read_alike(was.sup, fresh) {
+        table
+    } else {
+        &nothing
+    };
+    let marks = touched_pairs(alloc, kept, cache, was.map, was.sup.nodesize, was.end, steps)?;
+    let both = Compared {
+        was: *was,
+        cache,
+        fresh,
+        roots,
+        table,
+        kept,
+        marks: &marks,
+    };
+    compare(alloc, disk, &both, steps)
+}
+
+// What changes from the one image to the other.
+fn compare<D: Disk, L>(
+    alloc: Global,
+    disk: &mut D,
+    both: &Compared<'_, L>,
+    steps: &mut Steps<L>,
+) -> Result<Change, Halt>
+    requires fit { FitsCompared both.now (D.len disk.old) }
+    requires array { (both.now).fresh.now.array_size ≤ 2048 }
+    ensures tells { TellsChange D.Disk disk.old disk.new both.now result }
+    ensures kept { Kept D.Disk disk.old disk.new (is_disk_halt result) }
+{
+    let array = system_chunks(alloc, both.fresh)?;
+    let mut all = TreeParts::new(alloc);
+    let map = change_map(alloc, disk, both, &array, steps, &mut all)?;
+    change_rest(alloc, disk, both, &map, steps, &mut all)?;
+    Ok(finish(alloc, all, map)?)
+}
+
+// What changes, with its lists in order.
+fn finish(alloc: Global, parts: TreeParts, map: ChunkMap) -> Result<Change, NoMemory>
+    ensures { IfOk result (λ change. IsFinished parts map change) }
+{
+    let mut moved = parts.moved;
+    sort_lives(alloc, &mut moved)?;
+    let mut old_items = parts.old_items;
+    sort_items(alloc, &mut old_items)?;
+    let mut new_items = parts.new_items;
+    sort_items(alloc, &mut new_items)?;
+    Ok(Change {
+        old_blocks: parts.old_blocks,
+        new_blocks: parts.new_blocks,
+        moved,
+        old_items,
+        new_items,
+        map,
+    })
+}
+
+// Passes where a superblock is one that can be read: the size of a tree block is one of the five (S5), and the system array fits (S9).
+fn check_readable(sup: &Super) -> Result<(), Halt>
+    ensures sound { OnOk result (IsReadable sup.now) }
+    ensures fails { OnErr result (IsReadable sup.now → ⊥) }
+    ensures calm { is_disk_halt result ≡ false }
+{
+    if !is_node_size(sup.nodesize) {
+        return Err(Halt::Found(Finding::of_image(
+            Family::S,
+            5,
+            u64::from(sup.nodesize),
+        )));
+    }
+    if sup.array_size > 2048 {
+        return Err(Halt::Found(Finding::of_image(
+            Family::S,
+            9,
+            u64::from(sup.array_size),
+        )));
+    }
+    Ok(())
+}
+
+// Whether blocks are read alike by both superblocks.
+fn are_read_alike(a: &Super, b: &Super) -> bool
+    ensures { result ≡ are_read_alike a.now b.now }
+{
+    a.fsid == b.fsid
+        && a.nodesize == b.nodesize
+        && a.incompat == b.incompat
+        && a.compat_ro == b.compat_ro
+        && a.devid == b.devid
+}
