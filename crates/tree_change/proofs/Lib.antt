@@ -43,3 +43,4 @@ pub mod Knowing
 pub mod Chunks
 pub mod RootItems
 pub mod Others
+pub mod ByMap
