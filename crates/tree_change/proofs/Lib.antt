@@ -45,3 +45,4 @@ pub mod RootItems
 pub mod Difference
 pub mod ByArray
 pub mod Others
+pub mod ByMap

@@ -1,5 +1,5 @@
 -- What changes in the root tree, in the trees that are named now and in those that are gone, put behind other parts.
-use Rattle.std.proofs.Common.{◌≡◌, ℕ, ◌+◌, ◌*◌, ◌≤◌, ◌⊎◌, inl, inr, List, refl, ap, sym, ◌∙◌, Ok, Err, subst, arith}
+use Rattle.std.proofs.Common.{◌≡◌, ℕ, ◌+◌, ◌⊎◌, inl, inr, List, refl, ap, sym, ◌∙◌, Ok, Err, subst, arith}
 use Rattle.std.specs.Prelude.{Option, Some, None, IfSome, Result}
 use Rattle.verdict.specs.declared.finding.Finding.{Finding}
 use Rattle.recon_disk.specs.declared.disk.Disk.{Ghosts}
@@ -16,8 +16,8 @@ use Rattle.tree_change.specs.declared.trees.TreeParts.{TreeParts}
 use Rattle.tree_change.proofs.Adding.{with_with}
 
 -- parts that are put behind parts
-added_with : (some one two : TreeParts) (more other : Parts) (before now after : ℕ) → IsAdded some one more before now → IsAdded one two other now after
-    → IsAdded some two (with_parts more other) before after
+added_with : (some one two : TreeParts) (more other : Parts) (before now after : ℕ) → IsAdded some one more before now
+    → IsAdded one two other now after → IsAdded some two (with_parts more other) before after
 added_with some one two more other before now after first next = record {
   behind = λ count. ap (parts_by two) (omega arith) ∙ next.behind (count + more.count) ∙ ap (λ p. with_parts p other) (first.behind count)
       ∙ with_with (parts_by some count) more other;
@@ -53,8 +53,8 @@ module _ {L : Type 0} (sides : Sides L) (olds : List RootAt) where
       by NoMemory tells = tt
 
   -- one that stops in a tree that is named now tells its finding
-  pub named_halt : {D A : Type 0} (B : Type 0) (disk : Ghosts D) (first second last : D) (some one two all : TreeParts) (roots : List RootAt) (halt : Halt)
-      (result : Result A Halt) → result ≡ Err halt → disk.bytes second ≡ disk.bytes first
+  pub named_halt : {D A : Type 0} (B : Type 0) (disk : Ghosts D) (first second last : D) (some one two all : TreeParts) (roots : List RootAt)
+      (halt : Halt) (result : Result A Halt) → result ≡ Err halt → disk.bytes second ≡ disk.bytes first
       → IfSome (disk.bytes first) (HasRoots roots some one (disk.reads first) (disk.reads second))
       → AddsParts {A = B} disk second last one two (Err halt) (named_parts_in sides olds roots)
       → TellsOthers disk first last some all sides olds result
@@ -111,7 +111,7 @@ module _ {L : Type 0} (sides : Sides L) (olds : List RootAt) where
           all = refl;
         },
         added_with some one all has.0 (with_parts named.0 gone.0) (disk.reads first) (disk.reads second) (disk.reads last) has.3
-        (added_with one two all named.0 gone.0 (disk.reads second) (disk.reads third) (disk.reads last) named.2 gone.2),
+            (added_with one two all named.0 gone.0 (disk.reads second) (disk.reads third) (disk.reads last) named.2 gone.2),
       )
 
       done : (told mid late : Option (List ℕ)) → mid ≡ told → late ≡ told

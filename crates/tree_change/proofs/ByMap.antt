@@ -1,0 +1,324 @@
+-- What changes in all trees but the chunk tree, by the new chunks.
+use Rattle.std.proofs.Common.{◌≡◌, ℕ, zero, suc, ◌<◌, ◌⊎◌, inl, inr, Bool, true, List, length, Bor, refl, ap, sym, subst, ◌∙◌, arith}
+use Rattle.std.specs.Prelude.{Option, Some, None, Result, Ok, Err, IfSome, map}
+use Rattle.std.specs.Ordering.{nat_cmp}
+use Rattle.std.specs.FinMap.{FinMap}
+use Rattle.verdict.specs.Rules.{and_then}
+use Rattle.verdict.specs.Trees.{is_node_size}
+use Rattle.verdict.specs.declared.finding.Finding.{Finding}
+use Rattle.verdict.specs.declared.place.Chunk.{Chunk}
+use Rattle.recon_disk.specs.declared.disk.Disk.{Ghosts}
+use Rattle.super_reader.specs.declared.Super.{Super}
+use Rattle.volume_items.specs.declared.root.RootItem.{RootItem}
+use Rattle.volume_items.specs.declared.root_at.RootAt.{RootAt}
+use Rattle.live_index.specs.Pairs.{Pairs}
+use Rattle.live_index.specs.Table.{pairs_of}
+use Rattle.records.specs.Contents.{root_items_in, root_tree_root}
+use Rattle.block_source.specs.declared.halt.Halt.{Halt}
+use Rattle.block_source.specs.declared.halt.Halt.TheVariants.{Found, Disk, NoMemory}
+use Rattle.touched_pairs.specs.Marking.{AreMarked, AreMarkedFrom}
+use Rattle.touched_pairs.specs.Marks.{Marked, marked_by, no_mark}
+use Rattle.touched_pairs.specs.Moves.{AreApart, held_and_moved, is_moved, move_passes}
+use Rattle.touched_pairs.specs.Spots.{at_address}
+use Rattle.touched_pairs.specs.Touched.{touches_block, written_in}
+use Rattle.touched_pairs.specs.declared.marks.Marks.{Marks}
+use Rattle.touched_pairs.specs.declared.moved.Move.{Move}
+use Rattle.shared_trees.specs.Keeping.{Under}
+use Rattle.shared_trees.specs.Listed.{AreListedBy}
+use Rattle.shared_trees.specs.LivePairs.{Walked, live_in, table_of}
+use Rattle.shared_trees.specs.Marking.{AreNarrow}
+use Rattle.shared_trees.specs.SharedLaw.{HasTrees}
+use Rattle.shared_trees.specs.TableLaw.{Tree, trees_in}
+use Rattle.shared_trees.specs.Under.{under_of}
+use Rattle.shared_trees.specs.declared.starts.Starts.{Starts}
+use Rattle.shared_trees.proofs.Premises.{map_apart}
+use Rattle.shared_trees.proofs.Treed.{map_kept}
+use Rattle.tree_change.specs.AllTrees.{IsOver, KnowsTrees, gone_all, named_parts, with_parts}
+use Rattle.tree_change.specs.Compared.{FindsRest, FitsCompared, HasNewMap, IsCompared, KeepsBy, MakesRest, TellsRest, judged_by, side_to}
+use Rattle.tree_change.specs.Making.{FindsOthers, IsAdded, MakesOthers, RootsJudged, TellsOthers}
+use Rattle.tree_change.specs.Making.FindsOthers.{InGone, InItems, InNamed, InTree}
+use Rattle.tree_change.specs.Merging.{IsSortedOf, named_before, root_at, roots_left}
+use Rattle.tree_change.specs.OneTree.{IsTree, KnowsNothing, side_of}
+use Rattle.tree_change.specs.Told.{side_with}
+use Rattle.tree_change.specs.Walks.{Known, Parts, Side, tree_parts}
+use Rattle.tree_change.specs.declared.compared.Compared.{Compared}
+use Rattle.tree_change.specs.declared.trees.Sides.{Sides}
+use Rattle.tree_change.specs.declared.trees.TreeParts.{TreeParts}
+use Rattle.tree_change.proofs.EachTree.{one_tree}
+use Rattle.tree_change.proofs.EveryTree.{knows_one}
+use Rattle.tree_change.proofs.Gone.{gone}
+use Rattle.tree_change.proofs.Knowing.{knows_trees}
+use Rattle.tree_change.proofs.Named.{named}
+use Rattle.tree_change.proofs.RootItems.{roots_found, roots_made}
+
+-- what is known, by its parts
+abbrev known_with : Pairs → Marked → (ℕ → Bool) → Under → Known
+known_with pairs marked moved under = record { pairs = pairs; marked = marked; moved = moved; under = under }
+
+-- All old trees are known by the table by which blocks are kept, by its marks and by its moved children; or nothing is.
+module _ (image : List ℕ) (pending : FinMap nat_cmp ℕ) (old : Walked) (trees : List Tree) (pairs kept : Pairs) (marked moving : Marked)
+    (under : Under) (is : Side) (moved : ℕ → Bool) where
+  -- the same by a superblock, chunks and an end
+  abbrev KnowsBy : Super → List Chunk → ℕ → Type 0
+  KnowsBy sup chunks end =
+      KeepsBy sup is.sup pairs kept
+      → AreMarked kept (at_address (touches_block (written_in pending) chunks sup.nodesize end)) no_mark marked
+      → AreMarkedFrom kept (at_address (held_and_moved chunks is.chunks sup.nodesize end))
+      (at_address (is_moved chunks is.chunks sup.nodesize end)) no_mark moving
+      → moved ≡ is_moved chunks is.chunks sup.nodesize end
+      → KnowsTrees image pending old trees is (known_with kept marked moved under) ⊎ KnowsNothing old is (known_with kept marked moved under)
+
+  knows_plain : AreNarrow pairs → HasTrees image old trees → ((tree address : ℕ) → pairs tree address ≡ table_of (live_in old.seen) tree address)
+      → AreListedBy kept moving under → KnowsBy old.sup old.chunks (length image)
+  knows_plain narrow has pairs_are listed (inl keeps) touched moves same =
+      let k = knows_trees image pending old trees kept marked moving under is (subst AreNarrow (sym keeps.1) narrow) has
+      (λ tree address. ap (λ (p : Pairs). p tree address) keeps.1 ∙ pairs_are tree address) keeps.0 touched moves listed in
+      inl (record { alike = k.alike; pairs_are = k.pairs_are; moved_is = same; marks = k.marks; moving = k.moving; moves = k.moves })
+  knows_plain narrow has pairs_are listed (inr keeps) touched moves same =
+      inr (record { other = keeps.0; none = λ tree address. ap (λ (p : Pairs). p tree address) keeps.1 })
+
+  knows_by : (sup : Super) (chunks : List Chunk) (end : ℕ) → sup ≡ old.sup → chunks ≡ old.chunks → end ≡ length image
+      → AreNarrow pairs → HasTrees image old trees → ((tree address : ℕ) → pairs tree address ≡ table_of (live_in old.seen) tree address)
+      → AreListedBy kept moving under → KnowsBy sup chunks end
+  knows_by sup chunks end a b c narrow has pairs_are listed =
+      subst (λ s. KnowsBy s chunks end) (sym a)
+      (subst (λ cs. KnowsBy old.sup cs end) (sym b)
+      (subst (λ n. KnowsBy old.sup old.chunks n) (sym c) (knows_plain narrow has pairs_are listed)))
+
+-- a block has bytes
+size_some : (n : ℕ) → is_node_size n ≡ true → 0 < n
+size_some zero is = absurd (cc)
+size_some (suc n) is = omega arith
+
+module _ {L : Type 0} (both : Compared L) (image : List ℕ) (chunks : List Chunk) (c : IsCompared both image) where
+  abbrev old : Walked
+  old = c.based.old
+
+  abbrev olds : List RootItem
+  olds = c.based.olds
+
+  abbrev trees : List Tree
+  trees = trees_in old.sup old.chunks old.chunks olds image
+
+  abbrev pairs : Pairs
+  pairs = pairs_of both.table.now
+
+  abbrev side : Side
+  side = side_to both image chunks
+
+  -- the new chunks lie apart
+  new_apart : HasNewMap both image chunks → AreApart chunks
+  new_apart has =
+      map_apart chunks has.0 (length (judged_by both image)) (map_kept both.fresh.now has.0 chunks (judged_by both image) has.1)
+
+  -- this is the side as it was
+  was_is : side_with both.was image ≡ side_of image old
+  was_is =
+      ap (λ (s : Super). side_at s both.was.map.now) c.based.super_is ∙ ap (λ cs. side_at old.sup cs) c.based.chunks_are
+    where
+      side_at : Super → List Chunk → Side
+      side_at sup cs = record { sup = sup; chunks = cs; image = image }
+
+  abbrev Over : Known → Type 0
+  Over known = IsOver image both.cache.now old olds trees pairs side known
+
+  over_by : (end : ℕ) (moving : Marked) (under : Under) (moved : ℕ → Bool) → FitsCompared both end → HasNewMap both image chunks
+      → (AreApart chunks → 0 < both.was.sup.now.nodesize
+      → AreMarkedFrom (pairs_of both.kept.now) (at_address (held_and_moved both.was.map.now chunks both.was.sup.now.nodesize both.was.end))
+      (at_address (is_moved both.was.map.now chunks both.was.sup.now.nodesize both.was.end)) no_mark moving)
+      → AreListedBy (pairs_of both.kept.now) moving under
+      → moved ≡ is_moved both.was.map.now chunks both.was.sup.now.nodesize both.was.end
+      → Over (known_with (pairs_of both.kept.now) (marked_by both.marks.now) moved under)
+  over_by end moving under moved fits has moves listed same = record {
+    has = c.based.has;
+    trees_are = refl;
+    pairs_are = c.based.pairs_are;
+    over = refl;
+    known_is = knows_by image both.cache.now old trees pairs (pairs_of both.kept.now) (marked_by both.marks.now) moving under side moved
+        both.was.sup.now both.was.map.now both.was.end c.based.super_is c.based.chunks_are c.end c.narrow c.based.has c.based.pairs_are listed
+        fits.keeps fits.marked (moves (new_apart has) (size_some both.was.sup.now.nodesize fits.was_size)) same;
+  }
+
+  module _ (known : Known) (over : Over known) where
+    -- the root tree is one of the trees
+    root_tree : IsTree image both.cache.now old trees pairs side known (Some (root_tree_root old.sup)) (root_tree_root both.fresh.now)
+    root_tree = record {
+      has = over.has;
+      pairs_are = over.pairs_are;
+      over = over.over;
+      root = (refl, refl);
+      was = (refl, inr (inl refl));
+      known_is = knows_one image both.cache.now old trees side known (Some (root_tree_root old.sup)) (root_tree_root both.fresh.now)
+          (refl, inr (inl refl)) over.known_is;
+    }
+
+    abbrev tree : Result Parts Finding
+    tree = tree_parts pairs known (side_of image old) side (Some (root_tree_root old.sup)) (root_tree_root both.fresh.now)
+
+    abbrev Merged : Parts → List RootAt → Type 0
+    Merged parts roots = IsSortedOf named_before (roots_left (map root_at olds) parts.old_items parts.new_items) roots
+
+    -- the roots are those of items, on which the rules are judged
+    judged : (parts : Parts) (roots : List RootAt) (answer : Result (Unit {0}) Finding) → tree ≡ Ok parts → Merged parts roots
+        → RootsJudged both.fresh.now.compat_ro roots answer
+        → (items : List RootItem) × (roots ≡ map root_at items)
+        × (root_items_in both.fresh.now chunks (judged_by both image) ≡ and_then answer (λ _. Ok items))
+    judged parts roots answer made merged say =
+        let m = roots_made one_tree image both.cache.now old trees pairs side known parts olds roots c.based.items root_tree made merged in
+        (m.0, m.1, m.2 ∙ ap (λ (a : Result (Unit {0}) Finding). and_then a (λ _. Ok m.0)) (say m.0 m.1))
+
+    -- what all make
+    rest_made : (root_parts named_trees gone_trees parts : Parts) (roots : List RootAt) → tree ≡ Ok root_parts → Merged root_parts roots
+        → RootsJudged both.fresh.now.compat_ro roots (Ok (tt {0}))
+        → named_parts pairs known (side_of image old) side (map root_at olds) roots ≡ Ok named_trees
+        → gone_all pairs known (side_of image old) roots (map root_at olds) ≡ Ok gone_trees
+        → parts ≡ with_parts root_parts (with_parts named_trees gone_trees)
+        → MakesRest both image old olds chunks parts
+    rest_made root_parts named_trees gone_trees parts roots made merged say named_are gone_are all =
+        let j = judged root_parts roots (Ok (tt {0})) made merged say in
+        let named_by = subst (λ rs. named_parts pairs known (side_of image old) side (map root_at olds) rs ≡ Ok named_trees) j.1 named_are in
+        let fine = (named one_tree image both.cache.now old olds trees pairs side known j.0 over).1 named_trees named_by in
+        record {
+          news = j.0;
+          items = j.2;
+          records = fine.0;
+          fine = fine.1;
+          known = known;
+          over = over;
+          root_parts = root_parts;
+          named = named_trees;
+          gone = gone_trees;
+          root_tree = made;
+          named_trees = named_by;
+          gone_trees = subst (λ rs. gone_all pairs known (side_of image old) rs (map root_at olds) ≡ Ok gone_trees) j.1 gone_are;
+          all = all;
+        }
+
+    -- the finding in the root tree, in its items, and in a tree that is named now
+    found_tree : (finding : Finding) → tree ≡ Err finding → FindsRest both image chunks finding
+    found_tree finding failed = inl (roots_found one_tree image both.cache.now old trees pairs side known root_tree finding failed)
+
+    found_items : (parts : Parts) (roots : List RootAt) (finding : Finding) → tree ≡ Ok parts → Merged parts roots
+        → RootsJudged both.fresh.now.compat_ro roots (Err finding) → FindsRest both image chunks finding
+    found_items parts roots finding made merged say = inl (judged parts roots (Err finding) made merged say).2
+
+    found_named : (parts : Parts) (roots : List RootAt) (finding : Finding) → tree ≡ Ok parts → Merged parts roots
+        → RootsJudged both.fresh.now.compat_ro roots (Ok (tt {0}))
+        → named_parts pairs known (side_of image old) side (map root_at olds) roots ≡ Err finding → FindsRest both image chunks finding
+    found_named parts roots finding made merged say failed =
+        let j = judged parts roots (Ok (tt {0})) made merged say in
+        inr (
+          j.0,
+          j.2,
+          (named one_tree image both.cache.now old olds trees pairs side known j.0 over).0 finding
+              (subst (λ rs. named_parts pairs known (side_of image old) side (map root_at olds) rs ≡ Err finding) j.1 failed),
+        )
+
+    -- none is in a tree that is gone
+    found_gone : (roots : List RootAt) (finding : Finding) → gone_all pairs known (side_of image old) roots (map root_at olds) ≡ Err finding → ⊥
+    found_gone roots finding failed = gone image both.cache.now old olds trees pairs side known roots finding over failed
+
+-- the two sides by the new chunks, and what is known
+module _ {L : Type 0} (both : Compared L) (new : Bor (List Chunk)) (moves : Bor Move) (starts : Bor Starts) where
+  abbrev pub sides_by : Sides L
+  sides_by = record {
+    was = both.was;
+    is = record { cache = both.cache; map = new; sup = both.fresh; end = both.was.end };
+    table = both.table;
+    known = record { table = both.kept; marks = both.marks; moves = moves; starts = starts };
+  }
+
+  abbrev known_now : Known
+  known_now = known_with (pairs_of both.kept.now) (marked_by both.marks.now) (move_passes moves.now) (under_of starts.now)
+
+  abbrev pub move_by : Move
+  move_by = record { old = both.was.map; new = new; nodesize = both.was.sup.now.nodesize; end = both.was.end }
+
+  moves_same : moves.now ≡ move_by → move_passes moves.now ≡ is_moved both.was.map.now new.now both.was.sup.now.nodesize both.was.end
+  unfolding move_passes
+  moves_same is = ap move_passes is
+
+  module _ (image : List ℕ) (c : IsCompared both image) (over : Over both image new.now c known_now) where
+    abbrev was : Side
+    was = side_with both.was image
+
+    abbrev now : Side
+    now = side_to both image new.now
+
+    -- the root tree by its parts
+    tree_at : (answer : Result Parts Finding)
+        → tree_parts (pairs_of both.table.now) known_now was now (Some (root_tree_root both.was.sup.now)) (root_tree_root both.fresh.now) ≡ answer
+        → tree both image new.now c known_now over ≡ answer
+    tree_at answer is =
+        subst (λ (s : Side).
+        tree_parts (pairs_of both.table.now) known_now s now (Some (root_tree_root s.sup)) (root_tree_root both.fresh.now) ≡ answer)
+        (was_is both image new.now c) is
+
+    merged_at : (parts : Parts) (roots : List RootAt) → IsSortedOf named_before (roots_left both.roots.now parts.old_items parts.new_items) roots
+        → Merged both image new.now c known_now over parts roots
+    merged_at parts roots sort =
+        subst (λ rs. IsSortedOf named_before (roots_left rs parts.old_items parts.new_items) roots) c.based.roots_are sort
+
+    named_at : (roots : List RootAt) (answer : Result Parts Finding)
+        → named_parts (pairs_of both.table.now) known_now was now both.roots.now roots ≡ answer
+        → named_parts (pairs_of both.table.now) known_now (side_of image c.based.old) now (map root_at c.based.olds) roots ≡ answer
+    named_at roots answer is =
+        subst (λ rs. named_parts (pairs_of both.table.now) known_now (side_of image c.based.old) now rs roots ≡ answer) c.based.roots_are
+        (subst (λ s. named_parts (pairs_of both.table.now) known_now s now both.roots.now roots ≡ answer) (was_is both image new.now c) is)
+
+    gone_at : (roots : List RootAt) (answer : Result Parts Finding)
+        → gone_all (pairs_of both.table.now) known_now was roots both.roots.now ≡ answer
+        → gone_all (pairs_of both.table.now) known_now (side_of image c.based.old) roots (map root_at c.based.olds) ≡ answer
+    gone_at roots answer is =
+        subst (λ rs. gone_all (pairs_of both.table.now) known_now (side_of image c.based.old) roots rs ≡ answer) c.based.roots_are
+        (subst (λ s. gone_all (pairs_of both.table.now) known_now s roots both.roots.now ≡ answer) (was_is both image new.now c) is)
+
+    makes : (parts : Parts) → MakesOthers sides_by both.roots.now image parts → MakesRest both image c.based.old c.based.olds new.now parts
+    makes parts m =
+        rest_made both image new.now c known_now over m.root_parts m.named m.gone parts m.roots (tree_at (Ok m.root_parts) m.makes.tree)
+        (merged_at m.root_parts m.roots m.makes.merged) m.judged (named_at m.roots (Ok m.named) m.named_are) (gone_at m.roots (Ok m.gone) m.gone_are)
+        m.all
+
+    finds : (finding : Finding) → FindsOthers sides_by both.roots.now image finding → FindsRest both image new.now finding
+    finds finding (InTree failed) = found_tree both image new.now c known_now over finding (tree_at (Err finding) failed)
+    finds finding (InItems parts roots m say) =
+        found_items both image new.now c known_now over parts roots finding (tree_at (Ok parts) m.tree) (merged_at parts roots m.merged) say
+    finds finding (InNamed parts roots m say failed) =
+        found_named both image new.now c known_now over parts roots finding (tree_at (Ok parts) m.tree) (merged_at parts roots m.merged) say
+        (named_at roots (Err finding) failed)
+    finds finding (InGone roots failed) =
+        elim (found_gone both image new.now c known_now over roots finding (gone_at roots (Err finding) failed)) [ ]
+
+  pub rest_told : {D A : Type 0} (disk : Ghosts D) (first last : D) (some all : TreeParts) (moving : Marks) (end : ℕ) (result : Result A Halt)
+      → FitsCompared both end → moves.now ≡ move_by
+      → (AreApart new.now → 0 < both.was.sup.now.nodesize
+      → AreMarkedFrom (pairs_of both.kept.now) (at_address (held_and_moved both.was.map.now new.now both.was.sup.now.nodesize both.was.end))
+      (at_address (is_moved both.was.map.now new.now both.was.sup.now.nodesize both.was.end)) no_mark (marked_by moving))
+      → AreListedBy (pairs_of both.kept.now) (marked_by moving) (under_of starts.now)
+      → TellsOthers disk first last some all sides_by both.roots.now result
+      → TellsRest disk first last some all both new.now result
+  rest_told {D} {A} disk first last some all moving end result fits is moved listed tells = by result tells
+    where
+      over : (image : List ℕ) (c : IsCompared both image) → HasNewMap both image new.now → Over both image new.now c known_now
+      over image c has =
+          over_by both image new.now c end (marked_by moving) (under_of starts.now) (move_passes moves.now) fits has moved listed (moves_same is)
+
+      found : (finding : Finding) (told : Option (List ℕ)) → IfSome told (λ image. FindsOthers sides_by both.roots.now image finding)
+          → IfSome told (λ image. IsCompared both image → HasNewMap both image new.now → FindsRest both image new.now finding)
+      found finding None others = tt
+      found finding (Some image) others = λ c has. finds image c (over image c has) finding others
+
+      done : (told : Option (List ℕ)) → IfSome told (λ image.
+          (parts : Parts) × MakesOthers sides_by both.roots.now image parts × IsAdded some all parts (disk.reads first) (disk.reads last))
+          → IfSome told (λ image. (c : IsCompared both image) → HasNewMap both image new.now
+          → (parts : Parts) × MakesRest both image c.based.old c.based.olds new.now parts
+          × IsAdded some all parts (disk.reads first) (disk.reads last))
+      done None others = tt
+      done (Some image) others = λ c has. (others.0, makes image c (over image c has) others.0 others.1, others.2)
+
+      by : (r : Result A Halt) → TellsOthers disk first last some all sides_by both.roots.now r
+          → TellsRest disk first last some all both new.now r
+      by (Err (Found finding)) tells = found finding (disk.bytes first) tells
+      by (Err Disk) tells = tt
+      by (Err NoMemory) tells = tt
+      by (Ok value) tells = done (disk.bytes first) tells
