@@ -31,7 +31,7 @@ parts_same {a} {a'} {b} {b'} {c} {c'} {d} {d'} {e} {e'} {n} {n'} sa sb sc sd se 
     ∙ ap (λ x. made_of a' b' c' x e n) sd ∙ ap (λ x. made_of a' b' c' d' x n) se ∙ ap (made_of a' b' c' d' e') sn
 
 -- no parts before others or behind them
-none_before : (some : Parts) → with_parts no_parts some ≡ some
+pub none_before : (some : Parts) → with_parts no_parts some ≡ some
 none_before some = parts_same refl refl refl refl refl (omega arith)
 
 none_behind : (some : Parts) → with_parts some no_parts ≡ some

@@ -42,7 +42,8 @@ pub mod Contents
 pub mod Knowing
 pub mod Chunks
 pub mod RootItems
-pub mod Difference
+pub mod AllChanges
 pub mod ByArray
 pub mod Others
 pub mod ByMap
+pub mod Comparing

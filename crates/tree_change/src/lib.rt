@@ -4,6 +4,7 @@
 mod array;
 mod change;
 mod compared;
+mod differ;
 mod distinct;
 mod gather;
 mod laws;
@@ -16,5 +17,6 @@ mod trees;
 mod walks;
 
 pub use change::{Change, Diff};
+pub use differ::difference;
 pub use laws::{all_trees_law, gone_trees_law, named_law, one_tree_law};
 pub use path::{Path, PathStep};

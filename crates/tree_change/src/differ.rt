@@ -1,15 +1,14 @@
 //! What changes from an accepted image to the image that pending writes make of it.
 
-ghost use Rattle.std.specs.Prelude.{◌≡◌, ◌≤◌, true, IfOk};
+ghost use Rattle.std.specs.Prelude.{◌≡◌, ◌≤◌, false, IfOk, OnErr, OnOk};
 ghost use Rattle.std.specs.FinMap.{empty};
 ghost use Rattle.recon_disk.specs.Keeping.{Kept};
-ghost use Rattle.live_index.specs.Pairs.{no_pairs};
 ghost use Rattle.live_index.specs.Table.{pairs_of};
 ghost use Rattle.super_reader.specs.Superblock.{IsReadable};
 ghost use Rattle.block_source.specs.Gives.{is_disk_fault, is_disk_halt};
 ghost use Rattle.shared_trees.specs.Shared.{are_read_alike};
 ghost use Rattle.tree_change.specs.Change.{GivesDifference};
-ghost use Rattle.tree_change.specs.Compared.{FitsCompared, FitsOld, IsFinished, KeepsBy, TellsChange, TellsOld};
+ghost use Rattle.tree_change.specs.Compared.{FitsCompared, IsFinished, TellsChange, TellsOld};
 
 use crate::change::{Change, Diff};
 use crate::compared::{Compared, change_map, change_rest, system_chunks};
@@ -50,7 +49,16 @@ pub fn difference<D: Disk, L, B: Bases<Table = LiveIndex<L>>>(
         sup: bases.sup(),
         end,
     };
-    match told(change_from(alloc, disk, &was, cache, fresh, bases.roots(), bases.live(), steps))? {
+    match told(change_from(
+        alloc,
+        disk,
+        &was,
+        cache,
+        fresh,
+        bases.roots(),
+        bases.live(),
+        steps,
+    ))? {
         Ok(change) => Ok(Diff::Change(change)),
         Err(finding) => Ok(Diff::Found(finding)),
     }
@@ -80,7 +88,15 @@ fn change_from<D: Disk, L>(
     } else {
         &nothing
     };
-    let marks = touched_pairs(alloc, kept, cache, was.map, was.sup.nodesize, was.end, steps)?;
+    let marks = touched_pairs(
+        alloc,
+        kept,
+        cache,
+        was.map,
+        was.sup.nodesize,
+        was.end,
+        steps,
+    )?;
     let both = Compared {
         was: *was,
         cache,
@@ -139,18 +155,10 @@ fn check_readable(sup: &Super) -> Result<(), Halt>
     ensures calm { is_disk_halt result ≡ false }
 {
     if !is_node_size(sup.nodesize) {
-        return Err(Halt::Found(Finding::of_image(
-            Family::S,
-            5,
-            u64::from(sup.nodesize),
-        )));
+        return Err(Halt::Found(Finding::of_image(Family::S, 5, u64::from(sup.nodesize))));
     }
     if sup.array_size > 2048 {
-        return Err(Halt::Found(Finding::of_image(
-            Family::S,
-            9,
-            u64::from(sup.array_size),
-        )));
+        return Err(Halt::Found(Finding::of_image(Family::S, 9, u64::from(sup.array_size))));
     }
     Ok(())
 }
