@@ -29,8 +29,9 @@ use Rattle.tree_change.proofs.AllChanges.{change_is, finds_array, finds_map, fin
 both_added : (start middle all : TreeParts) (some more : Parts) (r0 r1 r2 : ℕ) → parts_by start 0 ≡ no_parts
     → IsAdded start middle some r0 r1 → IsAdded middle all more r1 r2 → parts_by all (some.count + more.count) ≡ with_parts some more
 both_added start middle all some more r0 r1 r2 none first second =
+    let zero_more : some.count ≡ 0 + some.count = omega arith in
     second.behind some.count
-    ∙ ap (λ parts. with_parts parts more) (first.behind 0 ∙ ap (λ parts. with_parts parts some) none ∙ none_before some)
+    ∙ ap (λ parts. with_parts parts more) (ap (λ n. parts_by middle n) zero_more ∙ first.behind 0 ∙ ap (λ parts. with_parts parts some) none ∙ none_before some)
 
 pub compared : {L : Type 0} (both : Compared L) (told : Option (List ℕ)) (array chunks : List Chunk) (start middle all : TreeParts) (change : Change)
     (r0 r1 r2 : ℕ) → HasNewArray both array → parts_by start 0 ≡ no_parts
