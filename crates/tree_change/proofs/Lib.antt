@@ -47,3 +47,4 @@ pub mod ByArray
 pub mod Others
 pub mod ByMap
 pub mod Comparing
+pub mod Readable
