@@ -48,3 +48,4 @@ pub mod Others
 pub mod ByMap
 pub mod Comparing
 pub mod Readable
+pub mod Differing

@@ -60,8 +60,8 @@ module _ {D : Type 0} (disk : Ghosts D) (old new : D) (was : BlockSource) (pendi
 
   -- a superblock that can't be read is none of these
   pub unreadable : (halt : Halt) (result : Result Change Halt) → result ≡ Err halt
-      → (IsReadable was.sup.now → ⊥) ⊎ (IsReadable fresh → ⊥) → TellsOld disk old new was pending fresh roots pairs result
-  unreadable halt result is none = subst (λ r. TellsOld disk old new was pending fresh roots pairs r) (sym is) (by halt)
+      → (IsReadable was.sup.now → ⊥) ⊎ (IsReadable fresh → ⊥) → TellsOld disk old new was.sup.now was.map.now pending fresh roots pairs result
+  unreadable halt result is none = subst (λ r. TellsOld disk old new was.sup.now was.map.now pending fresh roots pairs r) (sym is) (by halt)
     where
       at : (finding : Finding) (told : Option (List ℕ)) → IfSome told (IsFoundOf finding)
       at finding None = tt
@@ -72,7 +72,7 @@ module _ {D : Type 0} (disk : Ghosts D) (old new : D) (was : BlockSource) (pendi
           never based super_is (inl not_old) = absurd (not_old (was_readable image was.sup.now was.map.now roots pairs based))
           never based super_is (inr not_new) = absurd (not_new (readable (overlaid pending 0 image) fresh super_is))
 
-      by : (h : Halt) → TellsOld disk old new was pending fresh roots pairs (Err h)
+      by : (h : Halt) → TellsOld disk old new was.sup.now was.map.now pending fresh roots pairs (Err h)
       by (Found finding) = at finding (disk.bytes old)
       by Disk = tt
       by NoMemory = tt
@@ -81,7 +81,7 @@ module _ {D : Type 0} (disk : Ghosts D) (old new : D) (was : BlockSource) (pendi
   pub old_told : {L : Type 0} (both : Compared L) (result : Result Change Halt) → both.was.sup.now ≡ was.sup.now → both.was.map.now ≡ was.map.now
       → both.roots.now ≡ roots → pairs_of both.table.now ≡ pairs → both.cache.now ≡ pending → both.fresh.now ≡ fresh → both.was.end ≡ disk.len old
       → IfSome (disk.bytes old) (λ image. length image ≡ disk.len old)
-      → TellsChange disk old new both result → TellsOld disk old new was pending fresh roots pairs result
+      → TellsChange disk old new both result → TellsOld disk old new was.sup.now was.map.now pending fresh roots pairs result
   old_told {L} both result a b c d e f end size tells = by result tells
     where
       compared : (image : List ℕ) → length image ≡ disk.len old → IsBased image was.sup.now was.map.now roots pairs → AreNarrow pairs
@@ -117,7 +117,7 @@ module _ {D : Type 0} (disk : Ghosts D) (old new : D) (was : BlockSource) (pendi
           subst (λ cache. IsDifference image (overlaid cache 0 image) (written_in cache) (Changed change)
           × ReadsFew (disk.reads old) (disk.reads new) (Changed change)) e (tells (compared image n based narrow super_is))
 
-      by : (r : Result Change Halt) → TellsChange disk old new both r → TellsOld disk old new was pending fresh roots pairs r
+      by : (r : Result Change Halt) → TellsChange disk old new both r → TellsOld disk old new was.sup.now was.map.now pending fresh roots pairs r
       by (Ok change) tells = done change (disk.bytes old) size tells
       by (Err (Found finding)) tells = found finding (disk.bytes old) size tells
       by (Err Disk) tells = tt

@@ -16,7 +16,6 @@ use Rattle.volume_items.specs.declared.root.RootItem.{RootItem}
 use Rattle.volume_items.specs.declared.root_at.RootAt.{RootAt}
 use Rattle.records.specs.Contents.{chunk_map_in, chunk_tree_root, contents, root_items_in, root_tree_root, superblock_in, tree_records}
 use Rattle.records.specs.Seen.{Seen}
-use Rattle.block_source.specs.declared.read.BlockSource.{BlockSource}
 use Rattle.block_source.specs.declared.halt.Halt.{Halt}
 use Rattle.block_source.specs.declared.halt.Halt.TheVariants.{Found}
 use Rattle.touched_pairs.specs.Marking.{AreMarked}
@@ -166,12 +165,12 @@ TellsChange disk old new both (Ok change) = IfSome (disk.bytes old) (λ image.
     × ReadsFew (disk.reads old) (disk.reads new) (Changed change))
 
 -- the same of an image as it was that is read so, of which what is known is for sure where the new superblock is that of the new image
-abbrev pub TellsOld : {D : Type 0} → (disk : Ghosts D) → D → D → BlockSource → FinMap nat_cmp ℕ → Super → List RootAt → Pairs → Result Change Halt → Type 0
-TellsOld disk old new was pending fresh roots pairs (Err (Found finding)) = IfSome (disk.bytes old) (λ image.
-    IsBased image was.sup.now was.map.now roots pairs → AreNarrow pairs → superblock_in (overlaid pending 0 image) ≡ Ok fresh
+abbrev pub TellsOld : {D : Type 0} → (disk : Ghosts D) → D → D → Super → List Chunk → FinMap nat_cmp ℕ → Super → List RootAt → Pairs → Result Change Halt → Type 0
+TellsOld disk old new sup chunks pending fresh roots pairs (Err (Found finding)) = IfSome (disk.bytes old) (λ image.
+    IsBased image sup chunks roots pairs → AreNarrow pairs → superblock_in (overlaid pending 0 image) ≡ Ok fresh
     → contents (overlaid pending 0 image) ≡ Err finding)
-TellsOld disk old new was pending fresh roots pairs (Err other) = Unit {0}
-TellsOld disk old new was pending fresh roots pairs (Ok change) = IfSome (disk.bytes old) (λ image.
-    IsBased image was.sup.now was.map.now roots pairs → AreNarrow pairs → superblock_in (overlaid pending 0 image) ≡ Ok fresh
+TellsOld disk old new sup chunks pending fresh roots pairs (Err other) = Unit {0}
+TellsOld disk old new sup chunks pending fresh roots pairs (Ok change) = IfSome (disk.bytes old) (λ image.
+    IsBased image sup chunks roots pairs → AreNarrow pairs → superblock_in (overlaid pending 0 image) ≡ Ok fresh
     → IsDifference image (overlaid pending 0 image) (written_in pending) (Changed change)
     × ReadsFew (disk.reads old) (disk.reads new) (Changed change))

@@ -77,7 +77,7 @@ fn change_from<D: Disk, L>(
 ) -> Result<Change, Halt>
     requires end { was.now.end ≡ D.len disk.old }
     requires none { was.now.cache.now ≡ empty }
-    ensures tells { TellsOld D.Disk disk.old disk.new was.now cache.now fresh.now roots.now (pairs_of table.now) result }
+    ensures tells { TellsOld D.Disk disk.old disk.new was.now.sup.now was.now.map.now cache.now fresh.now roots.now (pairs_of table.now) result }
     ensures kept { Kept D.Disk disk.old disk.new (is_disk_halt result) }
 {
     check_readable(was.sup)?;
