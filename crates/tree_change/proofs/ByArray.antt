@@ -1,5 +1,5 @@
 -- What changes in the chunk tree, read by the chunks of the new system array, gives the new chunks.
-use Rattle.std.proofs.Common.{◌≡◌, ℕ, ◌+◌, ◌^◌, ◌<◌, ◌≤◌, Bool, true, false, List, ◌⊎◌, inl, inr, length, refl, ap, sym, ◌∙◌, Ok, Err, subst, zero, suc, arith}
+use Rattle.std.proofs.Common.{◌≡◌, ℕ, ◌+◌, ◌^◌, ◌<◌, Bool, true, List, ◌⊎◌, inl, inr, length, refl, ap, sym, ◌∙◌, Ok, Err, subst, zero, suc, arith}
 use Rattle.std.specs.Prelude.{Option, Some, None, IfSome, Result}
 use Rattle.std.specs.List.{AllByRecursion}
 use Rattle.std.specs.Result.{IsErr}
@@ -11,7 +11,7 @@ use Rattle.verdict.specs.declared.place.Chunk.{Chunk}
 use Rattle.recon_disk.specs.declared.disk.Disk.{Ghosts}
 use Rattle.write_cache.specs.Cache.{overlaid}
 use Rattle.write_cache.proofs.CacheLaws.{length-overlaid}
-use Rattle.live_index.specs.Pairs.{Pairs, no_pairs}
+use Rattle.live_index.specs.Pairs.{Pairs}
 use Rattle.live_index.specs.Table.{pairs_of}
 use Rattle.node_reader.specs.declared.expect.Expect.{Expect}
 use Rattle.super_reader.specs.Superblock.{array_place}
@@ -19,7 +19,7 @@ use Rattle.super_reader.specs.declared.Super.{Super}
 use Rattle.volume_items.specs.MapRules.{map_finding}
 use Rattle.volume_items.specs.SystemArray.{array_chunks}
 use Rattle.records.specs.Contents.{chunk_map_in, chunk_tree_root}
-use Rattle.block_source.specs.Gives.{Gives, IsOutcome}
+use Rattle.block_source.specs.Gives.{Gives}
 use Rattle.block_source.specs.declared.halt.Halt.{Halt}
 use Rattle.block_source.specs.declared.halt.Halt.TheVariants.{Found, Disk, NoMemory}
 use Rattle.touched_pairs.specs.Marking.{AreMarkedFrom}

@@ -17,10 +17,8 @@ use Rattle.records.specs.Contents.{Contents, all_records, chunk_map_in, chunk_re
 use Rattle.records.specs.Contents.{super_record, superblock_in, tree_records}
 use Rattle.records.specs.Seen.{Seen, accounted}
 use Rattle.records.specs.Walk.{behind}
-use Rattle.shared_trees.specs.LivePairs.{Walked, live_in, table_of, walked}
+use Rattle.shared_trees.specs.LivePairs.{walked}
 use Rattle.shared_trees.specs.MergedLaw.{chunks_seen, roots_seen}
-use Rattle.shared_trees.specs.SharedLaw.{HasTrees}
-use Rattle.shared_trees.specs.TableLaw.{trees_in}
 use Rattle.shared_trees.proofs.MergedLists.{map_seen, roots_are_seen}
 use Rattle.shared_trees.proofs.Rooted.{step_ok}
 use Rattle.shared_trees.proofs.Treed.{has_trees, steps_of}

@@ -1,5 +1,5 @@
 -- What changes in a tree, as it is made of its two walks, where the disk tells its bytes.
-use Rattle.std.proofs.Common.{◌≡◌, ℕ, ◌+◌, ◌*◌, ◌≤◌, List, [], ◌++◌, length, refl, ap, sym, ◌∙◌, Ok, Err, subst, arith}
+use Rattle.std.proofs.Common.{◌≡◌, ℕ, ◌+◌, ◌*◌, ◌≤◌, List, [], ◌++◌, length, ap, sym, ◌∙◌, Ok, Err, subst, arith}
 use Rattle.std.specs.Prelude.{Option, Some, None, IfSome, Result}
 use Rattle.std.specs.FinMap.{empty}
 use Rattle.verdict.specs.Rules.{and_then}

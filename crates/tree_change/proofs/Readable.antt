@@ -1,5 +1,5 @@
 -- What changes from an image as it was: it and the new image have superblocks that can be read.
-use Rattle.std.proofs.Common.{◌≡◌, ℕ, Bool, true, false, List, ◌⊎◌, inl, inr, length, refl, ap, sym, ◌∙◌, Ok, Err, subst}
+use Rattle.std.proofs.Common.{◌≡◌, ℕ, Bool, true, false, List, ◌⊎◌, inl, inr, length, ap, sym, ◌∙◌, Ok, Err, subst}
 use Rattle.std.specs.Prelude.{Option, Some, None, IfSome, Result, nat_lt, if◌then◌else◌}
 use Rattle.std.specs.Ordering.{nat_cmp}
 use Rattle.std.specs.FinMap.{FinMap}

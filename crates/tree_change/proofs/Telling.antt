@@ -1,8 +1,8 @@
 -- What the walks of one tree tell, where the disk tells its bytes.
-use Rattle.std.proofs.Common.{◌≡◌, ℕ, suc, ◌+◌, ◌*◌, ◌≤◌, List, [], ◌∷◌, ◌++◌, length, refl, ap, sym, ◌∙◌, Ok, Err, subst, arith}
+use Rattle.std.proofs.Common.{◌≡◌, ℕ, suc, ◌+◌, ◌*◌, ◌≤◌, List, [], ◌∷◌, length, refl, ap, sym, ◌∙◌, Ok, Err, subst}
 use Rattle.std.specs.Prelude.{Bool, Option, Some, None, IfSome, Result}
 use Rattle.std.specs.Result.{IsErr, IsErrAnd}
-use Rattle.std.specs.List.{filter, filter_map, fold}
+use Rattle.std.specs.List.{filter, fold}
 use Rattle.std.specs.Ordering.{nat_cmp}
 use Rattle.std.specs.FinMap.{FinMap}
 use Rattle.verdict.specs.Rules.{and_then}
@@ -33,12 +33,12 @@ use Rattle.shared_trees.specs.OldSide.{kept_at}
 use Rattle.shared_trees.specs.Skips.{Anew}
 use Rattle.shared_trees.specs.Stopping.{kept_among}
 use Rattle.shared_trees.specs.Stops.{is_stop}
-use Rattle.shared_trees.specs.Unshared.{ReadsTwiceLaw, is_block_seen}
+use Rattle.shared_trees.specs.Unshared.{is_block_seen}
 use Rattle.shared_trees.specs.declared.keeps.Ended.{Ended}
 use Rattle.shared_trees.proofs.Stopping.{stopped}
 use Rattle.shared_trees.proofs.OldBlocks.{reads_twice}
 use Rattle.tree_change.specs.Gathered.{Gathers, blocks_seen, with_seen}
-use Rattle.tree_change.specs.Walks.{Known, NewWalk, Side, kept_by, lasts_by, listed_by, new_walk, no_tree, old_walk}
+use Rattle.tree_change.specs.Walks.{Known, NewWalk, kept_by, lasts_by, listed_by, new_walk, no_tree, old_walk}
 use Rattle.tree_change.proofs.Gathering.{gathered_none}
 
 -- a walk by its parts

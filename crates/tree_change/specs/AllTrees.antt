@@ -21,7 +21,7 @@ use Rattle.volume_items.specs.declared.root_at.RootAt.{RootAt}
 use Rattle.shared_trees.specs.ArrayLaw.{HasArray}
 use Rattle.shared_trees.specs.ArrayShifts.{MovesListedBy}
 use Rattle.shared_trees.specs.Keeping.{Marks}
-use Rattle.shared_trees.specs.LivePairs.{Walked, live_in, table_of, walked}
+use Rattle.shared_trees.specs.LivePairs.{Walked, live_in, table_of}
 use Rattle.shared_trees.specs.MergedLaw.{IsInOrder}
 use Rattle.shared_trees.specs.Shared.{are_read_alike, unshared_in}
 use Rattle.shared_trees.specs.SharedLaw.{HasTrees, MarksTouched}

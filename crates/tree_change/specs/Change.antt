@@ -1,10 +1,9 @@
 -- What changes from an old image to a new one, and what the call that finds it promises.
-use Rattle.std.specs.Prelude.{ℕ, ◌≡◌, ◌≤◌, ◌+◌, ◌*◌, Bool, true, not, ◌&&◌, ◌||◌, ◌==◌, nat_lt, List, length, map, Option, Some, None, Result, Ok, Err, IfOk, IfSome, if◌then◌else◌}
-use Rattle.std.specs.List.{AllPairs, filter, filter_map, list_any}
+use Rattle.std.specs.Prelude.{ℕ, ◌≡◌, ◌≤◌, ◌+◌, ◌*◌, Bool, ◌&&◌, ◌||◌, ◌==◌, nat_lt, List, length, map, Result, Ok, Err, IfOk, IfSome}
 use Rattle.std.specs.List.Sorted.{IsPermutation}
 use Rattle.std.specs.Ordering.{nat_cmp}
 use Rattle.std.specs.FinMap.{FinMap}
-use Rattle.verdict.specs.OnDisk.{key_below, key_same}
+use Rattle.verdict.specs.OnDisk.{key_below}
 use Rattle.verdict.specs.declared.finding.Verdict.TheVariants.{Accept}
 use Rattle.verdict.specs.declared.place.Chunk.{Chunk}
 use Rattle.recon_disk.specs.declared.disk.Disk.{Ghosts}
@@ -12,17 +11,13 @@ use Rattle.write_cache.specs.Cache.{overlaid}
 use Rattle.live_index.specs.Pairs.{Pairs, comes_before}
 use Rattle.live_index.specs.declared.live.Live.{Live}
 use Rattle.super_reader.specs.declared.Super.{Super}
-use Rattle.volume_items.specs.declared.root.RootItem.{RootItem}
 use Rattle.volume_items.specs.declared.root_at.RootAt.{RootAt}
 use Rattle.records.specs.Contents.{Contents, contents, superblock_in}
 use Rattle.records.specs.Context.{has_sum_free}
 use Rattle.records.specs.FullCheck.{full_check}
-use Rattle.records.specs.Owned.{owned_part}
 use Rattle.records.specs.Part.{Located}
-use Rattle.records.specs.Seen.{Seen}
-use Rattle.records.specs.Seen.Seen.{ItemSeen}
 use Rattle.shared_trees.specs.LivePairs.{Walked, live_in, table_of, walked}
-use Rattle.shared_trees.specs.Shared.{are_alike, is_shared, unshared_in}
+use Rattle.shared_trees.specs.Shared.{unshared_in}
 use Rattle.touched_pairs.specs.Touched.{Written, written_in}
 use Rattle.shared_trees.specs.Marking.{AreNarrow}
 use Rattle.shared_trees.specs.MergedLaw.{IsInOrder}
@@ -33,7 +28,6 @@ use Rattle.tree_change.specs.Merging.{root_at}
 use Rattle.tree_change.specs.declared.change.Change.{Change}
 use Rattle.tree_change.specs.declared.change.Diff.{Diff}
 use Rattle.tree_change.specs.declared.change.Diff.TheVariants.{Found, Change as Changed}
-use Rattle.records.specs.declared.owned.ItemAt.{ItemAt}
 
 -- whether a pair comes before another by address and tree, and an item before another by tree and key
 abbrev pub is_before : Live → Live → Bool

@@ -10,9 +10,9 @@ use Rattle.live_index.specs.declared.live.Live.{Live}
 use Rattle.node_reader.specs.Stored.{stored_in}
 use Rattle.node_reader.specs.declared.expect.Expect.{Expect}
 use Rattle.records.specs.Seen.{Seen}
-use Rattle.records.specs.Walk.{Records, walk_in}
+use Rattle.records.specs.Walk.{walk_in}
 use Rattle.touched_pairs.specs.Moves.{is_moved}
-use Rattle.touched_pairs.specs.Touched.{Written, written_in}
+use Rattle.touched_pairs.specs.Touched.{written_in}
 use Rattle.shared_trees.specs.ArrayShifts.{MovesListedBy}
 use Rattle.shared_trees.specs.Keeping.{Marks}
 use Rattle.shared_trees.specs.LivePairs.{Walked, live_in, table_of}
@@ -23,7 +23,7 @@ use Rattle.shared_trees.specs.SharedLaw.{HasTrees, MarksTouched}
 use Rattle.shared_trees.specs.ShiftedLaw.{is_shifted}
 use Rattle.shared_trees.specs.TableLaw.{Tree}
 use Rattle.shared_trees.specs.Unshared.{items_in}
-use Rattle.tree_change.specs.Merging.{chunks_among, chunks_left, named_before, root_at, roots_left}
+use Rattle.tree_change.specs.Merging.{chunks_left, named_before, root_at, roots_left}
 use Rattle.tree_change.specs.Walks.{Known, Parts, Side, tree_parts}
 
 -- the image as it was, by its own superblock and chunks

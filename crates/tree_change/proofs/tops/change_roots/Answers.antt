@@ -1,4 +1,3 @@
-use Rattle.std.proofs.Common.{sym, ◌∙◌}
 use Rattle.tree_change.proofs.TopTrees.{roots_told}
 use Rattle.tree_change.proofs.tops.change_roots.Goals as goal
 
