@@ -32,7 +32,8 @@ pub(crate) fn lie_apart(map: &ChunkMap) -> bool
 
 // Whether a chunk has bytes, all at addresses of 64 bits.
 fn is_sound(chunk: &Chunk) -> bool
-    ensures { result ≡ true → (0 < chunk.now.length) × (chunk.now.start + chunk.now.length < 2 ^ 64) }
+    ensures { result ≡ true →
+        (0 < chunk.now.length) × (chunk.now.start + chunk.now.length < 2 ^ 64) }
 {
     chunk.length > 0 && chunk.start.checked_add(chunk.length).is_some()
 }

@@ -25,10 +25,11 @@ use verdict::{Family, Finding, NoMemory, is_node_size};
 use volume_items::RootAt;
 use write_cache::WriteCache;
 
-/// What changes from an accepted image to the image that the pending writes make of it, or the first finding of what that holds. The
-/// disk's bytes are the accepted image, for which the bases stand, and `fresh` is the superblock of the new image. It reads the blocks of
-/// both that they do not share, each copy once, and no other; a commit that writes nothing but a superblock with its own bytes reads none.
-/// Where blocks are not read alike by both superblocks, nothing is shared. Lists take their memory from this allocator.
+/// What changes from an accepted image to the image that the pending writes make of it, or the first finding of what that image holds.
+/// The disk's bytes are the accepted image, and the bases are what is known of it. `fresh` is the superblock of the new image. It reads the
+/// blocks that the two images do not share, each copy once, and no others. A commit that writes nothing but the superblock with its own
+/// bytes reads none. Where the two superblocks do not read blocks alike, nothing is shared. Of the live table it asks for what the pending
+/// writes touch and what the walks meet. The lists take their memory from this allocator. `Disk` comes only where a call of the disk fails.
 pub fn difference<D: Disk, L, B: Bases<Table = LiveIndex<L>>>(
     alloc: Global,
     disk: &mut D,
@@ -37,8 +38,9 @@ pub fn difference<D: Disk, L, B: Bases<Table = LiveIndex<L>>>(
     fresh: &Super,
     steps: &mut Steps<L>,
 ) -> Result<Diff, Fault>
-    ensures gives { GivesDifference D.Disk disk.old disk.new cache.now (B.superblock bases.now) (B.chunks bases.now)
-        (B.root_items bases.now) (B.is_sum_free bases.now) (pairs_of (B.table bases.now)) fresh.now result }
+    ensures gives { let b = bases.now in
+        GivesDifference D.Disk disk.old disk.new cache.now (B.superblock b) (B.chunks b)
+        (B.root_items b) (B.is_sum_free b) (pairs_of (B.table b)) fresh.now result }
     ensures kept { Kept D.Disk disk.old disk.new (is_disk_fault result) }
 {
     let end = disk.length()?;
@@ -77,7 +79,8 @@ fn change_from<D: Disk, L>(
 ) -> Result<Change, Halt>
     requires end { was.now.end ≡ D.len disk.old }
     requires none { was.now.cache.now ≡ empty }
-    ensures tells { TellsOld D.Disk disk.old disk.new was.now.sup.now was.now.map.now cache.now fresh.now roots.now (pairs_of table.now) result }
+    ensures tells { TellsOld D.Disk disk.old disk.new was.now.sup.now was.now.map.now
+        cache.now fresh.now roots.now (pairs_of table.now) result }
     ensures kept { Kept D.Disk disk.old disk.new (is_disk_halt result) }
 {
     check_readable(was.sup)?;

@@ -23,7 +23,6 @@ pub(crate) struct Gathered {
 
 impl Gathered {
     /// None yet. They take their memory from this allocator.
-    #[tactic(auto, using(crate::proofs::Gathering::gathered_none))]
     pub(crate) fn new(alloc: Global) -> Gathered
         ensures { gathers result ≡ no_tree }
     {

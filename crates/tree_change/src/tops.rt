@@ -50,7 +50,8 @@ pub(crate) fn change_roots<D: Disk, L>(
     all: &mut TreeParts,
 ) -> Result<Vec<RootAt>, Halt>
     requires fit { FitSides sides.now (D.len disk.old) }
-    ensures tells { TellsRoots D.Disk disk.old disk.new all.old all.new sides.now olds.now (handing (λ roots. roots.items) result) }
+    ensures tells { TellsRoots D.Disk disk.old disk.new all.old all.new sides.now olds.now
+        (handing (λ roots. roots.items) result) }
     ensures kept { Kept D.Disk disk.old disk.new (is_disk_halt result) }
 {
     let before = top_root(sides.was.sup);

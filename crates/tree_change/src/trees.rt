@@ -67,7 +67,8 @@ impl TreeParts {
     /// Puts what changes in other trees behind it.
     pub(crate) fn add(&mut self, more: TreeParts) -> Result<(), AllocError>
         ensures { OnOk result ((count other : ℕ) →
-            parts_by self.new (count + other) ≡ with_parts (parts_by self.old count) (parts_by more other)) }
+            parts_by self.new (count + other)
+            ≡ with_parts (parts_by self.old count) (parts_by more other)) }
     {
         let mut more = more;
         self.old_blocks.append(&mut more.old_blocks)?;
@@ -90,7 +91,8 @@ fn walk_before<D: Disk, L>(
 ) -> Result<Gathered, Halt>
     requires fit { FitSides sides.now (D.len disk.old) }
     ensures gives { Gives D.Disk disk.old (sides.now).was.cache.now (handing gathers result)
-        (λ image. old_or_none (known_by (sides.now).known) met.now (side_with (sides.now).was image) before) }
+        (λ image. old_or_none (known_by (sides.now).known) met.now
+        (side_with (sides.now).was image) before) }
     ensures reads { IfOk result (λ read. IfSome (D.bytes disk.old) (λ _.
         D.reads disk.new ≤ D.reads disk.old + 2 * length read.blocks.items)) }
     ensures kept { Kept D.Disk disk.old disk.new (is_disk_halt result) }
@@ -174,7 +176,8 @@ pub(crate) fn change_named<D: Disk, L>(
     all: &mut TreeParts,
 ) -> Result<(), Halt>
     requires fit { FitSides sides.now (D.len disk.old) }
-    ensures adds { AddsParts D.Disk disk.old disk.new all.old all.new result (named_parts_in sides.now olds.now news.now) }
+    ensures adds { AddsParts D.Disk disk.old disk.new all.old all.new result
+        (named_parts_in sides.now olds.now news.now) }
     ensures kept { Kept D.Disk disk.old disk.new (is_disk_halt result) }
 {
     let ids = ids_of(alloc, olds)?;
@@ -203,7 +206,8 @@ pub(crate) fn change_all_gone<D: Disk, L>(
     all: &mut TreeParts,
 ) -> Result<(), Halt>
     requires fit { FitSides sides.now (D.len disk.old) }
-    ensures adds { AddsParts D.Disk disk.old disk.new all.old all.new result (gone_parts_in sides.now news.now olds.now) }
+    ensures adds { AddsParts D.Disk disk.old disk.new all.old all.new result
+        (gone_parts_in sides.now news.now olds.now) }
     ensures kept { Kept D.Disk disk.old disk.new (is_disk_halt result) }
 {
     let ids = ids_of(alloc, news)?;

@@ -44,7 +44,7 @@ pub(crate) struct NewTree {
 }
 
 /// Walks a tree as it is, and keeps what is known of it as it was.
-#[tactic(auto, using(crate::proofs::Gathering::gathered_none), unfolding(crate::specs::Walks::new_walk, shared_trees::specs::Meeting::with_met, shared_trees::specs::Ending::with_ended))]
+#[tactic(auto, using(crate::proofs::Gathering::gathered_none), unfolding(crate::specs::Walks::new_walk))]
 pub(crate) fn walk_new<D: Disk, L>(
     alloc: Global,
     disk: &mut D,

@@ -1,9 +1,9 @@
 use live_index::{Live, LiveIndex};
 use node_reader::{Expect, Pointer};
 use recon_disk::Steps;
+use shared_trees::{Keeps, OldTree, Start, Starts, stops_of};
 use std::alloc::Global;
 use touched_pairs::Marks;
-use shared_trees::{Keeps, OldTree, Start, Starts, stops_of};
 use tree_change::{Path, PathStep};
 use verdict::{Key, NoMemory};
 

@@ -7,12 +7,12 @@ use live_index::{Live, LiveIndex};
 use node_reader::Expect;
 use recon_disk::{MemDisk, Steps};
 use records::Nothing;
+use shared_trees::{KnownTree, Starts, walk_changed};
 use std::alloc::Global;
 use std::process::Abort;
 use std::test::Fail;
 use super_reader::read_super;
 use touched_pairs::{Move, touched_pairs};
-use shared_trees::{KnownTree, Starts, walk_changed};
 use verdict::kinds::{INODE_ITEM, INODE_REF};
 use verdict::{Chunk, Family, Key, NoMemory};
 use write_cache::WriteCache;
@@ -113,16 +113,14 @@ fn walked(
         end,
     };
     let starts = Starts::new(alloc);
-    let mut met = Vec::new(alloc);
-    let mut ended = Vec::new(alloc);
     let mut known = KnownTree {
         table: &table,
         marks: &marks,
         moves: &moves,
         starts: &starts,
         steps: &mut steps,
-        met: &mut met,
-        ended: &mut ended,
+        met: Vec::new(alloc),
+        ended: Vec::new(alloc),
     };
     let mut disk = MemDisk::new(Vec::from_slice(alloc, image)?, Vec::new(alloc));
     let source = BlockSource {
