@@ -303,7 +303,7 @@ ADDED, OTHER_SYSTEM = Chunk(0x400000, ROOM, 4, (SLOTS[5],)), Chunk(0x180000, SYS
 
 def item(tree, count, salt=0):
     """The item of a tree with a number, whose bytes are of some more numbers."""
-    salted = number_bytes(salt)
+    salted = made.number(salt)
     if tree == 2:
         return made.block(4096 * count, 5, references=1 + salt % 2 ** 32)
     if tree == 4:
@@ -313,10 +313,6 @@ def item(tree, count, salt=0):
     if tree in (8, 9, 10):
         return (count, 1, 0), salted
     return (256 + count, made.XATTR_ITEM, 0), salted * (1 + salt % 3)
-
-
-def number_bytes(value):
-    return value.to_bytes(8, 'little')
 
 
 class Node:
@@ -584,10 +580,10 @@ def rewrite(volume, leaf, salt=77):
     """Other bytes in each item of a leaf."""
     for count, key in enumerate(sorted(leaf.entries)):
         if leaf.entries[key] is not None:
-            leaf.entries[key] = other_bytes(leaf.tree, key, salt + count)
+            leaf.entries[key] = other_bytes(leaf.tree, salt + count)
 
 
-def other_bytes(tree, key, salt):
+def other_bytes(tree, salt):
     return item(tree, 1, salt)[1]
 
 
@@ -716,6 +712,11 @@ def last_key(place, count):
     return lambda volume: leaf_of(volume, 5, place).entries.update([item(5, count)])
 
 
+def loses_last(place):
+    """A leaf loses its last item, in place."""
+    return lambda volume: leaf_of(volume, 5, place).entries.pop(max(leaf_of(volume, 5, place).entries))
+
+
 FLAT, WIDE, DEEP = {5: 3}, {5: [3, 3], 2: [2, 2]}, {5: [[2, 2], [2, 1, 2], [1, 2]], 7: [[1, 1], [2]], 256: 2}
 NEXT, LAST = METADATA[1], METADATA[2]
 NOTHING = 'change old 0 new 0 moved 0 old_items 0 new_items 0 reads 0'
@@ -764,6 +765,10 @@ ROWS = [
      both(chunk_moves(NEXT, SLOTS[5]), last_key(1, 65)), 'change old 2 new 2 moved 1 old_items 8 new_items 9 '),
     ('the same of three levels', DEEP, away([6], NEXT), both(chunk_moves(NEXT, SLOTS[5]), last_key(6, 200)), 'change old 5 new 5 moved 2 '),
     ('it has its last key from the next leaf', DEEP, away([1], NEXT), both(chunk_moves(NEXT, SLOTS[5]), last_key(1, 55)), 'found N12 tree 5 '),
+    ('a node is kept above a leaf that has lost its last key, and the next node begins before it', DEEP, away([1], NEXT),
+     both(chunk_moves(NEXT, SLOTS[5]), loses_last(1), put_items(5, 2, 35)), 'change old '),
+    ('a node is kept above a leaf that has another last key, and the next node begins before it', DEEP, away([1], NEXT),
+     both(chunk_moves(NEXT, SLOTS[5]), last_key(1, 45), put_items(5, 2, 42)), 'found N12 tree 5 '),
     ('one of two system chunks moves', WIDE, below_other, chunk_moves(OTHER_SYSTEM, SYSTEM_SLOTS[2]), 'change old 4 new 4 moved 1 '),
     ('a second copy moves', WIDE, away([1], LAST), chunk_moves(LAST, SLOTS[3], SLOTS[6]), 'change old 2 new 2 moved 0 '),
     ('all blocks move but the chunk tree', DEEP, None, chunk_moves(METADATA[0], SLOTS[5], SLOTS[6]), 'change old '),
@@ -864,7 +869,7 @@ def inserts(volume, draw):
     key = next_key(leaf.tree, draw.choice(sorted(leaf.entries))) if leaf.entries else item(leaf.tree, 10)[0]
     if key < behind(volume, leaf) and key not in leaf.entries and len(leaf.entries) < 9:
         volume.copy(leaf)
-        leaf.entries[key] = other_bytes(leaf.tree, key, draw.randrange(2 ** 31))
+        leaf.entries[key] = other_bytes(leaf.tree, draw.randrange(2 ** 31))
 
 
 def removes(volume, draw):
@@ -998,7 +1003,7 @@ def moves_leaf(volume, draw):
     key = next_key(leaf.tree, max(leaf.entries, default=item(leaf.tree, 10)[0]))
     if len(free) >= len(one.places) and key < behind(volume, leaf) and len(leaf.entries) < 9:
         volume.put_chunk(one._replace(places=tuple(free[:len(one.places)])), one)
-        leaf.entries[key] = other_bytes(leaf.tree, key, 9)
+        leaf.entries[key] = other_bytes(leaf.tree, 9)
 
 
 def names(volume, draw):
@@ -1032,7 +1037,7 @@ def falls_low(volume, draw):
         place = draw.randrange(len(leaves) - 1)
         key = draw.choice(sorted(leaves[place].entries))
         volume.copy(leaves[place + 1])
-        leaves[place + 1].entries[key] = other_bytes(leaves[0].tree, key, 3)
+        leaves[place + 1].entries[key] = other_bytes(leaves[0].tree, 3)
 
 
 def misnames(volume, draw):
