@@ -822,6 +822,14 @@ def rows(runs):
     for copy in 0, 1:
         spoil(image, leaf_of(old).address, copy)
     runs.check('both copies changed', old.image(), image, 'found N3 tree 5 ')
+    for row, at, value, says in [('another size of nodes', 0x94, made.number(8192, 4), 'found N3 tree 3 '),
+                                 ('another file system', 0x20, b'\7', 'found N4 tree 3 '),
+                                 ('another generation', 0x48, b'\2', 'found N7 tree 1 '), ('another level', 0xC6, b'\1', 'found N8 tree 1 '),
+                                 ('a chunk root that is none', 0x58, made.number(0x101000), 'found N3 tree 3 ')]:
+        image = old.image()
+        image[SUPERBLOCK + at:SUPERBLOCK + at + len(value)] = value
+        struct.pack_into('<I', image, SUPERBLOCK, crc32c(bytes(image[SUPERBLOCK + 32:SUPERBLOCK + 4096])))
+        runs.check(row, old.image(), image, says)
     base = made.Image()
     files = base.copy()
     files.new_file()
