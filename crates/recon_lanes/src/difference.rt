@@ -6,7 +6,7 @@ ghost use Rattle.recon_lanes.specs.Difference.{differs_at, least_difference};
 use std::simd::prelude::*;
 
 /// The bytes that are compared in one step.
-const LANES: usize = 32;
+const LANES: usize = 64;
 
 /// The least place at which `b`, which is as long as `a`, differs from it, counted in bytes from their
 /// start; `None` exactly where they are equal.
@@ -40,12 +40,12 @@ fn equal_front(a: &[u8], b: &[u8]) -> usize
 /// Whether the first bytes of the two, as many as a step has, are equal.
 #[inline(always)]
 fn equal_step(a: &[u8], b: &[u8]) -> bool
-    requires a { 32 ≤ length a.now }
-    requires b { 32 ≤ length b.now }
-    ensures { result ≡ true → (place : ℕ) → place < 32 → slice_index a.now place ≡ slice_index b.now place }
+    requires a { 64 ≤ length a.now }
+    requires b { 64 ≤ length b.now }
+    ensures { result ≡ true → (place : ℕ) → place < 64 → slice_index a.now place ≡ slice_index b.now place }
 {
-    u8x32::from_slice(a)
-        .simd_ne(u8x32::from_slice(b))
+    u8x64::from_slice(a)
+        .simd_ne(u8x64::from_slice(b))
         .to_bitmask()
         == 0
 }
