@@ -1,6 +1,6 @@
 -- A block more, and a sum more.
 use Rattle.std.proofs.Common.{◌≡◌, ℕ, suc, ◌+◌, ◌-◌, ◌<◌, ◌≤◌, List, [], ◌∷◌, ◌++◌, length, take, get_or, set, map, replicate, sym, ap, ap₂, ◌∙◌, arith}
-use Rattle.std.proofs.lemmas.List.{map-set, take_more_set, length-map, length-take-le, append_assoc, map-append, take_more, get_or-map}
+use Rattle.std.proofs.lemmas.List.{map-set, take_more_set, length-map, length-take-le, append_assoc, map-append, take_more, take_all}
 use Rattle.std.proofs.Math.Seq.{set-append_seam}
 use Rattle.recon_crc.specs.Checksum.{crc32c_of}
 use Rattle.recon_lanes.specs.Lent.{Lent, eight_sums, with_block}
@@ -37,22 +37,18 @@ one_more f l size count a lent few eight is =
     let stand : length (take count (map f l)) ≡ length lent.blocks = ap (λ v. length v.blocks) is in
     (omega (arith, stand, counted f l count (omega arith) eight), ap (lent_of size) (pushed f l count a (omega (arith, eight))) ∙ ap (λ v. with_block v (f a)) is)
 
--- the sums of what is seen, all in their places
-pub all_summed : {A : Type 0} (f : A → List ℕ) (l : List A) (size count place : ℕ) (lent : Lent) (sums : List ℕ) → count ≤ 8 → length l ≡ 8 → lent_of size (take count (map f l)) ≡ lent
-    → place ≤ count → count ≤ place → sums ≡ map crc32c_of (take place (map f l)) ++ replicate (8 - place) 0 → sums ≡ eight_sums lent.blocks
-unfolding eight_sums
-all_summed f l size count place lent sums few eight is most least so_far =
-    let all : place ≡ count = omega arith in
-    let long : count ≡ length (take count (map f l)) = sym (counted f l count few eight) in
-    so_far
-    ∙ ap (λ n. map crc32c_of (take n (map f l)) ++ replicate (8 - n) 0) all
-    ∙ ap (λ n. map crc32c_of (take count (map f l)) ++ replicate (8 - n) 0) long
-    ∙ ap (λ v. eight_sums v.blocks) is
+-- the sum of the next of the blocks
+pub summed_next : (blocks : List (List ℕ)) (place sum : ℕ) (sums : List ℕ) → place < length blocks → length blocks ≤ 8
+    → sums ≡ map crc32c_of (take place blocks) ++ replicate (8 - place) 0 → sum ≡ crc32c_of (get_or blocks place [])
+    → set sums place sum ≡ map crc32c_of (take (place + 1) blocks) ++ replicate (8 - (place + 1)) 0
+summed_next blocks place sum sums inside few so_far is =
+    ap₂ (λ s n. set s place n) so_far is ∙ summed crc32c_of blocks place [] inside (omega arith)
 
--- the same of what is seen of the blocks
-pub summed_seen : {A : Type 0} (f : A → List ℕ) (l : List A) (place sum : ℕ) (d : A) (sums : List ℕ) → length l ≡ 8 → place < 8
-    → sums ≡ map crc32c_of (take place (map f l)) ++ replicate (8 - place) 0 → sum ≡ crc32c_of (f (get_or l place d))
-    → set sums place sum ≡ map crc32c_of (take (place + 1) (map f l)) ++ replicate (8 - (place + 1)) 0
-summed_seen f l place sum d sums eight few so_far is =
-    ap₂ (λ s n. set s place n) so_far (is ∙ ap crc32c_of (sym (get_or-map f l place d (f d) (omega (arith, eight)))))
-    ∙ summed crc32c_of (map f l) place (f d) (omega (arith, length-map l f, eight)) few
+-- all have their sums
+pub all_summed : (blocks : List (List ℕ)) (place : ℕ) (sums : List ℕ) → place ≡ length blocks
+    → sums ≡ map crc32c_of (take place blocks) ++ replicate (8 - place) 0 → sums ≡ eight_sums blocks
+unfolding eight_sums
+all_summed blocks place sums all so_far =
+    so_far
+    ∙ ap (λ n. map crc32c_of (take n blocks) ++ replicate (8 - n) 0) all
+    ∙ ap (λ l. map crc32c_of l ++ replicate (8 - length blocks) 0) (take_all (length blocks) blocks (omega arith))

@@ -1,6 +1,7 @@
 //! Up to eight blocks of one length, lent, and their checksums.
 
-ghost use Rattle.std.specs.Prelude.{◌≡◌, ℕ, ◌<◌, ◌≤◌, ◌++◌, [], ◌∷◌, length, OnOk, OnErr};
+ghost use Rattle.std.specs.Prelude.{◌≡◌, ℕ, ◌<◌, ◌≤◌, ◌++◌, [], ◌∷◌, length, slice_index_or, OnOk, OnErr};
+ghost use Rattle.recon_crc.specs.Checksum.{crc32c_of};
 ghost use Rattle.recon_lanes.specs.Lent.{Lent, eight_sums, with_block};
 
 use recon_crc::crc32c;
@@ -71,14 +72,12 @@ impl<'a> Eight<'a> {
         ensures count { result.count ≡ length self.now.blocks }
         ensures sums { result.sums ≡ eight_sums self.now.blocks }
     {
+        let count = self.standing();
         let mut sums = [0; 8];
-        for place in 0..self.count as usize {
-            sums[place] = crc32c(self.blocks[place]);
+        for place in 0..count as usize {
+            sums[place] = self.sum_at(place);
         }
-        EightSums {
-            count: self.count,
-            sums,
-        }
+        EightSums { count, sums }
     }
 
     /// Gives all blocks back. The length of a block stays.
@@ -86,5 +85,23 @@ impl<'a> Eight<'a> {
         ensures { self.new ≡ record { size = self.old.size; blocks = [] } }
     {
         self.count = 0;
+    }
+
+    /// How many blocks stand.
+    #[tactic(auto, using(crate::proofs::Eights::counted))]
+    fn standing(&self) -> u8
+        ensures count { result ≡ length self.now.blocks }
+        ensures most { result ≤ 8 }
+    {
+        self.count
+    }
+
+    /// The checksum of the block at `place`.
+    fn sum_at(&self, place: usize) -> u32
+        requires stands { place < length self.now.blocks }
+        requires few { place < 8 }
+        ensures { result ≡ crc32c_of (slice_index_or self.now.blocks place []) }
+    {
+        crc32c(self.blocks[place])
     }
 }

@@ -4,4 +4,4 @@ use Rattle.recon_crc.specs.Checksum.{crc32c_of}
 use Rattle.recon_lanes.proofs.eight.Eight.sums.Given as goal
 
 abbrev pub invariant-loop-place : goal.invariant-loop-place
-invariant-loop-place l = l.sums ≡ map crc32c_of (take l.place (map (λ b. b.now) l.self-inside.blocks)) ++ replicate (8 - l.place) 0
+invariant-loop-place l = l.sums ≡ map crc32c_of (take l.place l.self.blocks) ++ replicate (8 - l.place) 0
