@@ -1,0 +1,3 @@
+pub mod Eights
+pub mod Lanes
+pub mod Steps

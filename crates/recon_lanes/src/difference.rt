@@ -1,0 +1,51 @@
+//! Where two blocks of bytes differ.
+
+ghost use Rattle.std.specs.Prelude.{◌≡◌, ℕ, Bool, true, ◌+◌, ◌≤◌, ◌<◌, length, slice_index};
+ghost use Rattle.recon_lanes.specs.Difference.{differs_at, least_difference};
+
+use std::simd::prelude::*;
+
+/// The bytes that are compared in one step.
+const LANES: usize = 64;
+
+/// The least place at which `b`, which is as long as `a`, differs from it, counted in bytes from their
+/// start; `None` exactly where they are equal.
+#[tactic(auto, using(crate::proofs::Steps::difference_steps))]
+pub fn first_difference(a: &[u8], b: &[u8]) -> Option<usize>
+    requires { length b.now ≡ length a.now }
+    ensures { result ≡ least_difference a.now b.now }
+{
+    for place in equal_front(a, b)..a.len() {
+        if a[place] != b[place] {
+            return Some(place);
+        }
+    }
+    None
+}
+
+/// A number of bytes from the start on in which the two are equal: all whole steps before the first
+/// that has a difference.
+fn equal_front(a: &[u8], b: &[u8]) -> usize
+    requires { length b.now ≡ length a.now }
+    ensures within { result ≤ length a.now }
+    ensures equal { (place : ℕ) → place < result → slice_index a.now place ≡ slice_index b.now place }
+{
+    let mut front = 0;
+    while a.len() - front >= LANES && equal_step(&a[front..], &b[front..]) {
+        front += LANES;
+    }
+    front
+}
+
+/// Whether the first bytes of the two, as many as a step has, are equal.
+#[inline(always)]
+fn equal_step(a: &[u8], b: &[u8]) -> bool
+    requires a { 64 ≤ length a.now }
+    requires b { 64 ≤ length b.now }
+    ensures { result ≡ true → (place : ℕ) → place < 64 → slice_index a.now place ≡ slice_index b.now place }
+{
+    u8x64::from_slice(a)
+        .simd_ne(u8x64::from_slice(b))
+        .to_bitmask()
+        == 0
+}
