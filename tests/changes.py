@@ -1181,7 +1181,7 @@ def main(words):
         randoms(runs, 400)
     else:
         sys.exit(__doc__)
-    found = ', '.join(f'{count} {rule}' for rule, count in sorted(runs.found.items()))
+    found = ', '.join(f'{count} {rule}' for rule, count in sorted(runs.found.items())) or 'no finding'
     print(f'changes: {runs.count} cases as the model has them ({found}), {runs.blocks} blocks in {runs.reads} reads')
 
 

@@ -19,7 +19,7 @@ use recon_disk::{Disk, Steps};
 use std::alloc::Global;
 use std::mem;
 use super_reader::{Super, read_super};
-use verdict::{NoMemory, SUPERBLOCK_SIZE};
+use verdict::{Family, Finding, NoMemory, SUPERBLOCK_SIZE};
 use volume_items::RootAt;
 use write_cache::WriteCache;
 
@@ -86,7 +86,7 @@ pub fn superblock_of(image: &[u8]) -> Result<Super, Why>
 {
     let mut bytes = [0u8; SUPERBLOCK_SIZE as usize];
     if image.len() < 69632 {
-        return Err(Why::Lengths);
+        return Err(Why::Found(Finding::of_image(Family::S, 1, image.len() as u64)));
     }
     bytes.copy_from_slice(&image[65536..69632]);
     match read_super(&bytes) {
