@@ -47,8 +47,9 @@ fn writes_between(alloc: Global, old: &[u8], new: &[u8]) -> Result<WriteCache, W
     Ok(cache)
 }
 
-// What changes from the image in one file to that in another, with the number of reads.
-fn compared(rt: &HostRuntime, old: &str, new: &str) -> Result<(Diff, u64), Why> {
+// What changes from the image in one file to that in another, with the number of reads. It is found so many times over, for who wants to
+// know how long that takes.
+fn compared(rt: &HostRuntime, old: &str, new: &str, times: u32) -> Result<(Diff, u64), Why> {
     let alloc = rt.alloc();
     let old = fs::read(rt, old)?;
     let new = fs::read(rt, new)?;
@@ -62,12 +63,18 @@ fn compared(rt: &HostRuntime, old: &str, new: &str) -> Result<(Diff, u64), Why> 
     let diff = difference::<MemDisk, (), known::Known>(
         alloc, &mut disk, &cache, &known, &fresh, &mut steps,
     )?;
-    Ok((diff, disk.reads().saturating_sub(before)))
+    let reads = disk.reads().saturating_sub(before);
+    for _ in 1..times {
+        difference::<MemDisk, (), known::Known>(
+            alloc, &mut disk, &cache, &known, &fresh, &mut steps,
+        )?;
+    }
+    Ok((diff, reads))
 }
 
 // Prints what changes.
-fn print(rt: &HostRuntime, old: &str, new: &str) -> Result<(), Why> {
-    let (diff, reads) = compared(rt, old, new)?;
+fn print(rt: &HostRuntime, old: &str, new: &str, times: u32) -> Result<(), Why> {
+    let (diff, reads) = compared(rt, old, new, times)?;
     let mut out = BufWriter::new(rt.alloc(), io::writer(rt))?;
     lines::put(&mut out, &diff, reads)?;
     Ok(())
@@ -79,10 +86,14 @@ fn main(rt: HostRuntime) -> ExitCode {
     };
     let done = match given.as_slice() {
         [] => {
-            let _ = println!(&rt; "usage: changes OLD NEW");
+            let _ = println!(&rt; "usage: changes OLD NEW [TIMES]");
             Ok(())
         }
-        [old, new] => print(&rt, old.as_str(), new.as_str()),
+        [old, new] => print(&rt, old.as_str(), new.as_str(), 1),
+        [old, new, times] => match times.as_str().parse::<u32>() {
+            Ok(times) => print(&rt, old.as_str(), new.as_str(), times),
+            Err(_) => Err(Why::Arguments),
+        },
         _ => Err(Why::Arguments),
     };
     match done {
