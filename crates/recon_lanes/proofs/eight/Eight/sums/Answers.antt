@@ -13,5 +13,6 @@ loop-place-preserved c =
 
 pub returns-clause-sums : goal.returns-clause-sums
 returns-clause-sums c =
-    let all : c.loop-place.place ≡ length c.args.self.now.blocks = omega (arith, c.loop-place.auto.place-end, c.loop-place-test.false, c.standing-count.ensures.count) in
+    let all : c.loop-place.place ≡ length c.args.self.now.blocks =
+    omega (arith, c.loop-place.auto.place-end, c.loop-place-test.false, c.standing-count.ensures.count) in
     all_summed c.args.self.now.blocks c.loop-place.place c.loop-place.sums all c.loop-place.invariant
