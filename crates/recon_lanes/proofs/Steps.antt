@@ -22,7 +22,8 @@ least_from_here test at end inside holds =
     rw (left, least_of_some, holds) refl
 
 -- the test does not hold at the first place that is left
-pub least_from_past : (test : ℕ → Bool) (at end : ℕ) → at < end → test at ≡ false → least_from test at (end - at) ≡ least_from test (at + 1) (end - (at + 1))
+pub least_from_past : (test : ℕ → Bool) (at end : ℕ) → at < end → test at ≡ false
+    → least_from test at (end - at) ≡ least_from test (at + 1) (end - (at + 1))
 least_from_past test at end inside holds =
     let left : end - at ≡ suc (end - (at + 1)) = omega arith in
     let next : at + 1 ≡ suc at = omega arith in
@@ -44,7 +45,8 @@ same_is : (x y : ℕ) → x ≡ y → not (nat_eq x y) ≡ false
 same_is x y same = ap not (eq-eqb x y same)
 
 -- the places of an equal front do not count
-pub least_from_front : (first second : List ℕ) (front n : ℕ) → front ≤ n → ((place : ℕ) → place < front → slice_index first place ≡ slice_index second place)
+pub least_from_front : (first second : List ℕ) (front n : ℕ) → front ≤ n
+    → ((place : ℕ) → place < front → slice_index first place ≡ slice_index second place)
     → least_from (differs_at first second) 0 n ≡ least_from (differs_at first second) front (n - front)
 least_from_front first second zero n inside same = ap (least_from (differs_at first second) 0) (sym (sub-zero n))
 least_from_front first second (suc front) n inside same =
@@ -57,11 +59,13 @@ least_from_front first second (suc front) n inside same =
 -- an equal step behind an equal front
 pub front_goes_on : (a b : List ℕ) (front step : ℕ) → length b ≡ length a → front + step ≤ length a
     → ((place : ℕ) → place < front → slice_index a place ≡ slice_index b place)
-    → ((place : ℕ) → place < step → slice_index (take (length a - front) (drop front a)) place ≡ slice_index (take (length b - front) (drop front b)) place)
+    → ((place : ℕ) → place < step → slice_index (take (length a - front) (drop front a)) place ≡
+    slice_index (take (length b - front) (drop front b)) place)
     → (place : ℕ) → place < front + step → slice_index a place ≡ slice_index b place
 front_goes_on a b front step long room before behind place inside = by (cases_lt place front)
   where
-    from : (s : List ℕ) → length s ≡ length a → front ≤ place → slice_index (take (length s - front) (drop front s)) (place - front) ≡ slice_index s place
+    from : (s : List ℕ) → length s ≡ length a → front ≤ place
+        → slice_index (take (length s - front) (drop front s)) (place - front) ≡ slice_index s place
     from s size past =
         let at : front + (place - front) ≡ place = omega (arith, past) in
         get_or-take (length s - front) (drop front s) (place - front) 0 (omega (arith, size))
