@@ -22,15 +22,8 @@ use Rattle.verdict.specs.declared.place.Place.{Place}
 use Rattle.verdict.specs.declared.place.Place.TheVariants.{Nowhere, One, Two}
 use Rattle.write_cache.proofs.CacheLaws.{length-overlaid, range-overlaid_image}
 use Rattle.block_source.specs.Private.{FitsIn}
-use Rattle.node_reader.specs.Stored.{differs_at, bytes_at, found_by, stored_in}
+use Rattle.node_reader.specs.Stored.{bytes_at, found_by, stored_in}
 use Rattle.node_reader.specs.Stored.CopyFault.{NoPlace}
-use Rattle.node_reader.proofs.Steps.{least_from_here, least_from_past, least_from_end}
-
-pub differs_is : (first second : List ℕ) (place : ℕ) → differs_at first second place ≡ not (slice_index first place == slice_index second place)
-unfolding differs_at
-differs_is first second place = refl
-
-pub ruleset difference_steps = (least_from_here, least_from_past, least_from_end, differs_is)
 
 fits_one : (end n at : ℕ) (place : Place) → (b : Bool) → nat_le (at + n) end ≡ b → FitsIn n end (cond b (One at) Nowhere)
 fits_one end n at place true is = grind arith

@@ -1,3 +1,4 @@
 pub mod Copies
 pub mod Walking
 pub mod Counting
+pub mod SamePlaces

@@ -77,18 +77,13 @@ fn read_copy<D: Disk>(
     Ok(())
 }
 
-// The least place at which the second of two lists of bytes of one length differs from the first.
-#[tactic(auto, using(crate::proofs::Copies::difference_steps))]
+// The least place at which the second of two lists of bytes of one length differs from the first. They are compared in lanes.
+#[tactic(auto, using(crate::proofs::SamePlaces::same_difference))]
 fn first_difference(first: &[u8], second: &[u8]) -> Option<usize>
     requires { length second.now ≡ length first.now }
     ensures { result ≡ least_difference first.now second.now }
 {
-    for place in 0..first.len() {
-        if first[place] != second[place] {
-            return Some(place);
-        }
-    }
-    None
+    recon_lanes::first_difference(first, second)
 }
 
 // Reads the first copy of a block, or gives the finding that it has none, or that a second copy differs from it.
