@@ -9,6 +9,8 @@ import sys
 import tempfile
 import xml.etree.ElementTree as tree
 
+# A shell that starts this in the background lets it ignore interrupts, and its children too.
+signal.signal(signal.SIGINT, signal.default_int_handler)
 WATCH = os.path.join(os.path.dirname(os.path.abspath(__file__)), '..', 'examples', 'watch.py')
 runs = 0
 

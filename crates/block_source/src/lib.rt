@@ -5,9 +5,11 @@
 mod halt;
 mod own;
 mod read;
+mod tops;
 mod walk;
 
 pub use halt::{Fault, Halt, told};
 pub use own::take_own;
 pub use read::{BlockSource, read_block, read_under};
+pub use tops::{Chunks, chunk_root, system_chunks, top_root};
 pub use walk::{child_at, walk_into, walk_tree};

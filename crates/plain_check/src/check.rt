@@ -14,11 +14,11 @@ ghost use Rattle.block_source.specs.Gives.{Gives, IsOutcome, is_disk_halt};
 ghost use Rattle.block_source.specs.Takes.{ReadsInto, handing};
 
 use crate::primary::read_superblock;
-use crate::roots::{check_roots, chunk_root, named, top_root};
-use crate::takers::{Chunks, Roots};
+use crate::roots::{check_roots, named};
+use crate::takers::Roots;
 use account_sums::Accounts;
-use block_source::{BlockSource, Halt, walk_into};
-use chunk_map::{ChunkMap, Sys};
+use block_source::{BlockSource, Chunks, Halt, chunk_root, system_chunks, top_root, walk_into};
+use chunk_map::ChunkMap;
 use recon_disk::Disk;
 use records::{Rec, RecAt, Record, Taker};
 use std::alloc::Global;
@@ -60,18 +60,6 @@ pub fn check<D: Disk>(
     let roots = root_items(alloc, disk, &volume)?;
     check_accounts(alloc, disk, &base, &volume, &roots)?;
     Ok(sup.generation)
-}
-
-// The chunks of the system array.
-fn system_chunks(alloc: Global, sup: &Super) -> Result<ChunkMap, Halt>
-    requires { sup.now.array_size ≤ 2048 }
-    ensures { IsOutcome result
-        (array_chunks (array_place sup.now) sup.now.array sup.now.array_size) }
-{
-    match ChunkMap::from_sys(alloc, sup)? {
-        Sys::Map(map) => Ok(map),
-        Sys::Found(finding) => Err(Halt::Found(finding)),
-    }
 }
 
 // The chunks of the chunk tree, where the rules on the chunk map keep. It is walked through the chunks of the system

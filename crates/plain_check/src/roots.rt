@@ -4,13 +4,11 @@ ghost use Rattle.std.specs.Prelude.{◌≡◌, []};
 ghost use Rattle.std.specs.List.{list_any};
 ghost use Rattle.verdict.specs.Rules.{finding_or, first_failing};
 ghost use Rattle.records.specs.Contents.{
-  chunk_tree_root,
   missing_finding,
   missing_rows,
   named_root,
   names,
   repeated_after,
-  root_tree_root,
   roots_fault,
   roots_finding,
 };
@@ -20,40 +18,9 @@ use block_source::Halt;
 use node_reader::Expect;
 use std::alloc::Global;
 use std::collections::BTreeSet;
-use super_reader::Super;
 use verdict::kinds::ROOT_ITEM;
 use verdict::{Family, Finding, Key, Rule, has_group_tree};
 use volume_items::RootItem;
-
-// What is expected of the root of the chunk tree.
-pub fn chunk_root(sup: &Super) -> Expect
-    ensures { result ≡ chunk_tree_root sup.now }
-{
-    Expect {
-        tree: 3,
-        address: sup.chunk_root,
-        generation: sup.chunk_root_generation,
-        level: sup.chunk_root_level,
-        low: None,
-        high: None,
-        parent: 0,
-    }
-}
-
-// What is expected of the root of the root tree.
-pub fn top_root(sup: &Super) -> Expect
-    ensures { result ≡ root_tree_root sup.now }
-{
-    Expect {
-        tree: 1,
-        address: sup.root,
-        generation: sup.generation,
-        level: sup.root_level,
-        low: None,
-        high: None,
-        parent: 0,
-    }
-}
 
 // What is expected of the root of the tree that a root item names.
 pub fn named(root: &RootItem) -> Expect

@@ -1,55 +1,13 @@
-//! Who takes records in the check itself: the chunks of the chunk tree, the root items of the root tree.
+//! Who takes records in the check itself: the root items of the root tree.
 
 ghost use Rattle.std.specs.Prelude.{◌≡◌, []};
-ghost use Rattle.verdict.specs.declared.place.Chunk.{Chunk as AChunk};
 ghost use Rattle.volume_items.specs.declared.root.RootItem.{RootItem as ARoot};
-ghost use Rattle.records.specs.Takes.{with_chunk, with_root};
+ghost use Rattle.records.specs.Takes.{with_root};
 
-use chunk_map::ChunkMap;
 use records::{Rec, RecAt, Record, Taker};
 use std::alloc::Global;
 use verdict::NoMemory;
 use volume_items::RootItem;
-
-// The chunks of chunk items, in their order.
-#[derive(Debug, Drop)]
-pub struct Chunks {
-    // The list of the chunks.
-    pub map: ChunkMap,
-}
-
-impl Chunks {
-    // None yet. They take their memory from this allocator.
-    pub fn new(alloc: Global) -> Chunks
-        ensures { result.map ≡ [] }
-    {
-        Chunks {
-            map: ChunkMap::new(alloc),
-        }
-    }
-}
-
-impl Taker for Chunks {
-    ghost use Rattle.std.specs.Prelude.{List};
-
-    ghost Held = { List AChunk };
-
-    ghost held = { λ chunks. chunks.map };
-
-    ghost with = { with_chunk };
-
-    fn take(&mut self, one: &Record<'_>) -> Result<(), NoMemory> {
-        match one {
-            Record::Item(
-                RecAt {
-                    part: Rec::ChunkItem(item),
-                    ..
-                },
-            ) => self.map.add(&item.chunk()),
-            _ => Ok(()),
-        }
-    }
-}
 
 // The root items, in their order.
 #[derive(Debug, Drop)]

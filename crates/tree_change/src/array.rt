@@ -6,17 +6,14 @@ ghost use Rattle.verdict.specs.Trees.{is_node_size};
 ghost use Rattle.verdict.specs.declared.place.Chunk.{Chunk as AChunk};
 ghost use Rattle.recon_disk.specs.Keeping.{Kept};
 ghost use Rattle.records.specs.Contents.{chunk_map_in};
-ghost use Rattle.records.specs.Takes.{with_chunk};
 ghost use Rattle.block_source.specs.Gives.{Gives, is_disk_halt};
 ghost use Rattle.shared_trees.specs.ArrayMoves.{LieApartOrSame};
 
-use crate::roots::chunk_root;
-use block_source::{BlockSource, Halt, walk_into};
+use block_source::{BlockSource, Chunks, Halt, chunk_root, walk_into};
 use chunk_map::ChunkMap;
 use recon_disk::Disk;
-use records::{Rec, RecAt, Record, Taker};
 use std::alloc::Global;
-use verdict::{Chunk, NoMemory};
+use verdict::Chunk;
 
 /// Whether any two of these chunks lie apart or are the same, and each has bytes at addresses of 64 bits. Each is compared with each: a
 /// system array has two dozen at most.
@@ -62,34 +59,6 @@ fn lies_before(one: &Chunk, other: &Chunk) -> bool
     }
 }
 
-// The chunks of chunk items, in their order.
-#[derive(Drop)]
-struct Chunks {
-    map: ChunkMap,
-}
-
-impl Taker for Chunks {
-    ghost use Rattle.std.specs.Prelude.{List};
-
-    ghost Held = { List AChunk };
-
-    ghost held = { λ chunks. chunks.map };
-
-    ghost with = { with_chunk };
-
-    fn take(&mut self, one: &Record<'_>) -> Result<(), NoMemory> {
-        match one {
-            Record::Item(
-                RecAt {
-                    part: Rec::ChunkItem(item),
-                    ..
-                },
-            ) => self.map.add(&item.chunk()),
-            _ => Ok(()),
-        }
-    }
-}
-
 /// The chunks of the chunk tree, by a walk of the whole of it, where the rules on the chunk map keep.
 #[tactic(auto, unfolding(records::specs::Contents::chunk_map_in), using(block_source::proofs::Copies::overlays))]
 pub(crate) fn whole_map<D: Disk>(
@@ -104,9 +73,7 @@ pub(crate) fn whole_map<D: Disk>(
         (λ image. chunk_map_in sup source.now.map.now image) }
     ensures kept { Kept D.Disk disk.old disk.new (is_disk_halt result) }
 {
-    let mut chunks = Chunks {
-        map: ChunkMap::new(alloc),
-    };
+    let mut chunks = Chunks::new(alloc);
     walk_into(alloc, disk, source, &chunk_root(source.sup), &mut chunks)?;
     let map = chunks.map;
     match map.map_fault(source.map, source.sup.devid, source.end) {

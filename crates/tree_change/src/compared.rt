@@ -1,10 +1,7 @@
 //! The two images that are compared, and what changes from the one to the other.
 
-ghost use Rattle.std.specs.Prelude.{◌≡◌, ◌≤◌};
 ghost use Rattle.recon_disk.specs.Keeping.{Kept};
-ghost use Rattle.super_reader.specs.Superblock.{array_place};
-ghost use Rattle.volume_items.specs.SystemArray.{array_chunks};
-ghost use Rattle.block_source.specs.Gives.{IsOutcome, is_disk_halt};
+ghost use Rattle.block_source.specs.Gives.{is_disk_halt};
 ghost use Rattle.tree_change.specs.Compared.{FitsCompared, TellsMap, TellsRest};
 
 use crate::array::{lie_apart, refuse_map};
@@ -12,8 +9,8 @@ use crate::distinct::distinct_chunks;
 use crate::tops::{change_chunks, change_others};
 use crate::trees::{Sides, TreeParts};
 use crate::walks::KnownTrees;
-use block_source::{BlockSource, Halt};
-use chunk_map::{ChunkMap, Sys};
+use block_source::{BlockSource, Halt, system_chunks};
+use chunk_map::ChunkMap;
 use live_index::LiveIndex;
 use recon_disk::{Disk, Steps};
 use shared_trees::Starts;
@@ -129,16 +126,4 @@ pub(crate) fn change_rest<D: Disk, L>(
         },
     };
     change_others(alloc, disk, &sides, steps, both.roots, all)
-}
-
-// The chunks of the system array of a superblock, or the finding.
-pub(crate) fn system_chunks(alloc: Global, sup: &Super) -> Result<ChunkMap, Halt>
-    requires { sup.now.array_size ≤ 2048 }
-    ensures { IsOutcome result
-        (array_chunks (array_place sup.now) sup.now.array sup.now.array_size) }
-{
-    match ChunkMap::from_sys(alloc, sup)? {
-        Sys::Map(map) => Ok(map),
-        Sys::Found(finding) => Err(Halt::Found(finding)),
-    }
 }

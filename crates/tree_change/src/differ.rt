@@ -11,10 +11,10 @@ ghost use Rattle.tree_change.specs.Change.{GivesDifference};
 ghost use Rattle.tree_change.specs.Compared.{FitsCompared, IsFinished, TellsChange, TellsOld};
 
 use crate::change::{Change, Diff};
-use crate::compared::{Compared, change_map, change_rest, system_chunks};
+use crate::compared::{Compared, change_map, change_rest};
 use crate::merge::{sort_items, sort_lives};
 use crate::trees::TreeParts;
-use block_source::{BlockSource, Fault, Halt, told};
+use block_source::{BlockSource, Fault, Halt, system_chunks, told};
 use chunk_map::{Bases, ChunkMap};
 use live_index::LiveIndex;
 use recon_disk::{Disk, Steps};

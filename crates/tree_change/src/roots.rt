@@ -5,9 +5,7 @@ ghost use Rattle.std.specs.List.{list_any};
 ghost use Rattle.verdict.specs.Rules.{finding_or, first_failing};
 ghost use Rattle.volume_items.specs.declared.root.RootItem.{RootItem};
 ghost use Rattle.records.specs.Contents.{
-  chunk_tree_root,
   missing_finding,
-  root_tree_root,
   roots_fault,
   roots_finding,
 };
@@ -20,40 +18,9 @@ use block_source::Halt;
 use node_reader::Expect;
 use std::alloc::Global;
 use std::collections::{BTreeMap, BTreeSet};
-use super_reader::Super;
 use verdict::kinds::ROOT_ITEM;
 use verdict::{Family, Finding, Key, NoMemory, Rule, has_group_tree};
 use volume_items::RootAt;
-
-/// What is expected of the root of the chunk tree.
-pub(crate) fn chunk_root(sup: &Super) -> Expect
-    ensures { result ≡ chunk_tree_root sup.now }
-{
-    Expect {
-        tree: 3,
-        address: sup.chunk_root,
-        generation: sup.chunk_root_generation,
-        level: sup.chunk_root_level,
-        low: None,
-        high: None,
-        parent: 0,
-    }
-}
-
-/// What is expected of the root of the root tree.
-pub(crate) fn top_root(sup: &Super) -> Expect
-    ensures { result ≡ root_tree_root sup.now }
-{
-    Expect {
-        tree: 1,
-        address: sup.root,
-        generation: sup.generation,
-        level: sup.root_level,
-        low: None,
-        high: None,
-        parent: 0,
-    }
-}
 
 /// What is expected of the root of the tree that begins here.
 pub(crate) fn named_at(root: &RootAt) -> Expect

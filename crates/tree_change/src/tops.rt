@@ -6,9 +6,9 @@ ghost use Rattle.block_source.specs.Takes.{handing};
 ghost use Rattle.tree_change.specs.Making.{FitSides, TellsChunks, TellsOthers, TellsRoots};
 
 use crate::merge::{merge_chunks, merge_roots};
-use crate::roots::{check_roots, chunk_root, top_root};
+use crate::roots::check_roots;
 use crate::trees::{Sides, TreeParts, change_all_gone, change_named, change_tree};
-use block_source::Halt;
+use block_source::{Halt, chunk_root, top_root};
 use chunk_map::ChunkMap;
 use recon_disk::{Disk, Steps};
 use std::alloc::Global;
