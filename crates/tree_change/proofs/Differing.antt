@@ -7,7 +7,7 @@ use Rattle.verdict.specs.declared.finding.Finding.{Finding}
 use Rattle.verdict.specs.declared.place.Chunk.{Chunk}
 use Rattle.recon_disk.specs.declared.disk.Disk.{Ghosts}
 use Rattle.write_cache.specs.Cache.{overlaid}
-use Rattle.live_index.specs.Pairs.{Pairs}
+use Rattle.live_index.specs.Pairs.{AreNarrow, Pairs}
 use Rattle.super_reader.specs.declared.Super.{Super}
 use Rattle.volume_items.specs.declared.root_at.RootAt.{RootAt}
 use Rattle.records.specs.Contents.{contents, superblock_in}
@@ -15,7 +15,6 @@ use Rattle.touched_pairs.specs.Touched.{written_in}
 use Rattle.block_source.specs.Gives.{told}
 use Rattle.block_source.specs.declared.halt.Halt.{Halt}
 use Rattle.block_source.specs.declared.halt.Halt.TheVariants.{Found, Disk, NoMemory}
-use Rattle.shared_trees.specs.Marking.{AreNarrow}
 use Rattle.tree_change.specs.Change.{BasesStand, GivesDifference, IsDifference, ReadsFew}
 use Rattle.tree_change.specs.Compared.{IsBased, TellsOld}
 use Rattle.tree_change.specs.declared.change.Change.{Change}

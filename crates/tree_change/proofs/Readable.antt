@@ -12,7 +12,7 @@ use Rattle.verdict.specs.declared.place.Chunk.{Chunk}
 use Rattle.verdict.proofs.Tables.{finding_or-ok}
 use Rattle.recon_disk.specs.declared.disk.Disk.{Ghosts}
 use Rattle.write_cache.specs.Cache.{overlaid}
-use Rattle.live_index.specs.Pairs.{Pairs}
+use Rattle.live_index.specs.Pairs.{AreNarrow, Pairs}
 use Rattle.live_index.specs.Table.{pairs_of}
 use Rattle.super_reader.specs.Superblock.{IsReadable, superblock_fields, superblock_of, superblock_rules}
 use Rattle.super_reader.specs.declared.Super.{Super}
@@ -23,7 +23,6 @@ use Rattle.touched_pairs.specs.Touched.{written_in}
 use Rattle.block_source.specs.declared.halt.Halt.{Halt}
 use Rattle.block_source.specs.declared.halt.Halt.TheVariants.{Found, Disk, NoMemory}
 use Rattle.block_source.specs.declared.read.BlockSource.{BlockSource}
-use Rattle.shared_trees.specs.Marking.{AreNarrow}
 use Rattle.shared_trees.proofs.Treed.{steps_of}
 use Rattle.tree_change.specs.Change.{IsDifference, ReadsFew}
 use Rattle.tree_change.specs.Compared.{IsBased, IsCompared, TellsChange, TellsOld, judged_by}

@@ -8,7 +8,7 @@ use Rattle.verdict.specs.declared.finding.Verdict.TheVariants.{Accept}
 use Rattle.verdict.specs.declared.place.Chunk.{Chunk}
 use Rattle.recon_disk.specs.declared.disk.Disk.{Ghosts}
 use Rattle.write_cache.specs.Cache.{overlaid}
-use Rattle.live_index.specs.Pairs.{Pairs, comes_before}
+use Rattle.live_index.specs.Pairs.{AreNarrow, Pairs, comes_before}
 use Rattle.live_index.specs.declared.live.Live.{Live}
 use Rattle.super_reader.specs.declared.Super.{Super}
 use Rattle.volume_items.specs.declared.root_at.RootAt.{RootAt}
@@ -19,7 +19,6 @@ use Rattle.records.specs.Part.{Located}
 use Rattle.shared_trees.specs.LivePairs.{Walked, live_in, table_of, walked}
 use Rattle.shared_trees.specs.Shared.{unshared_in}
 use Rattle.touched_pairs.specs.Touched.{Written, written_in}
-use Rattle.shared_trees.specs.Marking.{AreNarrow}
 use Rattle.shared_trees.specs.MergedLaw.{IsInOrder}
 use Rattle.shared_trees.specs.ShiftedLaw.{shifted_in}
 use Rattle.shared_trees.specs.Unshared.{items_in}

@@ -7,7 +7,7 @@ use Rattle.verdict.specs.declared.finding.Finding.{Finding}
 use Rattle.verdict.specs.declared.place.Chunk.{Chunk}
 use Rattle.recon_disk.specs.declared.disk.Disk.{Ghosts}
 use Rattle.write_cache.specs.Cache.{overlaid}
-use Rattle.live_index.specs.Pairs.{Pairs, no_pairs}
+use Rattle.live_index.specs.Pairs.{AreNarrow, Pairs, no_pairs}
 use Rattle.live_index.specs.Table.{pairs_of}
 use Rattle.super_reader.specs.Superblock.{array_place}
 use Rattle.super_reader.specs.declared.Super.{Super}
@@ -23,7 +23,6 @@ use Rattle.touched_pairs.specs.Marks.{marked_by, no_mark}
 use Rattle.touched_pairs.specs.Spots.{at_address}
 use Rattle.touched_pairs.specs.Touched.{touches_block, written_in}
 use Rattle.shared_trees.specs.LivePairs.{Walked, live_in, table_of, walked}
-use Rattle.shared_trees.specs.Marking.{AreNarrow}
 use Rattle.shared_trees.specs.Shared.{are_read_alike}
 use Rattle.shared_trees.specs.SharedLaw.{HasTrees}
 use Rattle.shared_trees.specs.TableLaw.{trees_in}
