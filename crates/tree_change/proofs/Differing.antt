@@ -7,7 +7,7 @@ use Rattle.verdict.specs.declared.finding.Finding.{Finding}
 use Rattle.verdict.specs.declared.place.Chunk.{Chunk}
 use Rattle.recon_disk.specs.declared.disk.Disk.{Ghosts}
 use Rattle.write_cache.specs.Cache.{overlaid}
-use Rattle.live_index.specs.Pairs.{AreNarrow, Pairs}
+use Rattle.live_index.specs.Pairs.{Pairs}
 use Rattle.super_reader.specs.declared.Super.{Super}
 use Rattle.volume_items.specs.declared.root_at.RootAt.{RootAt}
 use Rattle.records.specs.Contents.{contents, superblock_in}
@@ -53,7 +53,7 @@ module _ {D : Type 0} (disk : Ghosts D) (start old new : D) (was_sup : Super) (w
       (subst (λ m. IsBased image sup m roots pairs) (sym same_map) (bases_are image sup chunks roots sum_free pairs stand))
 
   found_by : (finding : Finding) (told other : Option (List ℕ)) → other ≡ told
-      → IfSome other (λ image. IsBased image was_sup was_map roots pairs → AreNarrow pairs → superblock_in (overlaid pending 0 image) ≡ Ok fresh
+      → IfSome other (λ image. IsBased image was_sup was_map roots pairs → superblock_in (overlaid pending 0 image) ≡ Ok fresh
       → contents (overlaid pending 0 image) ≡ Err finding)
       → IfSome told (λ image.
       BasesStand image sup chunks roots sum_free pairs → superblock_in (overlaid pending 0 image) ≡ Ok fresh
@@ -62,12 +62,12 @@ module _ {D : Type 0} (disk : Ghosts D) (start old new : D) (was_sup : Super) (w
   found_by finding None other alike tells = tt
   found_by finding (Some image) other alike tells =
       let here =
-      subst (λ o. IfSome o (λ i. IsBased i was_sup was_map roots pairs → AreNarrow pairs → superblock_in (overlaid pending 0 i) ≡ Ok fresh
+      subst (λ o. IfSome o (λ i. IsBased i was_sup was_map roots pairs → superblock_in (overlaid pending 0 i) ≡ Ok fresh
       → contents (overlaid pending 0 i) ≡ Err finding)) alike tells in
-      λ stand super_is. (here (based_by image stand) stand.narrow super_is, tt)
+      λ stand super_is. (here (based_by image stand) super_is, tt)
 
   change_by : (change : Change) (told other : Option (List ℕ)) → other ≡ told
-      → IfSome other (λ image. IsBased image was_sup was_map roots pairs → AreNarrow pairs → superblock_in (overlaid pending 0 image) ≡ Ok fresh
+      → IfSome other (λ image. IsBased image was_sup was_map roots pairs → superblock_in (overlaid pending 0 image) ≡ Ok fresh
       → IsDifference image (overlaid pending 0 image) (written_in pending) (Changed change)
       × ReadsFew (disk.reads old) (disk.reads new) (Changed change))
       → IfSome told (λ image.
@@ -77,11 +77,11 @@ module _ {D : Type 0} (disk : Ghosts D) (start old new : D) (was_sup : Super) (w
   change_by change None other alike tells = tt
   change_by change (Some image) other alike tells =
       let here =
-      subst (λ o. IfSome o (λ i. IsBased i was_sup was_map roots pairs → AreNarrow pairs → superblock_in (overlaid pending 0 i) ≡ Ok fresh
+      subst (λ o. IfSome o (λ i. IsBased i was_sup was_map roots pairs → superblock_in (overlaid pending 0 i) ≡ Ok fresh
       → IsDifference i (overlaid pending 0 i) (written_in pending) (Changed change)
       × ReadsFew (disk.reads old) (disk.reads new) (Changed change))) alike tells in
       λ stand super_is.
-      let both = here (based_by image stand) stand.narrow super_is in
+      let both = here (based_by image stand) super_is in
       (both.0, subst (λ n. ReadsFew n (disk.reads new) (Changed change)) same_reads both.1)
 
   -- the answers, by what the step says

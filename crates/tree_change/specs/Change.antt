@@ -8,7 +8,7 @@ use Rattle.verdict.specs.declared.finding.Verdict.TheVariants.{Accept}
 use Rattle.verdict.specs.declared.place.Chunk.{Chunk}
 use Rattle.recon_disk.specs.declared.disk.Disk.{Ghosts}
 use Rattle.write_cache.specs.Cache.{overlaid}
-use Rattle.live_index.specs.Pairs.{AreNarrow, Pairs, comes_before}
+use Rattle.live_index.specs.Pairs.{Pairs, comes_before}
 use Rattle.live_index.specs.declared.live.Live.{Live}
 use Rattle.super_reader.specs.declared.Super.{Super}
 use Rattle.volume_items.specs.declared.root_at.RootAt.{RootAt}
@@ -52,7 +52,7 @@ IsDifference image judged written (Changed change) =
     (old : Walked) × (new : Walked) × (walked image ≡ Ok old) × (walked judged ≡ Ok new) × IsChange old new written (length image) change
 
 -- what is known of an image that is accepted is what it holds: its superblock, its chunks, its root items in the order of their keys,
--- whether an inode's data has no checksums, and the table of its live pairs, of which the ids and addresses have 64 bits, as in any table
+-- whether an inode's data has no checksums, and the table of its live pairs
 pub record BasesStand (image : List ℕ) (sup : Super) (chunks : List Chunk) (roots : List RootAt) (sum_free : ℕ → ℕ → Bool) (pairs : Pairs) : Type 0 where
   pub generation : ℕ
   pub accepted : full_check image ≡ Accept generation
@@ -65,7 +65,6 @@ pub record BasesStand (image : List ℕ) (sup : Super) (chunks : List Chunk) (ro
   pub trees : Walked
   pub walks : walked image ≡ Ok trees
   pub pairs_are : (tree address : ℕ) → pairs tree address ≡ table_of (live_in trees.seen) tree address
-  pub narrow : AreNarrow pairs
 
 -- what a change costs: at most two reads for each block that is not shared
 abbrev pub ReadsFew : ℕ → ℕ → Diff → Type 0

@@ -166,10 +166,10 @@ TellsChange disk old new both (Ok change) = IfSome (disk.bytes old) (λ image.
 -- the same of an image as it was that is read so, of which what is known is for sure where the new superblock is that of the new image
 abbrev pub TellsOld : {D : Type 0} → (disk : Ghosts D) → D → D → Super → List Chunk → FinMap nat_cmp ℕ → Super → List RootAt → Pairs → Result Change Halt → Type 0
 TellsOld disk old new sup chunks pending fresh roots pairs (Err (Found finding)) = IfSome (disk.bytes old) (λ image.
-    IsBased image sup chunks roots pairs → AreNarrow pairs → superblock_in (overlaid pending 0 image) ≡ Ok fresh
+    IsBased image sup chunks roots pairs → superblock_in (overlaid pending 0 image) ≡ Ok fresh
     → contents (overlaid pending 0 image) ≡ Err finding)
 TellsOld disk old new sup chunks pending fresh roots pairs (Err other) = Unit {0}
 TellsOld disk old new sup chunks pending fresh roots pairs (Ok change) = IfSome (disk.bytes old) (λ image.
-    IsBased image sup chunks roots pairs → AreNarrow pairs → superblock_in (overlaid pending 0 image) ≡ Ok fresh
+    IsBased image sup chunks roots pairs → superblock_in (overlaid pending 0 image) ≡ Ok fresh
     → IsDifference image (overlaid pending 0 image) (written_in pending) (Changed change)
     × ReadsFew (disk.reads old) (disk.reads new) (Changed change))
