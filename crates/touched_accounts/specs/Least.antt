@@ -1,6 +1,7 @@
 -- The least broken one of the accounts to which some postings go.
 use Rattle.std.specs.Prelude.{◌≡◌, Bool, true, false, List, ◌++◌, Option, Some, None}
 use Rattle.std.specs.List.{list_any}
+use Rattle.std.specs.Ordering.{is_lt}
 use Rattle.std.specs.declared.cmp.Ordering.TheVariants.{Less}
 use Rattle.accounts.specs.Broken.{is_broken}
 use Rattle.accounts.specs.Order.{account_cmp}
@@ -19,3 +20,8 @@ IsLeastTouched sums postings None = (account : Account) → is_touched postings 
 IsLeastTouched sums postings (Some least) =
     (is_broken least (sums least) ≡ true) × (is_touched postings least ≡ true)
     × ((account : Account) → is_touched postings account ≡ true → account_cmp account least ≡ Less → is_broken account (sums account) ≡ false)
+
+-- whether an account stands before another, if there is another
+abbrev pub stands_before : Account → Option Account → Bool
+stands_before account None = true
+stands_before account (Some other) = is_lt (account_cmp account other)
