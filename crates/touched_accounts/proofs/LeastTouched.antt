@@ -1,5 +1,5 @@
 -- The least broken account of those to which some postings go.
-use Rattle.std.proofs.Common.{◌≡◌, ℕ, ◌+◌, ◌<◌, ◌==◌, ◌&&◌, ◌||◌, Bool, true, false, cond, List, [], ◌∷◌, ◌++◌, length, take, get_or, refl, ap, sym, ◌∙◌, subst, arith}
+use Rattle.std.proofs.Common.{◌≡◌, ℕ, ◌+◌, ◌<◌, ◌==◌, ◌&&◌, ◌||◌, Bool, true, false, cond, List, [], ◌∷◌, ◌++◌, length, take, get_or, refl, ap, sym, ◌∙◌, subst, append_assoc, arith}
 use Rattle.std.specs.Prelude.{Option, Some, None, nat_lt}
 use Rattle.std.specs.List.{list_any}
 use Rattle.std.specs.Ordering.{is_lt}
@@ -147,3 +147,36 @@ module _ (sums : Sums) (ps : List Posting) (p : Posting) where
         (λ one. is.2 account one (account_total.trans account p.account least less (is_Less (account_cmp p.account least) before)))
         (λ e. no_less_itself p.account account e less),
   )
+
+-- ---- a step of a loop
+
+pub none_touched : (sums : Sums) → IsLeastTouched sums [] None
+unfolding is_touched
+none_touched sums = λ account one. absurd (cc one)
+
+-- an account is broken or not by equal sums
+pub broken_as : (account : Account) {f g : ℕ → ℕ} {b : Bool} → ((n : ℕ) → f n ≡ g n) → is_broken account f ≡ b → is_broken account g ≡ b
+broken_as account same is = ap (is_broken account) (fun_ext (λ n. sym (same n))) ∙ is
+
+next_list : (earlier ps : List Posting) (i : ℕ) (d p : Posting) → i < length ps → p ≡ get_or ps i d → (earlier ++ take i ps) ++ p ∷ [] ≡ earlier ++ take (i + 1) ps
+next_list earlier ps i d p inside item =
+    append_assoc earlier (take i ps) (p ∷ [])
+    ∙ ap (λ (q : Posting). earlier ++ (take i ps ++ q ∷ [])) item
+    ∙ ap (λ (l : List Posting). earlier ++ l) (sym (take_more ps i d inside))
+
+module _ (sums : Sums) (earlier ps : List Posting) (i : ℕ) (d p : Posting) (least : Option Account) (inside : i < length ps) (item : p ≡ get_or ps i d) where
+  pub before_next : stands_before p.account least ≡ true → is_broken p.account (sums p.account) ≡ true
+      → IsLeastTouched sums (earlier ++ take i ps) least → IsLeastTouched sums (earlier ++ take (i + 1) ps) (Some p.account)
+  before_next before broken is =
+      subst (λ l. IsLeastTouched sums l (Some p.account)) (next_list earlier ps i d p inside item)
+      (before_more sums (earlier ++ take i ps) p least before broken is)
+
+  pub unbroken_next : is_broken p.account (sums p.account) ≡ false
+      → IsLeastTouched sums (earlier ++ take i ps) least → IsLeastTouched sums (earlier ++ take (i + 1) ps) least
+  unbroken_next keeps is =
+      subst (λ l. IsLeastTouched sums l least) (next_list earlier ps i d p inside item) (unbroken_more sums (earlier ++ take i ps) p least keeps is)
+
+  pub behind_next : stands_before p.account least ≡ false
+      → IsLeastTouched sums (earlier ++ take i ps) least → IsLeastTouched sums (earlier ++ take (i + 1) ps) least
+  behind_next behind is =
+      subst (λ l. IsLeastTouched sums l least) (next_list earlier ps i d p inside item) (behind_more sums (earlier ++ take i ps) p least behind is)

@@ -84,17 +84,17 @@ fn judge_more<'a, L>(
         IsLeastTouched (sums_of ledger.now) (earlier ++ postings.now) (option_copied result) }
     ensures looks { steps.new ≤ steps.old + length postings.now }
 {
-    let mut least = least;
+    let mut found = least;
     for posting in postings.as_slice() {
         let account = &posting.account;
-        if stands_before(account, least) {
+        if stands_before(account, found) {
             let totals = ledger.get(account, steps);
             if broken(account, &totals) {
-                least = Some(account);
+                found = Some(account);
             }
         }
     }
-    least
+    found
 }
 
 // Whether an account stands before another, if there is another.

@@ -9,6 +9,6 @@ use Rattle.touched_accounts.proofs.touched.judge_more.Given as goal
 abbrev pub invariant-loop-posting : goal.invariant-loop-posting
 invariant-loop-posting g l = record {
   least : (earlier : List Posting) → IsLeastTouched (sums_of l.ledger) earlier (option_copied l.fn.least)
-      → IsLeastTouched (sums_of l.ledger) (earlier ++ take l.posting-index l.posting-items) (option_copied l.least)
-  looks : l.steps ≤ l.fn.steps + l.posting-index
+      → IsLeastTouched (sums_of l.ledger) (earlier ++ take l.posting-index l.posting-items) (option_copied l.found);
+  looks : l.steps ≤ l.fn.steps + l.posting-index;
 }
