@@ -1,7 +1,6 @@
 -- The least broken account of those to which some postings go.
 use Rattle.std.proofs.Common.{◌≡◌, ℕ, ◌+◌, ◌<◌, ◌==◌, ◌&&◌, ◌||◌, Bool, true, false, cond, List, [], ◌∷◌, ◌++◌, length, take, get_or, refl, ap, sym, ◌∙◌, subst, append_assoc, arith}
 use Rattle.std.specs.Prelude.{Option, Some, None, nat_lt}
-use Rattle.std.specs.List.{list_any}
 use Rattle.std.specs.Ordering.{is_lt}
 use Rattle.std.specs.declared.cmp.Ordering.{Ordering}
 use Rattle.std.specs.declared.cmp.Ordering.TheVariants.{Less, Equal, Greater}
@@ -82,7 +81,7 @@ more_case ps p account true s is same more earlier here = earlier is
 more_case ps p account false true is same more earlier here = here (same_account p.account account same)
 more_case ps p account false false is same more earlier here =
     let none : (is_touched ps account || (is_same p.account account || false)) ≡ false =
-        ap (λ (t : Bool). t || (is_same p.account account || false)) is ∙ ap (λ (s : Bool). s || false) same in
+    ap (λ (t : Bool). t || (is_same p.account account || false)) is ∙ ap (λ (s : Bool). s || false) same in
     absurd (cc (sym (touched_one ps p account) ∙ more, none))
 
 is_touched_earlier : (ps : List Posting) (p : Posting) (account : Account) → is_touched ps account ≡ true → is_touched (ps ++ p ∷ []) account ≡ true

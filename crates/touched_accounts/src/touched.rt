@@ -56,7 +56,8 @@ pub fn take_all<L>(ledger: &mut LedgerIndex<L>, postings: &Postings, steps: &mut
     }
 }
 
-/// The least of the accounts to which some postings go that is broken by the ledger, `None` exactly where none is.
+/// The least account that is broken by the ledger, of those to which postings of two lists go, `None` exactly where none
+/// of them is.
 pub fn judge_touched<'a, L>(
     ledger: &LedgerIndex<L>,
     gone: &'a Postings,

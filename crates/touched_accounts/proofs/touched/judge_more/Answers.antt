@@ -1,7 +1,6 @@
-use Rattle.std.proofs.Common.{◌≡◌, ◌+◌, ◌≤◌, ◌++◌, List, length, take, ap, sym, ◌∙◌, subst, arith}
+use Rattle.std.proofs.Common.{◌+◌, ◌++◌, take, sym, ◌∙◌, subst, arith}
 use Rattle.std.specs.Option.{option_copied}
 use Rattle.std.proofs.lemmas.List.{take_all}
-use Rattle.accounts.specs.declared.postings.Posting.{Posting}
 use Rattle.ledger_index.specs.Ledger.{sums_of}
 use Rattle.touched_accounts.specs.Least.{IsLeastTouched}
 use Rattle.touched_accounts.proofs.LeastTouched.{before_next, behind_next, broken_as, unbroken_next}
@@ -17,27 +16,27 @@ loop-posting-preserved g c =
     let so = c.loop-posting.invariant.least in
     elim c.if-stands_before.branch [
       | then-stands_before+then-broken w ↦ record {
-            least = λ earlier first.
-                subst (λ o. IsLeastTouched sums (earlier ++ take (i + 1) ps) (option_copied o)) (sym w.found-is)
-                (before_next sums earlier ps i p p (option_copied c.loop-posting.found) c.loop-posting-test.true c.posting-item.is
-                (sym c.stands_before.ensures ∙ w.if-stands_before.true)
-                (broken_as p.account w.get-totals.ensures.sums (sym w.broken.ensures ∙ w.if-broken.true)) (so earlier first));
-            looks = omega (arith, w.get-totals.ensures.looks, w.steps-is, c.loop-posting.invariant.looks);
-          }
+        least = λ earlier first.
+            subst (λ o. IsLeastTouched sums (earlier ++ take (i + 1) ps) (option_copied o)) (sym w.found-is)
+            (before_next sums earlier ps i p p (option_copied c.loop-posting.found) c.loop-posting-test.true c.posting-item.is
+            (sym c.stands_before.ensures ∙ w.if-stands_before.true)
+            (broken_as p.account w.get-totals.ensures.sums (sym w.broken.ensures ∙ w.if-broken.true)) (so earlier first));
+        looks = omega (arith, w.get-totals.ensures.looks, w.steps-is, c.loop-posting.invariant.looks);
+      }
       | then-stands_before+else-broken w ↦ record {
-            least = λ earlier first.
-                subst (λ o. IsLeastTouched sums (earlier ++ take (i + 1) ps) (option_copied o)) (sym w.found-is)
-                (unbroken_next sums earlier ps i p p (option_copied c.loop-posting.found) c.loop-posting-test.true c.posting-item.is
-                (broken_as p.account w.get-totals.ensures.sums (sym w.broken.ensures ∙ w.if-broken.false)) (so earlier first));
-            looks = omega (arith, w.get-totals.ensures.looks, w.steps-is, c.loop-posting.invariant.looks);
-          }
+        least = λ earlier first.
+            subst (λ o. IsLeastTouched sums (earlier ++ take (i + 1) ps) (option_copied o)) (sym w.found-is)
+            (unbroken_next sums earlier ps i p p (option_copied c.loop-posting.found) c.loop-posting-test.true c.posting-item.is
+            (broken_as p.account w.get-totals.ensures.sums (sym w.broken.ensures ∙ w.if-broken.false)) (so earlier first));
+        looks = omega (arith, w.get-totals.ensures.looks, w.steps-is, c.loop-posting.invariant.looks);
+      }
       | else-stands_before w ↦ record {
-            least = λ earlier first.
-                subst (λ o. IsLeastTouched sums (earlier ++ take (i + 1) ps) (option_copied o)) (sym w.found-is)
-                (behind_next sums earlier ps i p p (option_copied c.loop-posting.found) c.loop-posting-test.true c.posting-item.is
-                (sym c.stands_before.ensures ∙ w.if-stands_before.false) (so earlier first));
-            looks = omega (arith, w.steps-is, c.loop-posting.invariant.looks);
-          }
+        least = λ earlier first.
+            subst (λ o. IsLeastTouched sums (earlier ++ take (i + 1) ps) (option_copied o)) (sym w.found-is)
+            (behind_next sums earlier ps i p p (option_copied c.loop-posting.found) c.loop-posting-test.true c.posting-item.is
+            (sym c.stands_before.ensures ∙ w.if-stands_before.false) (so earlier first));
+        looks = omega (arith, w.steps-is, c.loop-posting.invariant.looks);
+      }
     ]
 
 pub returns-clause-least : goal.returns-clause-least
