@@ -1,0 +1,19 @@
+use Rattle.std.proofs.Common.{◌<◌, sym, subst, arith}
+use Rattle.ledger_index.specs.Ledger.{sums_of}
+use Rattle.ledger_index.specs.Sums.{greatest}
+use Rattle.touched_accounts.proofs.Changed.{put_next, with_none}
+use Rattle.touched_accounts.proofs.touched.put_all.Goals as goal
+
+pub loop-posting-init : goal.loop-posting-init
+loop-posting-init g c = record { sums = sym (with_none (sums_of c.args.ledger.now)); looks = omega arith }
+
+pub loop-posting-preserved : goal.loop-posting-preserved
+loop-posting-preserved g c =
+    let p = c.posting-item.result in
+    let room : sums_of c.add.new.self p.account p.field < greatest =
+    subst (λ k. k < greatest) (c.get-totals.ensures.sums p.field) (c.is_full.ensures c.if-is_full.false) in
+    record {
+      sums = put_next (sums_of c.args.ledger.now) (sums_of c.loop-posting.ledger) (sums_of c.add.new.self) c.as_slice-posting-items.result.now
+          c.loop-posting.posting-index p p c.loop-posting-test.true c.posting-item.is c.loop-posting.invariant.sums c.in_ok-add.ensures.ok room;
+      looks = omega (arith, c.add.ensures.looks, c.get-totals.ensures.looks, c.loop-posting.invariant.looks);
+    }

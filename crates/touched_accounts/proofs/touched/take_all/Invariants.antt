@@ -1,0 +1,11 @@
+use Rattle.std.proofs.Common.{◌≡◌, ◌+◌, ◌≤◌, take}
+use Rattle.ledger_index.specs.Ledger.{sums_of}
+use Rattle.touched_accounts.specs.Sums.{less_all}
+use Rattle.touched_accounts.proofs.touched.take_all.Given as goal
+
+-- the postings so far are taken, with a look each
+abbrev pub invariant-loop-posting : goal.invariant-loop-posting
+invariant-loop-posting g l = record {
+  sums : sums_of l.ledger ≡ less_all (sums_of l.fn.ledger) (take l.posting-index l.posting-items);
+  looks : l.steps ≤ l.fn.steps + l.posting-index;
+}

@@ -1,0 +1,109 @@
+//! A ledger, changed by lists of postings.
+
+ghost use Rattle.std.specs.Prelude.{◌≡◌, ◌+◌, ◌*◌, ◌<◌, ◌≤◌, ◌++◌, false, List, length, OnOk};
+ghost use Rattle.std.specs.Option.{option_copied};
+ghost use Rattle.accounts.specs.Sums.{sum_in};
+ghost use Rattle.accounts.specs.declared.postings.Posting.{Posting};
+ghost use Rattle.ledger_index.specs.Ledger.{sums_of};
+ghost use Rattle.ledger_index.specs.Sums.{greatest};
+ghost use Rattle.touched_accounts.specs.Least.{IsLeastTouched, stands_before};
+ghost use Rattle.touched_accounts.specs.Sums.{less_all, with_all};
+
+use accounts::{Account, Postings, Totals, broken};
+use ledger_index::LedgerIndex;
+use recon_disk::Steps;
+use verdict::NoMemory;
+
+/// Adds each of some postings to a ledger. Out of memory, also where a sum would pass 128 bits, any part of them may be
+/// added.
+pub fn put_all<L>(
+    ledger: &mut LedgerIndex<L>,
+    postings: &Postings,
+    steps: &mut Steps<L>,
+) -> Result<(), NoMemory>
+    ensures sums { OnOk result
+        (sums_of ledger.new ≡ with_all (sums_of ledger.old) postings.now) }
+    ensures looks { steps.new ≤ steps.old + 2 * length postings.now }
+{
+    for posting in postings.as_slice() {
+        ledger.add(&posting.account, posting.field, posting.amount, steps)?;
+        let totals = ledger.get(&posting.account, steps);
+        if is_full(&totals, posting.field) {
+            return Err(NoMemory);
+        }
+    }
+    Ok(())
+}
+
+// Whether a sum stands at the greatest number of 128 bits, where a part of what was added may be lost. A field above 8
+// names no sum.
+fn is_full(totals: &Totals, field: u8) -> bool
+    ensures { result ≡ false → sum_in totals.now field < greatest }
+{
+    match totals.f.get(usize::from(field)) {
+        Some(sum) => *sum == u128::MAX,
+        None => false,
+    }
+}
+
+/// Takes each of some postings from a ledger, or all that stands where less does.
+pub fn take_all<L>(ledger: &mut LedgerIndex<L>, postings: &Postings, steps: &mut Steps<L>)
+    ensures sums { sums_of ledger.new ≡ less_all (sums_of ledger.old) postings.now }
+    ensures looks { steps.new ≤ steps.old + length postings.now }
+{
+    for posting in postings.as_slice() {
+        ledger.take(&posting.account, posting.field, posting.amount, steps);
+    }
+}
+
+/// The least account that is broken by the ledger, of those to which postings of two lists go, `None` exactly where none
+/// of them is.
+pub fn judge_touched<'a, L>(
+    ledger: &LedgerIndex<L>,
+    gone: &'a Postings,
+    came: &'a Postings,
+    steps: &mut Steps<L>,
+) -> Option<&'a Account>
+    ensures least { IsLeastTouched (sums_of ledger.now) (gone.now ++ came.now)
+        (option_copied result) }
+    ensures looks { steps.new ≤ steps.old + length gone.now + length came.now }
+{
+    let least = judge_more(ledger, gone, None, steps);
+    judge_more(ledger, came, least, steps)
+}
+
+// The least broken of an account and of those to which some postings go. The account is the least broken one of those to
+// which earlier postings go.
+fn judge_more<'a, L>(
+    ledger: &LedgerIndex<L>,
+    postings: &'a Postings,
+    least: Option<&'a Account>,
+    steps: &mut Steps<L>,
+) -> Option<&'a Account>
+    ensures least { (earlier : List Posting) →
+        IsLeastTouched (sums_of ledger.now) earlier (option_copied least.entry) →
+        IsLeastTouched (sums_of ledger.now) (earlier ++ postings.now) (option_copied result) }
+    ensures looks { steps.new ≤ steps.old + length postings.now }
+{
+    let mut found = least;
+    for posting in postings.as_slice() {
+        let account = &posting.account;
+        if stands_before(account, found) {
+            let totals = ledger.get(account, steps);
+            if broken(account, &totals) {
+                found = Some(account);
+            }
+        }
+    }
+    found
+}
+
+// Whether an account stands before another, if there is another.
+fn stands_before(account: &Account, other: Option<&Account>) -> bool
+    ensures { result ≡ stands_before account.now (option_copied other.entry) }
+{
+    match other {
+        Some(other) => account < other,
+        None => true,
+    }
+}
