@@ -4,5 +4,5 @@
 mod lives;
 mod tables;
 
-pub use lives::Lives;
+pub use lives::{Lives, lives_made_law};
 pub use tables::{put_pairs, take_pairs};
