@@ -128,18 +128,19 @@ fn closes(live: &Live, one: &Live) -> bool
 }
 
 // Closes the block of a pair: the pairs of blocks below it hand their last keys up to it, and are no longer among those behind.
-fn closed(mut live: Live, behind: &mut Vec<Live>) -> Live
+fn closed(live: Live, behind: &mut Vec<Live>) -> Live
     ensures live { result ≡ raised (last_below live (reverse behind.old.items)) live }
     ensures left { reverse behind.new.items ≡ left_of live (reverse behind.old.items) }
 {
+    let mut last = live.last;
     while let Some(one) = behind.last().copied() {
         if closes(&live, &one) {
             break;
         }
-        live.last = greater(one.last, live.last);
+        last = greater(one.last, last);
         behind.pop();
     }
-    live
+    Live { last, ..live }
 }
 
 /// Once all blocks are closed, what is made of the records of walks are the live pairs of the blocks among them.
