@@ -14,10 +14,10 @@ use Rattle.live_index.specs.Pairs.{IsLeastFrom, IsNextFirst, Pairs, comes_before
 
 -- ---- one place of a table
 
-and_left : (a b : Bool) → (a && b) ≡ true → a ≡ true
+pub and_left : (a b : Bool) → (a && b) ≡ true → a ≡ true
 and_left = elim [ true ↦ λ b e. refl | false ↦ λ b e. e ]
 
-and_right : (a b : Bool) → (a && b) ≡ true → b ≡ true
+pub and_right : (a b : Bool) → (a && b) ≡ true → b ≡ true
 and_right = elim [ true ↦ λ b e. e | false ↦ λ b e. cc ]
 
 -- a table has one pair under one tree and address

@@ -1,3 +1,4 @@
 pub mod AlikeLaws
 pub mod IndexLaws
+pub mod NarrowLaws
 pub mod PlaceLaws

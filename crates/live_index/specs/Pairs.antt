@@ -1,5 +1,5 @@
 -- Live pairs: what is kept of tree blocks, each under the tree that visits it and its logical address.
-use Rattle.std.specs.Prelude.{◌≡◌, ℕ, ◌<◌, Bool, true, false, ◌&&◌, ◌||◌, ◌==◌, nat_lt, Option, Some, None, if◌then◌else◌}
+use Rattle.std.specs.Prelude.{◌≡◌, ℕ, ◌<◌, ◌^◌, Bool, true, false, ◌&&◌, ◌||◌, ◌==◌, nat_lt, Option, Some, None, is_some, if◌then◌else◌}
 use Rattle.verdict.specs.OnDisk.{key_below, key_same}
 use Rattle.verdict.specs.declared.key.Key.{Key}
 use Rattle.live_index.specs.declared.live.Live.{Live}
@@ -23,6 +23,10 @@ without_pair pairs t a tree address = if t == tree && a == address then None els
 -- a pair stands in the table, under its own tree and address
 abbrev pub Stands : Pairs → Live → Type 0
 Stands pairs live = pairs live.tree live.address ≡ Some live
+
+-- the ids of trees and the addresses of pairs have 64 bits
+abbrev pub AreNarrow : Pairs → Type 0
+AreNarrow pairs = (tree address : ℕ) → is_some (pairs tree address) ≡ true → (tree < 2 ^ 64) × (address < 2 ^ 64)
 
 -- whether one address and tree come before others: by the address, and at one address by the tree
 abbrev pub comes_before : ℕ → ℕ → ℕ → ℕ → Bool

@@ -2,7 +2,7 @@
 
 ghost use Rattle.std.specs.Prelude.{◌≡◌, IfSome, OnOk, OnErr};
 ghost use Rattle.recon_disk.specs.Outside.{counted};
-ghost use Rattle.live_index.specs.Pairs.{IsLeastFrom, IsNextFirst, IsNextOf, no_pairs, with_pair, without_pair};
+ghost use Rattle.live_index.specs.Pairs.{AreNarrow, IsLeastFrom, IsNextFirst, IsNextOf, no_pairs, with_pair, without_pair};
 ghost use Rattle.live_index.specs.InOrder.{place_of, start_of};
 ghost use Rattle.live_index.specs.Table.{pairs_of};
 
@@ -121,6 +121,11 @@ impl<L> LiveIndex<L> {
         steps.look();
         self.orders.next_key(tree, level, first)
     }
+
+    /// Tree ids and addresses in a table have 64 bits.
+    pub fn narrow_law(&self)
+        ensures { AreNarrow (pairs_of self.now) }
+    {}
 }
 
 // Where the pairs of a tree begin that stand above an address, where one is given.

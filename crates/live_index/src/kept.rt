@@ -2,6 +2,7 @@
 
 ghost use Rattle.live_index.specs.InOrder.{pairs_in};
 ghost use Rattle.live_index.specs.Orders.{AreAlike};
+ghost use Rattle.live_index.specs.Pairs.{AreNarrow};
 
 use crate::Live;
 use crate::orders::Orders;
@@ -21,4 +22,5 @@ pub struct LiveIndex<L> {
     pub(crate) orders: Orders,
     pub(crate) mark: PhantomData<L>,
     ghost alike: { AreAlike (pairs_in pairs) orders },
+    ghost narrow: { AreNarrow (pairs_in pairs) },
 }

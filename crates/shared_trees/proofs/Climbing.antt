@@ -4,7 +4,7 @@ use Rattle.std.specs.Prelude.{Option, Some, None, is_some, IfSome, nat_lt, Resul
 use Rattle.std.proofs.lemmas.Bool.Decides.{nat_tests}
 use Rattle.std.proofs.lemmas.List.Folds.{list_any-append}
 use Rattle.super_reader.specs.declared.Super.{Super}
-use Rattle.live_index.specs.Pairs.{Pairs}
+use Rattle.live_index.specs.Pairs.{AreNarrow, Pairs}
 use Rattle.live_index.specs.declared.live.Live.{Live}
 use Rattle.node_reader.specs.Layout.{pointers_of}
 use Rattle.node_reader.specs.Stored.{CopyFault, Stored}
@@ -16,7 +16,7 @@ use Rattle.shared_trees.specs.Keeping.{IsKnown, Marks, OneOf, comes_to, live_at}
 use Rattle.touched_pairs.specs.Marking as marking
 use Rattle.touched_pairs.specs.Marking.ClimbsTo.{Here as IsHere, Up as OneUp}
 use Rattle.touched_pairs.specs.Marks.{no_mark}
-use Rattle.shared_trees.specs.Marking.{AreNarrow, MarkingLaw}
+use Rattle.shared_trees.specs.Marking.{MarkingLaw}
 use Rattle.shared_trees.proofs.Accepted.{Accepts, accepts, visit_of, walk_accepted}
 use Rattle.shared_trees.proofs.Trails.{Trail, Visit, after, then_trail, trail_and, trail_below, trail_of, trails}
 use Rattle.shared_trees.proofs.Visiting.{Visits, VisitsOne, any_block, comes_from, visits_after, visits_all, visits_any, visits_any_from, visits_both, visits_fail, visits_from, visits_later, visits_map, visits_one, visits_one_from, visits_pass, visits_then, visits_then_first, visits_then_later}

@@ -9,7 +9,7 @@ use Rattle.verdict.proofs.Tables.{joined_none}
 use Rattle.write_cache.specs.Cache.{overlaid}
 use Rattle.volume_items.specs.ChunkOrder.{all_by_start, by_start, put_by_start}
 use Rattle.volume_items.specs.MapRules.{array_rows, map_finding, rows_by_start}
-use Rattle.live_index.specs.Pairs.{Pairs}
+use Rattle.live_index.specs.Pairs.{AreNarrow, Pairs}
 use Rattle.touched_pairs.specs.Marking.{AreMarkedFrom}
 use Rattle.touched_pairs.specs.Marks.{no_mark}
 use Rattle.touched_pairs.specs.Moves.{AreApart, LieApart, held_and_moved, is_moved}
@@ -18,7 +18,6 @@ use Rattle.touched_pairs.specs.Touched.{written_in}
 use Rattle.shared_trees.specs.Keeping.{AreMarked, Marks, Stands, Under}
 use Rattle.shared_trees.specs.LivePairs.{Walked, live_in, table_of, walked}
 use Rattle.shared_trees.specs.Listed.{AreListedBy}
-use Rattle.shared_trees.specs.Marking.{AreNarrow}
 use Rattle.shared_trees.specs.SharedLaw.{HasTrees, MarksTouched, touches_old}
 use Rattle.shared_trees.specs.ArrayShifts.{MovesListedBy}
 use Rattle.shared_trees.specs.TableLaw.{Tree}

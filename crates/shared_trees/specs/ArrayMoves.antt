@@ -2,7 +2,7 @@
 use Rattle.std.specs.Prelude.{ℕ, ◌≡◌, ◌⊎◌, true, List, length}
 use Rattle.std.specs.List.{AllByRecursion}
 use Rattle.verdict.specs.declared.place.Chunk.{Chunk}
-use Rattle.live_index.specs.Pairs.{Pairs}
+use Rattle.live_index.specs.Pairs.{AreNarrow, Pairs}
 use Rattle.node_reader.specs.Stored.{stored_in}
 use Rattle.records.specs.Contents.{chunk_tree_root}
 use Rattle.touched_pairs.specs.Marking.{AreMarkedFrom}
@@ -12,7 +12,6 @@ use Rattle.touched_pairs.specs.Spots.{at_address}
 use Rattle.shared_trees.specs.ArrayLaw.{HasArray, moves_by}
 use Rattle.shared_trees.specs.Keeping.{AreMarked, Marks}
 use Rattle.shared_trees.specs.LivePairs.{Walked, live_in, table_of}
-use Rattle.shared_trees.specs.Marking.{AreNarrow}
 
 -- Where a table has the live pairs of an image, with ids and addresses of 64 bits, and those are marked with all above them of which the block moved from the image's system array
 -- to a new one, just those blocks of its chunk tree are marked which moved by the new array, or which are above one that did.

@@ -1,16 +1,12 @@
 -- Which blocks of a tree are marked, where those that pass a test are marked with all above them by a table of its live pairs.
-use Rattle.std.specs.Prelude.{ℕ, ◌≡◌, ◌<◌, ◌^◌, true, is_some}
+use Rattle.std.specs.Prelude.{ℕ, ◌≡◌, true, is_some}
 use Rattle.super_reader.specs.declared.Super.{Super}
-use Rattle.live_index.specs.Pairs.{Pairs}
+use Rattle.live_index.specs.Pairs.{AreNarrow, Pairs}
 use Rattle.node_reader.specs.Stored.{Stored}
 use Rattle.node_reader.specs.declared.expect.Expect.{Expect}
 use Rattle.touched_pairs.specs.Marking.{AreMarkedFrom}
 use Rattle.touched_pairs.specs.Marks.{no_mark}
 use Rattle.shared_trees.specs.Keeping.{AreMarked, Marks, Stands}
-
--- the ids of trees and the addresses of pairs have 64 bits
-abbrev pub AreNarrow : Pairs → Type 0
-AreNarrow pairs = (tree address : ℕ) → is_some (pairs tree address) ≡ true → (tree < 2 ^ 64) × (address < 2 ^ 64)
 
 -- Where a table stands for a tree, the blocks that are marked with all above them are just those of which, or of a block below which, the
 -- address passes the test of those that must be marked. Of the tree's blocks no other may be marked than must be.

@@ -1,8 +1,8 @@
 -- The table of an image's live pairs is narrow.
 use Rattle.std.specs.Prelude.{ℕ, ◌≡◌, ◌<◌, List, Ok}
 use Rattle.std.specs.List.{All}
+use Rattle.live_index.specs.Pairs.{AreNarrow}
 use Rattle.shared_trees.specs.LivePairs.{Walked, live_in, table_of, walked}
-use Rattle.shared_trees.specs.Marking.{AreNarrow}
 
 -- where the walks of an image have no finding, each of its bytes being one, the ids and addresses of its live pairs have 64 bits
 abbrev pub NarrowLaw : Type 0

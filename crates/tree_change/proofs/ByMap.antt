@@ -11,7 +11,7 @@ use Rattle.recon_disk.specs.declared.disk.Disk.{Ghosts}
 use Rattle.super_reader.specs.declared.Super.{Super}
 use Rattle.volume_items.specs.declared.root.RootItem.{RootItem}
 use Rattle.volume_items.specs.declared.root_at.RootAt.{RootAt}
-use Rattle.live_index.specs.Pairs.{Pairs}
+use Rattle.live_index.specs.Pairs.{AreNarrow, Pairs}
 use Rattle.live_index.specs.Table.{pairs_of}
 use Rattle.records.specs.Contents.{root_items_in, root_tree_root}
 use Rattle.block_source.specs.declared.halt.Halt.{Halt}
@@ -26,7 +26,6 @@ use Rattle.touched_pairs.specs.declared.moved.Move.{Move}
 use Rattle.shared_trees.specs.Keeping.{Under}
 use Rattle.shared_trees.specs.Listed.{AreListedBy}
 use Rattle.shared_trees.specs.LivePairs.{Walked, live_in, table_of}
-use Rattle.shared_trees.specs.Marking.{AreNarrow}
 use Rattle.shared_trees.specs.SharedLaw.{HasTrees}
 use Rattle.shared_trees.specs.TableLaw.{Tree, trees_in}
 use Rattle.shared_trees.specs.Under.{under_of}

@@ -15,7 +15,6 @@ use Rattle.touched_pairs.specs.Touched.{written_in}
 use Rattle.block_source.specs.Gives.{told}
 use Rattle.block_source.specs.declared.halt.Halt.{Halt}
 use Rattle.block_source.specs.declared.halt.Halt.TheVariants.{Found, Disk, NoMemory}
-use Rattle.shared_trees.specs.Marking.{AreNarrow}
 use Rattle.tree_change.specs.Change.{BasesStand, GivesDifference, IsDifference, ReadsFew}
 use Rattle.tree_change.specs.Compared.{IsBased, TellsOld}
 use Rattle.tree_change.specs.declared.change.Change.{Change}
@@ -54,7 +53,7 @@ module _ {D : Type 0} (disk : Ghosts D) (start old new : D) (was_sup : Super) (w
       (subst (λ m. IsBased image sup m roots pairs) (sym same_map) (bases_are image sup chunks roots sum_free pairs stand))
 
   found_by : (finding : Finding) (told other : Option (List ℕ)) → other ≡ told
-      → IfSome other (λ image. IsBased image was_sup was_map roots pairs → AreNarrow pairs → superblock_in (overlaid pending 0 image) ≡ Ok fresh
+      → IfSome other (λ image. IsBased image was_sup was_map roots pairs → superblock_in (overlaid pending 0 image) ≡ Ok fresh
       → contents (overlaid pending 0 image) ≡ Err finding)
       → IfSome told (λ image.
       BasesStand image sup chunks roots sum_free pairs → superblock_in (overlaid pending 0 image) ≡ Ok fresh
@@ -63,12 +62,12 @@ module _ {D : Type 0} (disk : Ghosts D) (start old new : D) (was_sup : Super) (w
   found_by finding None other alike tells = tt
   found_by finding (Some image) other alike tells =
       let here =
-      subst (λ o. IfSome o (λ i. IsBased i was_sup was_map roots pairs → AreNarrow pairs → superblock_in (overlaid pending 0 i) ≡ Ok fresh
+      subst (λ o. IfSome o (λ i. IsBased i was_sup was_map roots pairs → superblock_in (overlaid pending 0 i) ≡ Ok fresh
       → contents (overlaid pending 0 i) ≡ Err finding)) alike tells in
-      λ stand super_is. (here (based_by image stand) stand.narrow super_is, tt)
+      λ stand super_is. (here (based_by image stand) super_is, tt)
 
   change_by : (change : Change) (told other : Option (List ℕ)) → other ≡ told
-      → IfSome other (λ image. IsBased image was_sup was_map roots pairs → AreNarrow pairs → superblock_in (overlaid pending 0 image) ≡ Ok fresh
+      → IfSome other (λ image. IsBased image was_sup was_map roots pairs → superblock_in (overlaid pending 0 image) ≡ Ok fresh
       → IsDifference image (overlaid pending 0 image) (written_in pending) (Changed change)
       × ReadsFew (disk.reads old) (disk.reads new) (Changed change))
       → IfSome told (λ image.
@@ -78,11 +77,11 @@ module _ {D : Type 0} (disk : Ghosts D) (start old new : D) (was_sup : Super) (w
   change_by change None other alike tells = tt
   change_by change (Some image) other alike tells =
       let here =
-      subst (λ o. IfSome o (λ i. IsBased i was_sup was_map roots pairs → AreNarrow pairs → superblock_in (overlaid pending 0 i) ≡ Ok fresh
+      subst (λ o. IfSome o (λ i. IsBased i was_sup was_map roots pairs → superblock_in (overlaid pending 0 i) ≡ Ok fresh
       → IsDifference i (overlaid pending 0 i) (written_in pending) (Changed change)
       × ReadsFew (disk.reads old) (disk.reads new) (Changed change))) alike tells in
       λ stand super_is.
-      let both = here (based_by image stand) stand.narrow super_is in
+      let both = here (based_by image stand) super_is in
       (both.0, subst (λ n. ReadsFew n (disk.reads new) (Changed change)) same_reads both.1)
 
   -- the answers, by what the step says

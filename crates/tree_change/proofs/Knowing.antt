@@ -6,7 +6,7 @@ use Rattle.std.specs.FinMap.{FinMap}
 use Rattle.verdict.specs.Chunks.{home, place}
 use Rattle.verdict.specs.declared.place.Chunk.{Chunk}
 use Rattle.volume_items.specs.declared.root.RootItem.{RootItem}
-use Rattle.live_index.specs.Pairs.{Pairs}
+use Rattle.live_index.specs.Pairs.{AreNarrow, Pairs}
 use Rattle.records.specs.Contents.{chunk_tree_root}
 use Rattle.touched_pairs.specs.Marking.{AreMarkedFrom, ClimbsTo}
 use Rattle.touched_pairs.specs.Marks.{Marked, no_mark}
@@ -17,7 +17,6 @@ use Rattle.shared_trees.specs.ArrayLaw.{HasArray}
 use Rattle.shared_trees.specs.Keeping.{Marks, Under}
 use Rattle.shared_trees.specs.Listed.{AreListedBy}
 use Rattle.shared_trees.specs.LivePairs.{Walked, live_in, table_of}
-use Rattle.shared_trees.specs.Marking.{AreNarrow}
 use Rattle.shared_trees.specs.Shared.{are_read_alike}
 use Rattle.shared_trees.specs.SharedLaw.{HasTrees, touches_old}
 use Rattle.shared_trees.specs.TableLaw.{Tree, trees_in}

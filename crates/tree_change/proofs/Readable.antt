@@ -12,7 +12,7 @@ use Rattle.verdict.specs.declared.place.Chunk.{Chunk}
 use Rattle.verdict.proofs.Tables.{finding_or-ok}
 use Rattle.recon_disk.specs.declared.disk.Disk.{Ghosts}
 use Rattle.write_cache.specs.Cache.{overlaid}
-use Rattle.live_index.specs.Pairs.{Pairs}
+use Rattle.live_index.specs.Pairs.{AreNarrow, Pairs}
 use Rattle.live_index.specs.Table.{pairs_of}
 use Rattle.super_reader.specs.Superblock.{IsReadable, superblock_fields, superblock_of, superblock_rules}
 use Rattle.super_reader.specs.declared.Super.{Super}
@@ -23,7 +23,6 @@ use Rattle.touched_pairs.specs.Touched.{written_in}
 use Rattle.block_source.specs.declared.halt.Halt.{Halt}
 use Rattle.block_source.specs.declared.halt.Halt.TheVariants.{Found, Disk, NoMemory}
 use Rattle.block_source.specs.declared.read.BlockSource.{BlockSource}
-use Rattle.shared_trees.specs.Marking.{AreNarrow}
 use Rattle.shared_trees.proofs.Treed.{steps_of}
 use Rattle.tree_change.specs.Change.{IsDifference, ReadsFew}
 use Rattle.tree_change.specs.Compared.{IsBased, IsCompared, TellsChange, TellsOld, judged_by}
@@ -55,7 +54,7 @@ module _ {D : Type 0} (disk : Ghosts D) (old new : D) (was : BlockSource) (pendi
   -- the finding of what the new image holds
   abbrev pub IsFoundOf : Finding → List ℕ → Type 0
   IsFoundOf finding image =
-      IsBased image was.sup.now was.map.now roots pairs → AreNarrow pairs → superblock_in (overlaid pending 0 image) ≡ Ok fresh
+      IsBased image was.sup.now was.map.now roots pairs → superblock_in (overlaid pending 0 image) ≡ Ok fresh
       → contents (overlaid pending 0 image) ≡ Err finding
 
   -- a superblock that can't be read is none of these
@@ -65,7 +64,7 @@ module _ {D : Type 0} (disk : Ghosts D) (old new : D) (was : BlockSource) (pendi
     where
       at : (finding : Finding) (told : Option (List ℕ)) → IfSome told (IsFoundOf finding)
       at finding None = tt
-      at finding (Some image) = λ based narrow super_is. never based super_is none
+      at finding (Some image) = λ based super_is. never based super_is none
         where
           never : IsBased image was.sup.now was.map.now roots pairs → superblock_in (overlaid pending 0 image) ≡ Ok fresh
               → (IsReadable was.sup.now → ⊥) ⊎ (IsReadable fresh → ⊥) → contents (overlaid pending 0 image) ≡ Err finding
@@ -78,15 +77,15 @@ module _ {D : Type 0} (disk : Ghosts D) (old new : D) (was : BlockSource) (pendi
       by NoMemory = tt
 
   -- what the comparison tells is told of the image as it was
-  pub old_told : {L : Type 0} (both : Compared L) (result : Result Change Halt) → both.was.sup.now ≡ was.sup.now → both.was.map.now ≡ was.map.now
+  pub old_told : {L : Type 0} (both : Compared L) (result : Result Change Halt) → AreNarrow pairs → both.was.sup.now ≡ was.sup.now → both.was.map.now ≡ was.map.now
       → both.roots.now ≡ roots → pairs_of both.table.now ≡ pairs → both.cache.now ≡ pending → both.fresh.now ≡ fresh → both.was.end ≡ disk.len old
       → IfSome (disk.bytes old) (λ image. length image ≡ disk.len old)
       → TellsChange disk old new both result → TellsOld disk old new was.sup.now was.map.now pending fresh roots pairs result
-  old_told {L} both result a b c d e f end size tells = by result tells
+  old_told {L} both result narrow a b c d e f end size tells = by result tells
     where
-      compared : (image : List ℕ) → length image ≡ disk.len old → IsBased image was.sup.now was.map.now roots pairs → AreNarrow pairs
+      compared : (image : List ℕ) → length image ≡ disk.len old → IsBased image was.sup.now was.map.now roots pairs
           → superblock_in (overlaid pending 0 image) ≡ Ok fresh → IsCompared both image
-      compared image n based narrow super_is = record {
+      compared image n based super_is = record {
         based = subst (λ s. IsBased image s both.was.map.now both.roots.now (pairs_of both.table.now)) (sym a)
             (subst (λ m. IsBased image was.sup.now m both.roots.now (pairs_of both.table.now)) (sym b)
             (subst (λ r. IsBased image was.sup.now was.map.now r (pairs_of both.table.now)) (sym c)
@@ -102,20 +101,20 @@ module _ {D : Type 0} (disk : Ghosts D) (old new : D) (was : BlockSource) (pendi
       found : (finding : Finding) (told : Option (List ℕ)) → IfSome told (λ image. length image ≡ disk.len old)
           → IfSome told (λ image. IsCompared both image → contents (judged_by both image) ≡ Err finding) → IfSome told (IsFoundOf finding)
       found finding None n tells = tt
-      found finding (Some image) n tells = λ based narrow super_is.
-          ap (λ cache. contents (overlaid cache 0 image)) (sym e) ∙ tells (compared image n based narrow super_is)
+      found finding (Some image) n tells = λ based super_is.
+          ap (λ cache. contents (overlaid cache 0 image)) (sym e) ∙ tells (compared image n based super_is)
 
       done : (change : Change) (told : Option (List ℕ)) → IfSome told (λ image. length image ≡ disk.len old)
           → IfSome told (λ image. IsCompared both image → IsDifference image (judged_by both image) (written_in both.cache.now) (Changed change)
           × ReadsFew (disk.reads old) (disk.reads new) (Changed change))
           → IfSome told (λ image.
-          IsBased image was.sup.now was.map.now roots pairs → AreNarrow pairs → superblock_in (overlaid pending 0 image) ≡ Ok fresh
+          IsBased image was.sup.now was.map.now roots pairs → superblock_in (overlaid pending 0 image) ≡ Ok fresh
           → IsDifference image (overlaid pending 0 image) (written_in pending) (Changed change)
           × ReadsFew (disk.reads old) (disk.reads new) (Changed change))
       done change None n tells = tt
-      done change (Some image) n tells = λ based narrow super_is.
+      done change (Some image) n tells = λ based super_is.
           subst (λ cache. IsDifference image (overlaid cache 0 image) (written_in cache) (Changed change)
-          × ReadsFew (disk.reads old) (disk.reads new) (Changed change)) e (tells (compared image n based narrow super_is))
+          × ReadsFew (disk.reads old) (disk.reads new) (Changed change)) e (tells (compared image n based super_is))
 
       by : (r : Result Change Halt) → TellsChange disk old new both r → TellsOld disk old new was.sup.now was.map.now pending fresh roots pairs r
       by (Ok change) tells = done change (disk.bytes old) size tells

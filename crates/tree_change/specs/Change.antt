@@ -19,7 +19,6 @@ use Rattle.records.specs.Part.{Located}
 use Rattle.shared_trees.specs.LivePairs.{Walked, live_in, table_of, walked}
 use Rattle.shared_trees.specs.Shared.{unshared_in}
 use Rattle.touched_pairs.specs.Touched.{Written, written_in}
-use Rattle.shared_trees.specs.Marking.{AreNarrow}
 use Rattle.shared_trees.specs.MergedLaw.{IsInOrder}
 use Rattle.shared_trees.specs.ShiftedLaw.{shifted_in}
 use Rattle.shared_trees.specs.Unshared.{items_in}
@@ -53,7 +52,7 @@ IsDifference image judged written (Changed change) =
     (old : Walked) × (new : Walked) × (walked image ≡ Ok old) × (walked judged ≡ Ok new) × IsChange old new written (length image) change
 
 -- what is known of an image that is accepted is what it holds: its superblock, its chunks, its root items in the order of their keys,
--- whether an inode's data has no checksums, and the table of its live pairs, of which the ids and addresses have 64 bits, as in any table
+-- whether an inode's data has no checksums, and the table of its live pairs
 pub record BasesStand (image : List ℕ) (sup : Super) (chunks : List Chunk) (roots : List RootAt) (sum_free : ℕ → ℕ → Bool) (pairs : Pairs) : Type 0 where
   pub generation : ℕ
   pub accepted : full_check image ≡ Accept generation
@@ -66,7 +65,6 @@ pub record BasesStand (image : List ℕ) (sup : Super) (chunks : List Chunk) (ro
   pub trees : Walked
   pub walks : walked image ≡ Ok trees
   pub pairs_are : (tree address : ℕ) → pairs tree address ≡ table_of (live_in trees.seen) tree address
-  pub narrow : AreNarrow pairs
 
 -- what a change costs: at most two reads for each block that is not shared
 abbrev pub ReadsFew : ℕ → ℕ → Diff → Type 0

@@ -7,7 +7,7 @@ use Rattle.verdict.specs.declared.finding.Finding.{Finding}
 use Rattle.verdict.specs.declared.place.Chunk.{Chunk}
 use Rattle.recon_disk.specs.declared.disk.Disk.{Ghosts}
 use Rattle.write_cache.specs.Cache.{overlaid}
-use Rattle.live_index.specs.Pairs.{Pairs, no_pairs}
+use Rattle.live_index.specs.Pairs.{AreNarrow, Pairs, no_pairs}
 use Rattle.live_index.specs.Table.{pairs_of}
 use Rattle.super_reader.specs.Superblock.{array_place}
 use Rattle.super_reader.specs.declared.Super.{Super}
@@ -23,7 +23,6 @@ use Rattle.touched_pairs.specs.Marks.{marked_by, no_mark}
 use Rattle.touched_pairs.specs.Spots.{at_address}
 use Rattle.touched_pairs.specs.Touched.{touches_block, written_in}
 use Rattle.shared_trees.specs.LivePairs.{Walked, live_in, table_of, walked}
-use Rattle.shared_trees.specs.Marking.{AreNarrow}
 use Rattle.shared_trees.specs.Shared.{are_read_alike}
 use Rattle.shared_trees.specs.SharedLaw.{HasTrees}
 use Rattle.shared_trees.specs.TableLaw.{trees_in}
@@ -167,10 +166,10 @@ TellsChange disk old new both (Ok change) = IfSome (disk.bytes old) (λ image.
 -- the same of an image as it was that is read so, of which what is known is for sure where the new superblock is that of the new image
 abbrev pub TellsOld : {D : Type 0} → (disk : Ghosts D) → D → D → Super → List Chunk → FinMap nat_cmp ℕ → Super → List RootAt → Pairs → Result Change Halt → Type 0
 TellsOld disk old new sup chunks pending fresh roots pairs (Err (Found finding)) = IfSome (disk.bytes old) (λ image.
-    IsBased image sup chunks roots pairs → AreNarrow pairs → superblock_in (overlaid pending 0 image) ≡ Ok fresh
+    IsBased image sup chunks roots pairs → superblock_in (overlaid pending 0 image) ≡ Ok fresh
     → contents (overlaid pending 0 image) ≡ Err finding)
 TellsOld disk old new sup chunks pending fresh roots pairs (Err other) = Unit {0}
 TellsOld disk old new sup chunks pending fresh roots pairs (Ok change) = IfSome (disk.bytes old) (λ image.
-    IsBased image sup chunks roots pairs → AreNarrow pairs → superblock_in (overlaid pending 0 image) ≡ Ok fresh
+    IsBased image sup chunks roots pairs → superblock_in (overlaid pending 0 image) ≡ Ok fresh
     → IsDifference image (overlaid pending 0 image) (written_in pending) (Changed change)
     × ReadsFew (disk.reads old) (disk.reads new) (Changed change))

@@ -100,6 +100,7 @@ fn change_from<D: Disk, L>(
         was.end,
         steps,
     )?;
+    table.narrow_law();
     let both = Compared {
         was: *was,
         cache,

@@ -16,5 +16,5 @@ returns-in_err-check_readable-2-clause-tells g c =
 pub returns-clause-tells : goal.returns-clause-tells
 returns-clause-tells g c =
     old_told g.D.Disk c.args.disk.now c.compare.new.disk c.args.was.now c.args.cache.now c.args.fresh.now c.args.roots.now
-    (pairs_of c.args.table.now) _ c.compare.result refl refl refl refl refl refl c.requires.end (g.met.D.Disk.told_length c.args.disk.now)
+    (pairs_of c.args.table.now) _ c.compare.result c.narrow_law.ensures refl refl refl refl refl refl c.requires.end (g.met.D.Disk.told_length c.args.disk.now)
     c.compare.ensures.tells

@@ -3,9 +3,10 @@ use Rattle.std.proofs.Common.{arith, ◌≡◌, ◌∙◌, refl, ap, sym, subst}
 use Rattle.std.specs.Prelude.{None, Some, is_some}
 use Rattle.live_index.specs.InOrder.{pairs_in}
 use Rattle.live_index.specs.Orders.{AreAlike}
-use Rattle.live_index.specs.Pairs.{with_pair}
+use Rattle.live_index.specs.Pairs.{AreNarrow, with_pair}
 use Rattle.live_index.proofs.AlikeLaws.{alike_added, alike_kept, alike_moved, key_had}
 use Rattle.live_index.proofs.IndexLaws.{pairs_back, pairs_put, pairs_restored, pairs_same, pairs_there}
+use Rattle.live_index.proofs.NarrowLaws.{narrow_with}
 use Rattle.live_index.proofs.kept.LiveIndex.insert.Goals as goal
 
 -- src/index.rt:42:31
@@ -25,6 +26,8 @@ invariant_of-self g c =
     record {
       alike = subst (λ p. AreAlike p c.add.new.self) (sym now)
           (alike_added (pairs_in c.args.self.now.pairs) c.args.self.now.orders c.add.new.self c.args.live c.args.self.now.alike none c.in-Ok.ensures.ok);
+      narrow = subst AreNarrow (sym now)
+          (narrow_with (pairs_in c.args.self.now.pairs) c.args.live (omega arith) (omega arith) c.args.self.now.narrow);
     }
 
 -- src/index.rt:45:21
@@ -37,6 +40,7 @@ invariant_of-self-in-Err-add g c =
     record {
       alike = subst (λ p. AreAlike p c.add.new.self) (sym now)
           (alike_kept (pairs_in c.args.self.now.pairs) c.args.self.now.orders c.add.new.self c.args.self.now.alike c.in-Err-add.ensures.err);
+      narrow = subst AreNarrow (sym now) c.args.self.now.narrow;
     }
 
 -- src/index.rt:49:36
@@ -56,6 +60,8 @@ invariant_of-self-in-Ok-exchange g c =
     record {
       alike = subst (λ p. AreAlike p c.exchange.new.self) (sym now)
           (alike_moved (pairs_in c.args.self.now.pairs) c.args.self.now.orders c.exchange.new.self c.in-Ok-Some.old c.args.live c.args.self.now.alike there c.in-Ok-exchange.ensures.ok);
+      narrow = subst AreNarrow (sym now)
+          (narrow_with (pairs_in c.args.self.now.pairs) c.args.live (omega arith) (omega arith) c.args.self.now.narrow);
     }
 
 -- src/index.rt:53:29
@@ -69,12 +75,14 @@ invariant_of-self-in-Err-exchange g c =
     record {
       alike = subst (λ p. AreAlike p c.exchange.new.self) (sym now)
           (alike_kept (pairs_in c.args.self.now.pairs) c.args.self.now.orders c.exchange.new.self c.args.self.now.alike c.in-Err-exchange.ensures.err);
+      narrow = subst AreNarrow (sym now) c.args.self.now.narrow;
     }
 
 -- src/index.rt:41:15
 pub invariant_of-self-in-Err : goal.invariant_of-self-in-Err
 invariant_of-self-in-Err g c = record {
   alike = subst (λ p. AreAlike p c.args.self.now.orders) (sym (pairs_same c.args.self.now.pairs c.insert.new.self c.in-Err.ensures.err)) c.args.self.now.alike;
+  narrow = subst AreNarrow (sym (pairs_same c.args.self.now.pairs c.insert.new.self c.in-Err.ensures.err)) c.args.self.now.narrow;
 }
 
 pub returns-in-Ok-clause-ok : goal.returns-in-Ok-clause-ok

@@ -3,14 +3,16 @@ use Rattle.std.proofs.Common.{arith, ◌≡◌, ◌∙◌, sym, subst}
 use Rattle.std.specs.Prelude.{Some}
 use Rattle.live_index.specs.InOrder.{pairs_in}
 use Rattle.live_index.specs.Orders.{AreAlike}
-use Rattle.live_index.specs.Pairs.{without_pair}
+use Rattle.live_index.specs.Pairs.{AreNarrow, without_pair}
 use Rattle.live_index.proofs.AlikeLaws.{alike_taken, own_found}
 use Rattle.live_index.proofs.IndexLaws.{pairs_same, pairs_taken, pairs_there}
+use Rattle.live_index.proofs.NarrowLaws.{narrow_without}
 use Rattle.live_index.proofs.kept.LiveIndex.remove.Goals as goal
 
 pub invariant_of-self : goal.invariant_of-self
 invariant_of-self g c = record {
   alike = subst (λ p. AreAlike p c.args.self.now.orders) (sym (pairs_same c.args.self.now.pairs c.remove.new.self c.in_err-live.ensures.unchanged)) c.args.self.now.alike;
+  narrow = subst AreNarrow (sym (pairs_same c.args.self.now.pairs c.remove.new.self c.in_err-live.ensures.unchanged)) c.args.self.now.narrow;
 }
 
 pub returns-in_err-live-clause-value : goal.returns-in_err-live-clause-value
@@ -30,6 +32,7 @@ invariant_of-self-2 g c =
     record {
       alike = subst (λ p. AreAlike p c.take.new.self) (sym now)
           (alike_taken (pairs_in c.args.self.now.pairs) c.args.self.now.orders c.take.new.self c.args.tree c.args.address c.in_ok-live.live c.args.self.now.alike there c.take.ensures);
+      narrow = subst AreNarrow (sym now) (narrow_without (pairs_in c.args.self.now.pairs) c.args.tree c.args.address c.args.self.now.narrow);
     }
 
 pub returns-clause-value : goal.returns-clause-value
