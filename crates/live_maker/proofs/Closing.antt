@@ -92,3 +92,8 @@ set_last (x ∷ []) zero top key long is = ap (λ l. raised key l ∷ []) is
 set_last (x ∷ []) (suc k) top key long is = absurd (omega arith)
 set_last (x ∷ y ∷ more) zero top key long is = absurd (omega arith)
 set_last (x ∷ y ∷ more) (suc k) top key long is = ap (λ l. x ∷ l) (set_last (y ∷ more) k top key (omega arith) is)
+
+pub item_taken : (items now : List Live) (n : ℕ) (top : Live) (key last : Key) → n ≡ length items → 0 < n → top ≡ get_or items (n - 1) top
+    → last ≡ greater_key key top.last → now ≡ set items (n - 1) (record top { last = last }) → now ≡ with_key key items
+item_taken items now n top key last long some is so changed =
+    changed ∙ ap (λ k. set items (n - 1) (record top { last = k })) so ∙ set_last items (n - 1) top key (omega arith) is
