@@ -1,0 +1,5 @@
+pub mod Behind
+pub mod Changing
+pub mod Closing
+pub mod Greater
+pub mod Made
