@@ -1,11 +1,10 @@
 -- What the pairs behind one hand up to it, and what of them stays behind once its block is closed.
-use Rattle.std.proofs.Common.{◌≡◌, Bool, true, false, ◌<◌, List, [], ◌∷◌, ◌++◌, length, reverse, get_or, refl, ap, sym, ◌∙◌, arith, if◌then◌else◌}
+use Rattle.std.proofs.Common.{◌≡◌, Bool, true, false, List, [], ◌∷◌, refl, ap, sym, ◌∙◌, arith}
 use Rattle.std.proofs.lemmas.Bool.Decides.{nat_tests}
 use Rattle.verdict.specs.Rules.{no_key}
-use Rattle.verdict.specs.declared.key.Key.{Key}
 use Rattle.live_index.specs.declared.live.Live.{Live}
 use Rattle.shared_trees.specs.LivePairs.{greater_key}
-use Rattle.live_maker.specs.Opened.{closes, finished, last_below, raised}
+use Rattle.live_maker.specs.Opened.{closes, last_below, raised}
 use Rattle.live_maker.specs.Closing.{left_of}
 use Rattle.live_maker.proofs.Greater.{greater_assoc, greater_swap, none_greater}
 

@@ -1,5 +1,5 @@
 -- The greater of two keys: in which order several are taken together does not matter.
-use Rattle.std.proofs.Common.{◌≡◌, ℕ, Bool, true, false, refl, ap, sym, ◌∙◌, arith}
+use Rattle.std.proofs.Common.{◌≡◌, ℕ, Bool, true, false, refl, ap, ◌∙◌, arith}
 use Rattle.std.proofs.lemmas.Grind.{common_steps}
 use Rattle.verdict.specs.OnDisk.{key_below}
 use Rattle.verdict.specs.Rules.{no_key}

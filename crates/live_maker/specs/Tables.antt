@@ -1,5 +1,5 @@
 -- Tables of live pairs that lists of pairs change.
-use Rattle.std.specs.Prelude.{List, [], ◌∷◌}
+use Rattle.std.specs.Prelude.{List}
 use Rattle.std.specs.List.{fold}
 use Rattle.live_index.specs.Pairs.{Pairs, with_pair, without_pair}
 use Rattle.live_index.specs.declared.live.Live.{Live}

@@ -1,5 +1,5 @@
-use Rattle.std.proofs.Common.{◌≡◌, ◌<◌, arith, refl, ap, sym, ◌∙◌}
-use Rattle.std.specs.Prelude.{vec_len, length}
+use Rattle.std.proofs.Common.{arith, refl, ap, sym, ◌∙◌}
+use Rattle.std.specs.Prelude.{vec_len}
 use Rattle.records.specs.Seen.{seen}
 use Rattle.live_maker.specs.Opened.{held_in, with_record}
 use Rattle.live_maker.proofs.Closing.{item_taken}
