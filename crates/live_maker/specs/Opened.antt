@@ -48,7 +48,7 @@ with_record lives other = lives
 abbrev pub held_in : Lives → List Live
 held_in lives = lives.pairs.items
 
--- Whether the block of a pair is not below that of another which stands before it. The first such block behind an open one closes it.
+-- Whether of two pairs the second's block is not below the first's. The first such block behind an open one closes it.
 abbrev pub closes : Live → Live → Bool
 closes live one = not (one.tree == live.tree) || nat_le live.level one.level
 

@@ -120,7 +120,7 @@ fn greater(a: Key, b: Key) -> Key
     if a.is_below(&b) { b } else { a }
 }
 
-// Whether the block of a pair is not below that of another which stands before it.
+// Whether of two pairs the second's block is not below the first's.
 fn closes(live: &Live, one: &Live) -> bool
     ensures { result ≡ closes live.now one.now }
 {
