@@ -1,0 +1,10 @@
+pub mod Blocks
+pub mod Flags
+pub mod Items
+pub mod Judged
+pub mod Kept
+pub mod Paired
+pub mod Same
+pub mod Sectors
+pub mod Steps
+pub mod Tables
