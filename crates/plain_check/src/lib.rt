@@ -3,10 +3,15 @@
 
 mod check;
 mod judging;
+mod kept;
+mod law;
 mod primary;
 mod roots;
 mod takers;
+mod volume;
 
 pub use block_source::{Fault, read_under};
 pub use judging::{judge, judge_within};
+pub use law::opening_law;
 pub use verdict::Verdict;
+pub use volume::Volume;
