@@ -11,6 +11,12 @@ pub mod GRoots
 pub mod GTable
 pub mod GWhole
 pub mod Held
+pub mod IApart
+pub mod IBPostings
+pub mod IBSums
+pub mod IBlocks
+pub mod IItems
+pub mod IRows
 pub mod PAlike
 pub mod PAll
 pub mod PFilters
@@ -29,3 +35,7 @@ pub mod SStep
 pub mod SSteps
 pub mod SWhole
 pub mod Separate
+pub mod WCommit
+pub mod WNamed
+pub mod WSpans
+pub mod WStep

@@ -1,4 +1,5 @@
 pub mod Blocks
+pub mod Commit
 pub mod Flags
 pub mod Items
 pub mod Judged

@@ -2,13 +2,17 @@
 //! index keeps. Each stands on a function that does nothing.
 #![tactic(auto)]
 
+mod commit;
 mod flags;
+mod items;
 mod paired;
 mod same;
 mod sectors;
 mod steps;
 
+pub use commit::commit_law;
 pub use flags::{flags_law, hot_law, roots_law, table_moved_law};
+pub use items::{blocks_law, items_law};
 pub use paired::{all_changes_law, found_law, paired_law};
 pub use same::{held_law, records_law};
 pub use sectors::{judged_law, runs_law, sectors_law};
