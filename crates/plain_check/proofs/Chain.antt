@@ -8,7 +8,7 @@ use Rattle.records.specs.Walk.{Records}
 use Rattle.records.specs.FullCheck.{checked}
 use Rattle.plain_check.specs.Accounts.{accounts_in, accounts_of}
 use Rattle.plain_check.specs.Opened.{Opened, opened, named_records}
-use Rattle.plain_check.specs.OpeningLaw.{contents_of, contents_with}
+use Rattle.plain_check.specs.OpeningLaw.{contents_with}
 use Rattle.plain_check.proofs.Opening.{opens, then_next}
 
 -- the steps of the check, one after the other

@@ -3,9 +3,9 @@ use Rattle.std.proofs.Common.{◌≡◌, ℕ, ◌+◌, ◌*◌, ◌≤◌, List,
 use Rattle.std.specs.List.{fold}
 use Rattle.std.proofs.lemmas.List.{drop_all}
 use Rattle.std.proofs.lemmas.List.Sums.{sum_by-append}
-use Rattle.verdict.specs.declared.finding.Finding.{Finding}
 use Rattle.verdict.specs.declared.place.Place.{Place}
 use Rattle.verdict.specs.declared.place.Place.TheVariants.{Nowhere, One, Two}
+use Rattle.recon_disk.specs.Outside.{counted}
 use Rattle.recon_disk.specs.declared.disk.Disk.{Ghosts}
 use Rattle.write_cache.specs.Cache.{overlaid}
 use Rattle.super_reader.specs.declared.Super.{Super}
@@ -101,3 +101,15 @@ trees_few disk source before after (Err halt) sup chunks roots i past is = tt
 trees_few disk source before after (Ok done) sup chunks roots i past is =
     told_few (disk.bytes before) source (disk.reads before) (disk.reads after) (tree_records sup chunks roots)
     (none_left (disk.bytes before) source (disk.reads before) (disk.reads after) sup chunks roots i past is)
+
+told_sum : (told : Option (List ℕ)) (begin top one two : ℕ) (first second : List Seen) → top ≡ counted begin
+    → IfSome told (λ _. one ≤ top + 2 * block_count first) → IfSome told (λ _. two + 2 * block_count first ≤ one + 2 * block_count second)
+    → IfSome told (λ _. two ≤ begin + 1 + 2 * block_count second)
+told_sum None begin top one two first second read these those = tt
+told_sum (Some image) begin top one two first second read these those = omega arith
+
+-- one read for the superblock, and at most two for each block of two trees
+pub open_few : (told now later : Option (List ℕ)) (begin top one two : ℕ) (first second : List Seen) → now ≡ told → later ≡ now → top ≡ counted begin
+    → IfSome now (λ _. one ≤ top + 2 * block_count first) → IfSome later (λ _. two + 2 * block_count first ≤ one + 2 * block_count second)
+    → IfSome told (λ _. two ≤ begin + 1 + 2 * block_count second)
+open_few told now later begin top one two first second p q read these those = told_sum told begin top one two first second read (rw p at these) (rw (q, p) at those)

@@ -1,5 +1,4 @@
 use Rattle.std.proofs.Common.{sym, ◌∙◌, Some, None}
-use Rattle.records.specs.Contents.{chunk_records}
 use Rattle.records.specs.Walk.{walk_in}
 use Rattle.plain_check.proofs.Counting.{told_few_of}
 use Rattle.plain_check.proofs.Trees.{chunk_kept, map_told}

@@ -1,4 +1,3 @@
-use Rattle.std.proofs.Common.{sym}
 use Rattle.std.proofs.lemmas.Result.{err_from_is_err_and}
 use Rattle.records.specs.Walk.{walk_in}
 use Rattle.plain_check.proofs.Counting.{told_few_behind}
