@@ -7,5 +7,6 @@ pub mod Kept
 pub mod Paired
 pub mod Same
 pub mod Sectors
+pub mod Sound
 pub mod Steps
 pub mod Tables

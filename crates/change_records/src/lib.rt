@@ -14,4 +14,5 @@ mod search;
 
 pub use changes::{ItemChange, pair};
 pub use item_ref::ItemRef;
+pub use kept::{Inode, Made};
 pub use kept_items::affected;

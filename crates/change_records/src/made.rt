@@ -2,6 +2,8 @@
 
 ghost use Rattle.std.specs.Prelude.{◌≡◌, ℕ, Bool, false, ◌&&◌, ◌||◌, ◌==◌, IfOk, OnOk, Some, option_map, slice_get, if◌then◌else◌};
 ghost use Rattle.std.specs.List.{Contains};
+ghost use Rattle.std.specs.BTreeSet.{contains};
+ghost use Rattle.change_records.specs.Listed.{inode_cmp};
 ghost use Rattle.change_records.specs.Made.{IsApplied, IsMade, IsPut, IsTaken, flag_by, has_name};
 ghost use Rattle.change_records.specs.Refs.{stands_at};
 ghost use Rattle.change_records.specs.declared.item_ref.ItemRef.{ItemRef as ARef};
@@ -17,8 +19,9 @@ use verdict::NoMemory;
 const NODATASUM: u64 = 1;
 
 impl Made {
-    /// What changes from one list of items to another name and make of flags.
-    pub(crate) fn of(
+    /// What changes from one list of items to another name and make of flags. A place outside its list names nothing. It takes its memory
+    /// from this allocator.
+    pub fn of(
         alloc: Global,
         changes: &[ItemChange],
         old: &[ItemAt],
@@ -147,13 +150,23 @@ impl Made {
 
     /// The flag of an inode by the changes, or `free`, which it had, where none is of it.
     #[tactic(auto, unfolding(crate::specs::Made::flag_by))]
-    pub(crate) fn flag(&self, tree: u64, ino: u64, free: bool) -> bool
+    pub fn flag(&self, tree: u64, ino: u64, free: bool) -> bool
         ensures { result ≡ flag_by self.now tree ino free }
     {
         self.flags
             .get(&Inode { tree, ino })
             .copied()
             .unwrap_or(free)
+    }
+
+    /// Turns the flags in a set of the inodes whose data has no checksums: an inode of which the changes have a flag is in the set then
+    /// where that is set, and any other stays as it was. Out of memory, some may be turned.
+    pub fn turn(&self, set: &mut BTreeSet<Inode>) -> Result<(), NoMemory>
+        ensures { OnOk result ((tree ino : ℕ) →
+            contains inode_cmp set.new (record { tree = tree; ino = ino })
+            ≡ flag_by self.now tree ino (contains inode_cmp set.old (record { tree = tree; ino = ino }))) }
+    {
+        Err(NoMemory)
     }
 }
 

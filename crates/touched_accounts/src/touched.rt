@@ -4,7 +4,7 @@ ghost use Rattle.std.specs.Prelude.{◌≡◌, ◌+◌, ◌*◌, ◌<◌, ◌≤
 ghost use Rattle.std.specs.Option.{option_copied};
 ghost use Rattle.accounts.specs.Sums.{sum_in};
 ghost use Rattle.accounts.specs.declared.postings.Posting.{Posting};
-ghost use Rattle.ledger_index.specs.Ledger.{sums_of};
+ghost use Rattle.ledger_index.specs.Ledger.{IsTidy, sums_of};
 ghost use Rattle.ledger_index.specs.Sums.{greatest};
 ghost use Rattle.touched_accounts.specs.Least.{IsLeastTouched, stands_before};
 ghost use Rattle.touched_accounts.specs.Sums.{less_all, with_all};
@@ -15,7 +15,7 @@ use recon_disk::Steps;
 use verdict::NoMemory;
 
 /// Adds each of some postings to a ledger. Out of memory, also where a sum would pass 128 bits, any part of them may be
-/// added.
+/// added. An entry stands for exactly the accounts whose sums are not all zero, if that was so before.
 pub fn put_all<L>(
     ledger: &mut LedgerIndex<L>,
     postings: &Postings,
@@ -23,6 +23,7 @@ pub fn put_all<L>(
 ) -> Result<(), NoMemory>
     ensures sums { OnOk result
         (sums_of ledger.new ≡ with_all (sums_of ledger.old) postings.now) }
+    ensures entries { IsTidy ledger.old → IsTidy ledger.new }
     ensures looks { steps.new ≤ steps.old + 2 * length postings.now }
 {
     for posting in postings.as_slice() {
@@ -46,9 +47,11 @@ fn is_full(totals: &Totals, field: u8) -> bool
     }
 }
 
-/// Takes each of some postings from a ledger, or all that stands where less does.
+/// Takes each of some postings from a ledger, or all that stands where less does. An entry stands for exactly the accounts
+/// whose sums are not all zero, if that was so before.
 pub fn take_all<L>(ledger: &mut LedgerIndex<L>, postings: &Postings, steps: &mut Steps<L>)
     ensures sums { sums_of ledger.new ≡ less_all (sums_of ledger.old) postings.now }
+    ensures entries { IsTidy ledger.old → IsTidy ledger.new }
     ensures looks { steps.new ≤ steps.old + length postings.now }
 {
     for posting in postings.as_slice() {

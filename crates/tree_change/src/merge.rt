@@ -138,7 +138,7 @@ fn chunk_in(item: &ItemAt) -> Option<Chunk>
 
 /// Where trees begin, in the order of the keys of their root items: those that were, without those of which the key is gone, and those
 /// that came. The list and the keys meanwhile take their memory from this allocator.
-pub(crate) fn merge_roots(
+pub fn merge_roots(
     alloc: Global,
     old: &[RootAt],
     gone: &[ItemAt],

@@ -5,7 +5,7 @@ use Rattle.touched_accounts.proofs.Changed.{put_next, with_none}
 use Rattle.touched_accounts.proofs.touched.put_all.Goals as goal
 
 pub loop-posting-init : goal.loop-posting-init
-loop-posting-init g c = record { sums = sym (with_none (sums_of c.args.ledger.now)); looks = omega arith }
+loop-posting-init g c = record { sums = sym (with_none (sums_of c.args.ledger.now)); entries = λ tidy. tidy; looks = omega arith }
 
 pub loop-posting-preserved : goal.loop-posting-preserved
 loop-posting-preserved g c =
@@ -15,5 +15,6 @@ loop-posting-preserved g c =
     record {
       sums = put_next (sums_of c.args.ledger.now) (sums_of c.loop-posting.ledger) (sums_of c.add.new.self) c.as_slice-posting-items.result.now
           c.loop-posting.posting-index p p c.loop-posting-test.true c.posting-item.is c.loop-posting.invariant.sums c.in_ok-add.ensures.ok room;
+      entries = λ _. c.add.ensures.entries;
       looks = omega (arith, c.add.ensures.looks, c.get-totals.ensures.looks, c.loop-posting.invariant.looks);
     }

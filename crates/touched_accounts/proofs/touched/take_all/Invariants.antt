@@ -1,5 +1,5 @@
 use Rattle.std.proofs.Common.{◌≡◌, ◌+◌, ◌≤◌, take}
-use Rattle.ledger_index.specs.Ledger.{sums_of}
+use Rattle.ledger_index.specs.Ledger.{IsTidy, sums_of}
 use Rattle.touched_accounts.specs.Sums.{less_all}
 use Rattle.touched_accounts.proofs.touched.take_all.Given as goal
 
@@ -7,5 +7,6 @@ use Rattle.touched_accounts.proofs.touched.take_all.Given as goal
 abbrev pub invariant-loop-posting : goal.invariant-loop-posting
 invariant-loop-posting g l = record {
   sums : sums_of l.ledger ≡ less_all (sums_of l.fn.ledger) (take l.posting-index l.posting-items);
+  entries : IsTidy l.fn.ledger → IsTidy l.ledger;
   looks : l.steps ≤ l.fn.steps + l.posting-index;
 }

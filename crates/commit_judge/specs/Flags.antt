@@ -1,0 +1,9 @@
+-- The inodes whose data has no checksums, as a set.
+use Rattle.std.specs.Prelude.{ℕ, Bool}
+use Rattle.std.specs.BTreeSet as set
+use Rattle.change_records.specs.Listed.{inode_cmp}
+use Rattle.change_records.specs.declared.kept.Inode.{Inode}
+
+-- whether an inode of a tree is in a set
+abbrev pub free_in : set.BTreeSet Inode → ℕ → ℕ → Bool
+free_in free tree ino = set.contains inode_cmp free (record { tree = tree; ino = ino })

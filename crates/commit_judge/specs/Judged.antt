@@ -1,0 +1,36 @@
+-- What the judgement of a commit says, and what it leaves of the index.
+use Rattle.std.specs.Prelude.{◌≡◌, ℕ, ◌+◌, ◌*◌, ◌≤◌, List}
+use Rattle.std.specs.Ordering.{nat_cmp}
+use Rattle.std.specs.FinMap.{FinMap}
+use Rattle.verdict.specs.declared.finding.Finding.{Finding}
+use Rattle.verdict.specs.declared.finding.Verdict.TheVariants.{Accept, Found}
+use Rattle.write_cache.specs.Cache.{overlaid}
+use Rattle.records.specs.FullCheck.{full_check}
+use Rattle.commit_judge.specs.Counts.{blocks_between, hot_between}
+use Rattle.commit_judge.specs.Index.{IndexStands}
+use Rattle.commit_judge.specs.declared.index.Index.{Index}
+use Rattle.commit_judge.specs.declared.judge.Judged.{Judged}
+use Rattle.commit_judge.specs.declared.judge.Judged.TheVariants.{Passed, Rejected}
+
+-- The judged image is accepted, and the index stands for it. The counts are those of the blocks that are not shared, and of the old ones
+-- that a stop may harm. Each block that is not shared is at most two reads.
+pub record IsPassed {L : Type 0} (image : List ℕ) (pending : FinMap nat_cmp ℕ) (index : Index L) (before after generation blocks hot : ℕ) : Type 0 where
+  pub accepted : full_check (overlaid pending 0 image) ≡ Accept generation
+  pub stands : IndexStands (overlaid pending 0 image) index
+  pub blocks : blocks ≡ blocks_between image pending
+  pub hot : hot ≡ hot_between image pending
+  pub reads : after ≤ before + 2 * blocks
+
+-- the judged image has this finding, and the index stands for the image as before
+pub record IsRejected {L : Type 0} (image : List ℕ) (pending : FinMap nat_cmp ℕ) (index : Index L) (finding : Finding) : Type 0 where
+  pub found : full_check (overlaid pending 0 image) ≡ Found finding
+  pub stands : IndexStands image index
+
+abbrev pub IsJudgement : {L : Type 0} → List ℕ → FinMap nat_cmp ℕ → Index L → ℕ → ℕ → Judged → Type 0
+IsJudgement image pending index before after (Passed generation blocks hot) = IsPassed image pending index before after generation blocks hot
+IsJudgement image pending index before after (Rejected finding) = IsRejected image pending index finding
+
+-- a commit passes only where the superblock lies on the device
+abbrev pub HasRoom : ℕ → Judged → Type 0
+HasRoom len (Passed generation blocks hot) = 69632 ≤ len
+HasRoom len (Rejected finding) = Unit {0}

@@ -1,0 +1,11 @@
+pub mod Ascending
+pub mod Flags
+pub mod Index
+pub mod Counts
+pub mod Fresh
+pub mod Judged
+pub mod Plan
+pub mod Posting
+pub mod Moves
+pub mod Tables
+pub mod Start

@@ -1,0 +1,20 @@
+//! The judge of a commit: from the blocks that the accepted image and the judged one do not share, and from an index of the accepted image.
+#![tactic(auto)]
+
+mod build;
+mod context;
+mod filling;
+mod fresh;
+mod hot;
+mod index;
+mod judge;
+mod moves;
+mod plan;
+mod posts;
+mod roots;
+mod runs;
+mod spans;
+
+pub use build::Built;
+pub use index::Index;
+pub use judge::{Judged, judge_commit, judge_within};
