@@ -7,5 +7,6 @@ pub mod Judged
 pub mod Plan
 pub mod Posting
 pub mod Moves
+pub mod Judging
 pub mod Tables
 pub mod Start
