@@ -1,0 +1,2 @@
+pub mod JCounts
+pub mod JTried

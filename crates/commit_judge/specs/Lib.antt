@@ -2,6 +2,7 @@ pub mod Ascending
 pub mod Flags
 pub mod Index
 pub mod Counts
+pub mod Decided
 pub mod Fresh
 pub mod Judged
 pub mod Plan

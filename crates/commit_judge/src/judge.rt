@@ -14,6 +14,7 @@ ghost use Rattle.tree_change.specs.Merging.{IsSortedOf, named_before, roots_left
 ghost use Rattle.commit_judge.specs.Index.{IndexStands, known};
 ghost use Rattle.commit_judge.specs.Judged.{HasRoom, IsJudgement};
 ghost use Rattle.commit_judge.specs.Judging.{IsLeastOf, is_hot_by, next_of};
+ghost use Rattle.commit_judge.specs.Decided.{IsDecided};
 ghost use Rattle.commit_judge.specs.Moves.{context_after};
 ghost use Rattle.commit_judge.specs.Plan.{IsPlanOf, IsPlanned, commit_in};
 
@@ -89,10 +90,29 @@ pub fn judge_within<D: Disk, L>(
     ensures room { IfOk result (HasRoom (D.len disk.old)) }
     ensures kept { Kept D.Disk disk.old disk.new (is_disk_fault result) }
 {
-    match told(plan_within(alloc, disk, cache, end, index, steps))? {
-        Ok(plan) => Ok(judge_plan(alloc, cache, end, index, plan, steps)?),
+    match told(judge_blocks(alloc, disk, cache, end, index, steps))? {
+        Ok(judged) => Ok(judged),
         Err(finding) => Ok(Judged::Rejected(finding)),
     }
+}
+
+// The judgement by the accounts, or the first finding of what the judged image holds.
+fn judge_blocks<D: Disk, L>(
+    alloc: Global,
+    disk: &mut D,
+    cache: &WriteCache,
+    end: u64,
+    index: &mut Index<L>,
+    steps: &mut Steps<L>,
+) -> Result<Judged, Halt>
+    requires { end ≡ D.len disk.old }
+    ensures told { IfSome (D.bytes disk.old) (λ image. IndexStands image index.old →
+        IsDecided image cache.now index.old index.new (D.reads disk.old) (D.reads disk.new) result) }
+    ensures room { OnOk result (69632 ≤ end) }
+    ensures kept { Kept D.Disk disk.old disk.new (is_disk_halt result) }
+{
+    let plan = plan_within(alloc, disk, cache, end, index, steps)?;
+    Ok(judge_plan(alloc, cache, end, index, plan, steps)?)
 }
 
 // What the pending writes change, where the superblock lies on a device of `end` bytes.
