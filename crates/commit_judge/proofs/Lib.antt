@@ -1,0 +1,4 @@
+pub mod EHot
+pub mod EFresh
+pub mod ERoots
+pub mod EPlan
