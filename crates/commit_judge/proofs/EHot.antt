@@ -1,0 +1,65 @@
+-- Which blocks pending writes touch, and whether a block stands at another place.
+use Rattle.std.proofs.Common.{◌≡◌, ℕ, zero, suc, ◌+◌, ◌<◌, ◌≤◌, Bool, true, false, not, ◌||◌, ◌==◌, ◌⊎◌, inl, inr, refl, sym, ap, subst, ◌∙◌, List, take, length, get_or, absurd, cc, arith}
+use Rattle.std.specs.Prelude.{◌↔◌, IsTrue, IsSome}
+use Rattle.std.specs.Cmp.{both_ways}
+use Rattle.std.specs.Ordering.{nat_cmp}
+use Rattle.std.specs.FinMap.{FinMap, get}
+use Rattle.std.proofs.lemmas.Bool.{cases_lt}
+use Rattle.std.proofs.lemmas.Grind.{common_steps}
+use Rattle.verdict.specs.declared.place.Place.{Place}
+use Rattle.verdict.specs.declared.place.Place.TheVariants.{Nowhere, One, Two}
+use Rattle.touched_pairs.specs.Touched.{Written, any_written, same_place, written_in}
+use Rattle.touched_pairs.proofs.Writing.{either, or_left, or_right}
+
+-- a range that is written has an offset that is written, and a range with such an offset is written
+written_one : (written : Written) (at n : ℕ) → any_written written at n ≡ true → (o : ℕ) × (at ≤ o) × (o < at + n) × (written o ≡ true)
+unfolding any_written
+written_one written at zero h = cc
+written_one written at (suc n) h = by (written_one written (suc at) n) (either (written at) _ h)
+  where
+    by : (any_written written (suc at) n ≡ true → (o : ℕ) × (suc at ≤ o) × (o < suc at + n) × (written o ≡ true))
+        → (written at ≡ true) ⊎ (any_written written (suc at) n ≡ true) → (o : ℕ) × (at ≤ o) × (o < at + suc n) × (written o ≡ true)
+    by rest (inl here) = (at, omega arith, omega arith, here)
+    by rest (inr later) = let found = rest later in (found.0, omega (arith, found.1), omega (arith, found.2), found.3)
+
+one_written : (written : Written) (at n o : ℕ) → at ≤ o → o < at + n → written o ≡ true → any_written written at n ≡ true
+unfolding any_written
+one_written written at zero o low high h = absurd (omega arith)
+one_written written at (suc n) o low high h = by (one_written written (suc at) n o) (cases_lt at o)
+  where
+    by : (suc at ≤ o → o < suc at + n → written o ≡ true → any_written written (suc at) n ≡ true) → (at < o) ⊎ (o ≤ at)
+        → (written at || any_written written (suc at) n) ≡ true
+    by rest (inl later) = or_right (written at) _ (rest (omega arith) (omega arith) h)
+    by rest (inr here) = let same : o ≡ at = omega arith in or_left (written at) _ (subst (λ x. written x ≡ true) same h)
+
+-- whether a byte of a range waits is whether the range is written
+pub touch_law : (waits : Bool) (pending : FinMap nat_cmp ℕ) (at n : ℕ)
+    → (IsTrue waits ↔ ((o : ℕ) × (at ≤ o) × (o < at + n) × IsSome (get pending o))) → waits ≡ any_written (written_in pending) at n
+touch_law waits pending at n both =
+    both_ways waits (any_written (written_in pending) at n)
+    (λ h. let found = both.0 h in one_written (written_in pending) at n found.0 found.1 found.2 found.3)
+    (λ h. both.1 (written_one (written_in pending) at n h))
+
+-- places are equal just where they are the same
+same_is : (a b : Place) → same_place a b ≡ true → a ≡ b
+same_is Nowhere Nowhere h = refl
+same_is Nowhere (One first) h = cc
+same_is Nowhere (Two first second) h = cc
+same_is (One first) Nowhere h = cc
+same_is (One first) (One other) h = ap One (grind (arith, common_steps))
+same_is (One first) (Two other another) h = cc
+same_is (Two first second) Nowhere h = cc
+same_is (Two first second) (One other) h = cc
+same_is (Two first second) (Two other another) h =
+    let one : first ≡ other = grind (arith, common_steps) in
+    let two : second ≡ another = grind (arith, common_steps) in
+    ap (λ n. Two n second) one ∙ ap (Two other) two
+
+same_self : (a : Place) → same_place a a ≡ true
+same_self Nowhere = refl
+same_self (One first) = grind (arith, common_steps)
+same_self (Two first second) = grind (arith, common_steps)
+
+pub differ_law : (equal : Bool) (a b : Place) → (IsTrue equal ↔ (a ≡ b)) → equal ≡ same_place a b
+differ_law equal a b both =
+    both_ways equal (same_place a b) (λ h. subst (λ p. same_place a p ≡ true) (both.0 h) (same_self a)) (λ h. both.1 (same_is a b h))
