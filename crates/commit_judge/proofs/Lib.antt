@@ -1,0 +1,4 @@
+pub mod BFound
+pub mod BItems
+pub mod BRuns
+pub mod BTables
