@@ -4,3 +4,7 @@ pub mod EHot
 pub mod EFresh
 pub mod ERoots
 pub mod EPlan
+pub mod BFound
+pub mod BItems
+pub mod BRuns
+pub mod BTables
