@@ -8,3 +8,4 @@ pub mod BFound
 pub mod BItems
 pub mod BRuns
 pub mod BTables
+pub mod APosts
