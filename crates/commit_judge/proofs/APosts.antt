@@ -40,7 +40,8 @@ pub blocks_more : (context : Context) (sup : Super) (blocks : List Live) (i : �
 blocks_more context sup blocks i d now next inside so is =
     is
     ∙ ap (λ l. l ++ posts_of context (live_record (get_or blocks i d))) so
-    ∙ ap (λ l. all_posts context (super_record sup ∷ map live_record (take i blocks)) ++ l) (sym (posts_one context (live_record (get_or blocks i d))))
+    ∙ ap (λ l. all_posts context (super_record sup ∷ map live_record (take i blocks)) ++ l)
+    (sym (posts_one context (live_record (get_or blocks i d))))
     ∙ sym (posts_joined context (super_record sup ∷ map live_record (take i blocks)) (live_record (get_or blocks i d) ∷ []))
     ∙ ap (λ l. all_posts context (super_record sup ∷ l)) (sym (map_more live_record blocks i d inside))
 
@@ -65,8 +66,8 @@ item_none context got old is =
     sym (append-nil old) ∙ ap (λ o. old ++ all_posts context (map located_item (option_to_list o))) (sym is)
 
 -- what items post, and one more where there is one
-more_items : {A : Type 0} (context : Context) (sup : Super) (blocks : List Live) (of : A → Option ItemAt) (xs : List A) (i : ℕ) (d : A) (now next : List Posting)
-    → i < length xs
+more_items : {A : Type 0} (context : Context) (sup : Super) (blocks : List Live) (of : A → Option ItemAt) (xs : List A) (i : ℕ) (d : A)
+    (now next : List Posting) → i < length xs
     → now ≡ all_posts context (change_records sup blocks (map located_item (filter_map of (take i xs))))
     → next ≡ now ++ all_posts context (map located_item (option_to_list (of (get_or xs i d))))
     → next ≡ all_posts context (change_records sup blocks (map located_item (filter_map of (take (i + 1) xs))))
@@ -139,7 +140,8 @@ kept_more context refs i d old now next inside so is =
     ∙ append_assoc old (flat_map (placed_postings context) (take i refs)) (placed_postings context (get_or refs i d))
     ∙ ap (λ l. old ++ l) (sym grown)
   where
-    grown : flat_map (placed_postings context) (take (i + 1) refs) ≡ flat_map (placed_postings context) (take i refs) ++ placed_postings context (get_or refs i d)
+    grown : flat_map (placed_postings context) (take (i + 1) refs)
+        ≡ flat_map (placed_postings context) (take i refs) ++ placed_postings context (get_or refs i d)
     grown = ap (flat_map (placed_postings context)) (take_more refs i d inside)
         ∙ flat_map-append (placed_postings context) (take i refs) (get_or refs i d ∷ [])
         ∙ ap (λ l. flat_map (placed_postings context) (take i refs) ++ l) (append-nil (placed_postings context (get_or refs i d)))
