@@ -1,5 +1,5 @@
 -- What records post, as their lists grow by one.
-use Rattle.std.proofs.Common.{◌≡◌, ℕ, ◌+◌, ◌<◌, List, [], ◌∷◌, ◌++◌, length, map, take, get_or, Option, Some, None, option_to_list, refl, ap, sym, ◌∙◌, append-nil}
+use Rattle.std.proofs.Common.{◌≡◌, ℕ, ◌+◌, ◌<◌, List, [], ◌∷◌, ◌++◌, length, map, take, get_or, Option, Some, None, Result, Ok, Err, OnOk, option_to_list, refl, ap, sym, ◌∙◌, append-nil}
 use Rattle.std.specs.List.{cons_option, filter_map, flat_map}
 use Rattle.std.proofs.lemmas.List.{append_assoc, map-append, map_more, take_more}
 use Rattle.std.proofs.lemmas.List.Concat.{flat_map-append}
@@ -10,7 +10,8 @@ use Rattle.change_records.specs.declared.changes.ItemChange.{ItemChange}
 use Rattle.change_records.specs.declared.item_ref.ItemRef.{ItemRef}
 use Rattle.live_index.specs.declared.live.Live.{Live}
 use Rattle.records.specs.Contents.{super_record}
-use Rattle.records.specs.Part.{Located}
+use Rattle.records.specs.Owned.{owned_part}
+use Rattle.records.specs.Part.{Located, Part}
 use Rattle.records.specs.declared.owned.ItemAt.{ItemAt}
 use Rattle.super_reader.specs.declared.Super.{Super}
 use Rattle.tree_change.specs.Gathered.{located_item}
@@ -18,6 +19,7 @@ use Rattle.change_laws.specs.Kept.{placed_postings}
 use Rattle.change_laws.specs.Paired.{came_items, came_of, gone_items, gone_of}
 use Rattle.change_laws.specs.Same.{live_record}
 use Rattle.change_laws.specs.Steps.{all_posts, change_records, posts_of, step_posts}
+use Rattle.commit_judge.specs.Posting.{posts_at}
 
 -- what a list posts, and another behind it
 posts_joined : (context : Context) (rs ss : List Located) → all_posts context (rs ++ ss) ≡ all_posts context rs ++ all_posts context ss
@@ -29,11 +31,6 @@ pub posts_one : (context : Context) (one : Located) → all_posts context (one �
 unfolding all_posts
 posts_one context one = append-nil (posts_of context one)
 
--- no record posts nothing
-pub posts_none : (context : Context) → all_posts context [] ≡ []
-unfolding all_posts
-posts_none context = refl
-
 -- ---- blocks
 
 pub blocks_more : (context : Context) (sup : Super) (blocks : List Live) (i : ℕ) (d : Live) (now next : List Posting) → i < length blocks
@@ -43,15 +40,34 @@ pub blocks_more : (context : Context) (sup : Super) (blocks : List Live) (i : �
 blocks_more context sup blocks i d now next inside so is =
     is
     ∙ ap (λ l. l ++ posts_of context (live_record (get_or blocks i d))) so
-    ∙ ap (λ l. all_posts context (super_record sup ∷ map live_record (take i blocks)) ++ l) (sym (posts_one context (live_record (get_or blocks i d))))
+    ∙ ap (λ l. all_posts context (super_record sup ∷ map live_record (take i blocks)) ++ l)
+    (sym (posts_one context (live_record (get_or blocks i d))))
     ∙ sym (posts_joined context (super_record sup ∷ map live_record (take i blocks)) (live_record (get_or blocks i d) ∷ []))
     ∙ ap (λ l. all_posts context (super_record sup ∷ l)) (sym (map_more live_record blocks i d inside))
 
 -- ---- items
 
+-- what an item posts
+pub item_some : {T E : Type 0} (context : Context) (item : ItemAt) (got : Option ItemAt) (part : Part) (old new : List Posting) (result : Result T E)
+    → got ≡ Some item → part ≡ owned_part item.part → OnOk result (new ≡ old ++ posts_at context item.tree part)
+    → OnOk result (new ≡ old ++ all_posts context (map located_item (option_to_list got)))
+item_some context item got part old new (Ok t) is lent posts =
+    posts
+    ∙ ap (λ p. old ++ posts_at context item.tree p) lent
+    ∙ ap (λ l. old ++ l) (sym (posts_one context (located_item item)))
+    ∙ ap (λ o. old ++ all_posts context (map located_item (option_to_list o))) (sym is)
+item_some context item got part old new (Err e) is lent posts = tt
+
+-- no item posts nothing
+pub item_none : (context : Context) (got : Option ItemAt) (old : List Posting) → got ≡ None
+    → old ≡ old ++ all_posts context (map located_item (option_to_list got))
+unfolding all_posts
+item_none context got old is =
+    sym (append-nil old) ∙ ap (λ o. old ++ all_posts context (map located_item (option_to_list o))) (sym is)
+
 -- what items post, and one more where there is one
-more_items : {A : Type 0} (context : Context) (sup : Super) (blocks : List Live) (of : A → Option ItemAt) (xs : List A) (i : ℕ) (d : A) (now next : List Posting)
-    → i < length xs
+more_items : {A : Type 0} (context : Context) (sup : Super) (blocks : List Live) (of : A → Option ItemAt) (xs : List A) (i : ℕ) (d : A)
+    (now next : List Posting) → i < length xs
     → now ≡ all_posts context (change_records sup blocks (map located_item (filter_map of (take i xs))))
     → next ≡ now ++ all_posts context (map located_item (option_to_list (of (get_or xs i d))))
     → next ≡ all_posts context (change_records sup blocks (map located_item (filter_map of (take (i + 1) xs))))
@@ -124,7 +140,8 @@ kept_more context refs i d old now next inside so is =
     ∙ append_assoc old (flat_map (placed_postings context) (take i refs)) (placed_postings context (get_or refs i d))
     ∙ ap (λ l. old ++ l) (sym grown)
   where
-    grown : flat_map (placed_postings context) (take (i + 1) refs) ≡ flat_map (placed_postings context) (take i refs) ++ placed_postings context (get_or refs i d)
+    grown : flat_map (placed_postings context) (take (i + 1) refs)
+        ≡ flat_map (placed_postings context) (take i refs) ++ placed_postings context (get_or refs i d)
     grown = ap (flat_map (placed_postings context)) (take_more refs i d inside)
         ∙ flat_map-append (placed_postings context) (take i refs) (get_or refs i d ∷ [])
         ∙ ap (λ l. flat_map (placed_postings context) (take i refs) ++ l) (append-nil (placed_postings context (get_or refs i d)))

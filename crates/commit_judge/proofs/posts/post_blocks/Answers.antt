@@ -13,4 +13,4 @@ loop-block-init g c =
 pub loop-block-preserved : goal.loop-block-preserved
 loop-block-preserved g c =
     blocks_more (g.C.Ctx.context c.args.ctx.now) c.args.sup.now c.args.blocks.now c.loop-block.block-index _ c.loop-block.into
-    c.post_record-in-loop-block.new.into c.loop-block-test.true c.loop-block.invariant c.in_ok-post_record-in-loop-block.ensures
+    c.post_record-in-loop-block.new.into c.loop-block-test.true c.loop-block.invariant c.in_ok-post_record-2.ensures

@@ -1,6 +1,6 @@
-use Rattle.std.proofs.Common.{◌≡◌, ap, sym, ◌∙◌}
+use Rattle.std.proofs.Common.{ap, ◌∙◌}
 use Rattle.std.proofs.lemmas.List.{take_all}
-use Rattle.change_laws.specs.Paired.{gone_items, gone_of}
+use Rattle.change_laws.specs.Paired.{gone_items}
 use Rattle.change_laws.specs.Steps.{all_posts, change_records}
 use Rattle.commit_judge.proofs.APosts.{gone_more, gone_none, step_is}
 use Rattle.commit_judge.proofs.posts.post_gone.Goals as goal
@@ -16,8 +16,9 @@ loop-change-preserved g c =
 
 pub returns : goal.returns
 returns g c =
-    step_is (g.C.Ctx.context c.args.ctx.now) (change_records c.args.sup.now c.args.blocks.now (gone_items c.args.items.now c.args.changes.now)) c.args.refs.now
-    c.loop-change.into c.post_kept.new.into
+    step_is (g.C.Ctx.context c.args.ctx.now)
+    (change_records c.args.sup.now c.args.blocks.now (gone_items c.args.items.now c.args.changes.now))
+    c.args.refs.now c.loop-change.into c.post_kept.new.into
     (c.loop-change.invariant
     ∙ ap (λ l. all_posts (g.C.Ctx.context c.args.ctx.now) (change_records c.args.sup.now c.args.blocks.now (gone_items c.args.items.now l)))
     (take_all c.loop-change.change-index c.args.changes.now c.loop-change-test.false))
