@@ -1,14 +1,11 @@
--- Which blocks pending writes touch, and whether a block stands at another place.
-use Rattle.std.proofs.Common.{◌≡◌, ℕ, zero, suc, ◌+◌, ◌<◌, ◌≤◌, Bool, true, false, not, ◌||◌, ◌==◌, ◌⊎◌, inl, inr, refl, sym, ap, subst, ◌∙◌, List, take, length, get_or, absurd, cc, arith}
+-- Whether pending writes touch a range.
+use Rattle.std.proofs.Common.{◌≡◌, ℕ, zero, suc, ◌+◌, ◌<◌, ◌≤◌, Bool, true, ◌||◌, ◌⊎◌, inl, inr, subst, arith}
 use Rattle.std.specs.Prelude.{◌↔◌, IsTrue, IsSome}
 use Rattle.std.specs.Cmp.{both_ways}
 use Rattle.std.specs.Ordering.{nat_cmp}
 use Rattle.std.specs.FinMap.{FinMap, get}
 use Rattle.std.proofs.lemmas.Bool.{cases_lt}
-use Rattle.std.proofs.lemmas.Grind.{common_steps}
-use Rattle.verdict.specs.declared.place.Place.{Place}
-use Rattle.verdict.specs.declared.place.Place.TheVariants.{Nowhere, One, Two}
-use Rattle.touched_pairs.specs.Touched.{Written, any_written, same_place, written_in}
+use Rattle.touched_pairs.specs.Touched.{Written, any_written, written_in}
 use Rattle.touched_pairs.proofs.Writing.{either, or_left, or_right}
 
 -- a range that is written has an offset that is written, and a range with such an offset is written
@@ -39,27 +36,3 @@ touch_law waits pending at n both =
     both_ways waits (any_written (written_in pending) at n)
     (λ h. let found = both.0 h in one_written (written_in pending) at n found.0 found.1 found.2 found.3)
     (λ h. both.1 (written_one (written_in pending) at n h))
-
--- places are equal just where they are the same
-same_is : (a b : Place) → same_place a b ≡ true → a ≡ b
-same_is Nowhere Nowhere h = refl
-same_is Nowhere (One first) h = cc
-same_is Nowhere (Two first second) h = cc
-same_is (One first) Nowhere h = cc
-same_is (One first) (One other) h = ap One (grind (arith, common_steps))
-same_is (One first) (Two other another) h = cc
-same_is (Two first second) Nowhere h = cc
-same_is (Two first second) (One other) h = cc
-same_is (Two first second) (Two other another) h =
-    let one : first ≡ other = grind (arith, common_steps) in
-    let two : second ≡ another = grind (arith, common_steps) in
-    ap (λ n. Two n second) one ∙ ap (Two other) two
-
-same_self : (a : Place) → same_place a a ≡ true
-same_self Nowhere = refl
-same_self (One first) = grind (arith, common_steps)
-same_self (Two first second) = grind (arith, common_steps)
-
-pub differ_law : (equal : Bool) (a b : Place) → (IsTrue equal ↔ (a ≡ b)) → equal ≡ same_place a b
-differ_law equal a b both =
-    both_ways equal (same_place a b) (λ h. subst (λ p. same_place a p ≡ true) (both.0 h) (same_self a)) (λ h. both.1 (same_is a b h))

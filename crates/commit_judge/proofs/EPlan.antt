@@ -1,6 +1,6 @@
 -- What a plan says of a commit.
 use Rattle.std.proofs.Common.{◌≡◌, ℕ, suc, ◌+◌, ◌-◌, ◌*◌, ◌<◌, ◌≤◌, List, [], ◌∷◌, ◌++◌, length, append_assoc, refl, sym, ap, subst, ◌∙◌, add-one, arith}
-use Rattle.std.specs.Prelude.{Option, Some, None, Result, Ok, Err, IfSome}
+use Rattle.std.specs.Prelude.{Bool, true, Option, Some, None, Result, Ok, Err, IfOk, IfSome}
 use Rattle.std.specs.Ordering.{nat_cmp}
 use Rattle.std.specs.FinMap.{FinMap}
 use Rattle.verdict.specs.Image.{range}
@@ -16,10 +16,17 @@ use Rattle.tree_change.specs.Change.{BasesStand, IsDifference, ReadsFew}
 use Rattle.tree_change.specs.declared.change.Change.{Change}
 use Rattle.tree_change.specs.declared.change.Diff.{Diff}
 use Rattle.tree_change.specs.declared.change.Diff.TheVariants.{Found, Change as Changed}
+use Rattle.records.specs.Part.{Located}
+use Rattle.records.specs.declared.owned.ItemAt.{ItemAt}
+use Rattle.change_records.specs.Affected.{AreAffected, context_with}
 use Rattle.change_records.specs.Changes.{Ascend}
+use Rattle.change_records.specs.Refs.{is_named}
+use Rattle.change_records.specs.Spans.{AreItemsOf}
+use Rattle.change_records.specs.SumFree.{flags_after}
 use Rattle.change_records.specs.declared.changes.ItemChange.{ItemChange}
 use Rattle.change_records.specs.declared.changes.ItemChange.TheVariants.{Added, Removed}
-use Rattle.change_laws.specs.Commit.{AreTheAffected}
+use Rattle.change_records.specs.declared.item_ref.ItemRef.{ItemRef}
+use Rattle.change_laws.specs.Commit.{AreTheAffected, Known, context_by}
 use Rattle.change_laws.specs.Paired.{SayChanges, added_from, removed_from}
 use Rattle.change_laws.proofs.SStep.{ascend_items}
 use Rattle.commit_judge.specs.Flags.{free_in}
@@ -42,7 +49,7 @@ added_next at n left is = subst (λ k. added_from at k ≡ Added at ∷ added_fr
 
 -- changes that are put behind others one after the other
 one_more : (now after rest left : List ItemChange) (change : ItemChange) → after ≡ now ++ change ∷ [] → rest ≡ change ∷ left → after ++ left ≡ now ++ rest
-one_more now after rest left change put first = ap (λ xs. xs ++ left) put ∙ append_assoc ∙ ap (λ xs. now ++ xs) (sym first)
+one_more now after rest left change put first = ap (λ xs. xs ++ left) put ∙ append_assoc now (change ∷ []) left ∙ ap (λ xs. now ++ xs) (sym first)
 
 pub removed_more : (before now after : List ItemChange) (at n : ℕ) → at < n → now ++ removed_from at (n - at) ≡ before ++ removed_from 0 n
     → after ≡ now ++ Removed at ∷ [] → after ++ removed_from (at + 1) (n - (at + 1)) ≡ before ++ removed_from 0 n
@@ -53,6 +60,17 @@ pub added_more : (before now after : List ItemChange) (at n : ℕ) → at < n �
     → after ≡ now ++ Added at ∷ [] → after ++ added_from (at + 1) (n - (at + 1)) ≡ before ++ added_from 0 n
 added_more before now after at n less so put =
     one_more now after _ _ (Added at) put (added_next at (n - at) (n - (at + 1)) (omega arith)) ∙ so
+
+-- the kept items that post otherwise, by what is found of them
+pub affected_by : {A E : Type 0} (alike : Bool) (k : Known) (fresh : Super) (change : Change) (changes : List ItemChange) (old new : List ItemAt)
+    (names : A → List ItemRef) (result : Result A E)
+    → alike ≡ true → old ≡ change.old_items.items → new ≡ change.new_items.items
+    → ((items : List Located) → AreItemsOf k.sup.nodesize k.spans items → IfOk result (λ refs. AreAffected k.pairs (context_by k)
+    (context_with change.map k.sup.nodesize (flags_after old new changes k.free)) (is_named old new changes) items (names refs)))
+    → IfOk result (λ refs. AreTheAffected alike k (record { fresh = fresh; change = change; changes = changes; refs = names refs }))
+affected_by alike k fresh change changes old new names (Err e) is old_is new_is found = tt
+affected_by alike k fresh change changes old new names (Ok refs) is old_is new_is found =
+    rw (is, ← old_is, ← new_is) (λ items of. found items of)
 
 module _ {L : Type 0} (index : Index L) (pending : FinMap nat_cmp ℕ) where
   -- what is known of the superblock of the judged image
