@@ -39,7 +39,7 @@ hot_by : (written : Written) (end : ℕ) (old new : Walked) (sup : Super) (befor
     → count_by (λ (live : Live). touches_block written before sup.nodesize end live.address
     || not (stays_in_place before after sup.nodesize end live.address)) lives
     ≡ hot_of old new written end lives
-unfolding hot_of is_hot
+unfolding is_hot
 hot_by written end old new sup before after lives sup_is before_is after_is = λ i.
     count_by (λ (live : Live). touches_block written (before_is i) ((sup_is i).nodesize) end live.address
     || not (stays_in_place (before_is i) (after_is i) ((sup_is i).nodesize) end live.address)) lives
@@ -53,11 +53,14 @@ counts held hot image pending k c known commit =
     let will = commit.change_is.3 in
     let is = commit.change_is.4 in
     let written = written_in pending in
-    let end = length image in (
-      (λ i. (length_permutation _ _ is.old_blocks (~ i)) + (length_permutation _ _ is.new_blocks (~ i)))
-      ∙ (λ i. over_walks (λ (o n : Walked). length (unshared_in o n written end o) + length (unshared_in o n written end n)) (was (~ i)) (will (~ i))),
-      hot_by written end old new k.sup k.chunks c.change.map c.change.old_blocks.items (known_sup held image k old known was)
-      (known_chunks held image k old known was) is.map
-      ∙ sym (hot old new written end c.change is)
-      ∙ (λ i. over_walks (λ (o n : Walked). hot_of o n written end (live_in o.seen)) (was (~ i)) (will (~ i))),
-    )
+    let end = length image in
+    let unshared : Walked → Walked → ℕ = λ o n. length (unshared_in o n written end o) + length (unshared_in o n written end n) in
+    let hots : Walked → Walked → ℕ = λ o n. hot_of o n written end (live_in o.seen) in
+    let lengths : unshared old new ≡ length c.change.old_blocks.items + length c.change.new_blocks.items =
+    λ i. length_permutation _ _ is.old_blocks i + length_permutation _ _ is.new_blocks i in
+    let walks : over_walks unshared (walked image) (walked (overlaid pending 0 image)) ≡ unshared old new = λ i. over_walks unshared (was i) (will i) in
+    let all : over_walks hots (walked image) (walked (overlaid pending 0 image)) ≡ hots old new = λ i. over_walks hots (was i) (will i) in
+    let among : count_by (is_hot_by k c pending end) c.change.old_blocks.items ≡ hot_of old new written end c.change.old_blocks.items =
+    hot_by written end old new k.sup k.chunks c.change.map c.change.old_blocks.items (known_sup held image k old known was)
+    (known_chunks held image k old known was) is.map in
+    (sym lengths ∙ sym walks, among ∙ (sym (hot old new written end c.change is) ∙ sym all))

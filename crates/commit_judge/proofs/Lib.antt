@@ -1,4 +1,5 @@
 pub mod JCounts
+pub mod JPassed
 pub mod JTried
 pub mod EHot
 pub mod EFresh
