@@ -56,11 +56,11 @@ counts held hot image pending k c known commit =
     let end = length image in
     let unshared : Walked → Walked → ℕ = λ o n. length (unshared_in o n written end o) + length (unshared_in o n written end n) in
     let hots : Walked → Walked → ℕ = λ o n. hot_of o n written end (live_in o.seen) in
-    let lengths : unshared old new ≡ length c.change.old_blocks.items + length c.change.new_blocks.items =
+    let lengths : length c.change.old_blocks.items + length c.change.new_blocks.items ≡ unshared old new =
     λ i. length_permutation _ _ is.old_blocks i + length_permutation _ _ is.new_blocks i in
     let walks : over_walks unshared (walked image) (walked (overlaid pending 0 image)) ≡ unshared old new = λ i. over_walks unshared (was i) (will i) in
     let all : over_walks hots (walked image) (walked (overlaid pending 0 image)) ≡ hots old new = λ i. over_walks hots (was i) (will i) in
     let among : count_by (is_hot_by k c pending end) c.change.old_blocks.items ≡ hot_of old new written end c.change.old_blocks.items =
     hot_by written end old new k.sup k.chunks c.change.map c.change.old_blocks.items (known_sup held image k old known was)
     (known_chunks held image k old known was) is.map in
-    (sym lengths ∙ sym walks, among ∙ (sym (hot old new written end c.change is) ∙ sym all))
+    (lengths ∙ sym walks, among ∙ (sym (hot old new written end c.change is) ∙ sym all))
