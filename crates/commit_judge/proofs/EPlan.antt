@@ -1,6 +1,6 @@
 -- What a plan says of a commit.
-use Rattle.std.proofs.Common.{◌≡◌, ℕ, suc, ◌+◌, ◌-◌, ◌*◌, ◌<◌, ◌≤◌, List, [], ◌∷◌, ◌++◌, length, append_assoc, refl, sym, ap, subst, ◌∙◌, add-one, arith}
-use Rattle.std.specs.Prelude.{Bool, true, Option, Some, None, Result, Ok, Err, IfOk, IfSome}
+use Rattle.std.proofs.Common.{◌≡◌, ℕ, suc, ◌+◌, ◌-◌, ◌*◌, ◌<◌, ◌≤◌, List, [], ◌∷◌, ◌++◌, length, append-nil, append_assoc, refl, sym, ap, subst, ◌∙◌, add-one, arith}
+use Rattle.std.specs.Prelude.{Bool, true, Option, Some, None, Result, Ok, Err, IfOk, IfSome, IsErrAnd}
 use Rattle.std.specs.Ordering.{nat_cmp}
 use Rattle.std.specs.FinMap.{FinMap}
 use Rattle.verdict.specs.Image.{range}
@@ -8,6 +8,8 @@ use Rattle.verdict.specs.declared.finding.Finding.{Finding}
 use Rattle.super_reader.specs.declared.Super.{Super}
 use Rattle.write_cache.specs.Cache.{overlaid}
 use Rattle.live_index.specs.Table.{pairs_of}
+use Rattle.block_source.specs.declared.halt.Halt.{Halt}
+use Rattle.block_source.specs.declared.halt.Halt.TheVariants.{Found as Halted}
 use Rattle.records.specs.Contents.{contents, superblock_in}
 use Rattle.records.proofs.Accepted.{accepted_superblock}
 use Rattle.shared_trees.specs.Shared.{are_read_alike}
@@ -32,7 +34,7 @@ use Rattle.change_laws.proofs.SStep.{ascend_items}
 use Rattle.commit_judge.specs.Flags.{free_in}
 use Rattle.commit_judge.specs.Fresh.{IsFresh}
 use Rattle.commit_judge.specs.Index.{IndexStands, known}
-use Rattle.commit_judge.specs.Plan.{IsPlanOf, commit_in}
+use Rattle.commit_judge.specs.Plan.{IsPlanOf, IsPlanned, commit_in}
 use Rattle.commit_judge.specs.declared.fresh.Fresh.{Fresh}
 use Rattle.commit_judge.specs.declared.index.Index.{Index}
 use Rattle.commit_judge.specs.declared.plan.Plan.{Plan}
@@ -60,6 +62,21 @@ pub added_more : (before now after : List ItemChange) (at n : ℕ) → at < n �
     → after ≡ now ++ Added at ∷ [] → after ++ added_from (at + 1) (n - (at + 1)) ≡ before ++ added_from 0 n
 added_more before now after at n less so put =
     one_more now after _ _ (Added at) put (added_next at (n - at) (n - (at + 1)) (omega arith)) ∙ so
+
+-- once all are put, none is left
+pub removed_all : (before now : List ItemChange) (at n : ℕ) → n ≤ at → now ++ removed_from at (n - at) ≡ before ++ removed_from 0 n
+    → now ≡ before ++ removed_from 0 n
+unfolding removed_from
+removed_all before now at n end so =
+    let none : n - at ≡ 0 = omega arith in
+    sym (append-nil now) ∙ ap (λ k. now ++ removed_from at k) (sym none) ∙ so
+
+pub added_all : (before now : List ItemChange) (at n : ℕ) → n ≤ at → now ++ added_from at (n - at) ≡ before ++ added_from 0 n
+    → now ≡ before ++ added_from 0 n
+unfolding added_from
+added_all before now at n end so =
+    let none : n - at ≡ 0 = omega arith in
+    sym (append-nil now) ∙ ap (λ k. now ++ added_from at k) (sym none) ∙ so
 
 -- the kept items that post otherwise, by what is found of them
 pub affected_by : {A E : Type 0} (alike : Bool) (k : Known) (fresh : Super) (change : Change) (changes : List ItemChange) (old new : List ItemAt)
@@ -91,31 +108,35 @@ module _ {L : Type 0} (index : Index L) (pending : FinMap nat_cmp ℕ) where
       has_room image some.0 some.1
 
   -- the finding of the superblock, and that of the trees
-  pub super_found : (told : Option (List ℕ)) (finding : Finding) → FreshBy (Err finding)
-      → IfSome told (λ image. IndexStands image index → contents (overlaid pending 0 image) ≡ Err finding)
-  super_found None finding fresh = tt
-  super_found (Some image) finding fresh = λ stands. no_super (overlaid pending 0 image) finding (fresh image (room image stands) stands.raw)
+  pub super_found : (told : Option (List ℕ)) (before after : ℕ) (result : Result Plan Halt) (finding : Finding) → FreshBy (Err finding)
+      → IsErrAnd result (λ halt. halt ≡ Halted finding)
+      → IfSome told (λ image. IndexStands image index → IsPlanned image pending (known index) before after result)
+  super_found None before after result finding fresh is = tt
+  super_found (Some image) before after (Ok plan) finding fresh is = absurd is
+  super_found (Some image) before after (Err halt) finding fresh is = λ stands.
+      subst (λ h. IsPlanned image pending (known index) before after (Err h)) (sym is)
+      (no_super (overlaid pending 0 image) finding (fresh image (room image stands) stands.raw))
 
-  pub tree_found : (told : Option (List ℕ)) (fresh : Fresh) (before after : ℕ) (finding : Finding) → FreshBy (Ok fresh)
-      → IfSome told (Differs fresh.sup before after (Found finding))
+  pub tree_found : (told : Option (List ℕ)) (fresh : Fresh) (before after : ℕ) (diff : Diff) (finding : Finding) → FreshBy (Ok fresh)
+      → diff ≡ Found finding → IfSome told (Differs fresh.sup before after diff)
       → IfSome told (λ image. IndexStands image index → contents (overlaid pending 0 image) ≡ Err finding)
-  tree_found None fresh before after finding super gives = tt
-  tree_found (Some image) fresh before after finding super gives = λ stands.
-      (gives stands.known.bases (super image (room image stands) stands.raw).1).0
+  tree_found None fresh before after diff finding super is gives = tt
+  tree_found (Some image) fresh before after diff finding super is gives = λ stands.
+      (subst (λ d. Differs fresh.sup before after d image) is gives stands.known.bases (super image (room image stands) stands.raw).1).0
 
   -- the plan, by the superblock, by what changes, by the changes between the items and by the kept items
-  pub planned : (told : Option (List ℕ)) (fresh : Fresh) (before after : ℕ) (change : Change) (plan : Plan) → FreshBy (Ok fresh)
-      → IfSome told (Differs fresh.sup before after (Changed change))
+  pub planned : (told : Option (List ℕ)) (fresh : Fresh) (before after : ℕ) (diff : Diff) (change : Change) (plan : Plan) → FreshBy (Ok fresh)
+      → diff ≡ Changed change → IfSome told (Differs fresh.sup before after diff)
       → plan.raw ≡ fresh.raw → plan.sup ≡ fresh.sup → plan.change ≡ change
       → (Ascend plan.change.old_items.items → Ascend plan.change.new_items.items
       → SayChanges (are_read_alike index.sup plan.sup) plan.change.old_items.items plan.change.new_items.items plan.changes.items)
       → AreTheAffected (are_read_alike index.sup plan.sup) (known index) (commit_in plan)
       → IfSome told (λ image. IndexStands image index → IsPlanOf image pending (known index) before after plan)
-  planned None fresh before after change plan super gives raw_is sup_is change_is say affected = tt
-  planned (Some image) fresh before after change plan super gives raw_is sup_is change_is say affected = λ stands.
+  planned None fresh before after diff change plan super what gives raw_is sup_is change_is say affected = tt
+  planned (Some image) fresh before after diff change plan super what gives raw_is sup_is change_is say affected = λ stands.
       let judged = overlaid pending 0 image in
       let is = super image (room image stands) stands.raw in
-      let both = gives stands.known.bases is.1 in
+      let both = subst (λ d. Differs fresh.sup before after d image) what gives stands.known.bases is.1 in
       let differs : IsDifference image judged (written_in pending) (Changed plan.change) =
           subst (λ c. IsDifference image judged (written_in pending) (Changed c)) (sym change_is) both.0 in
       record {

@@ -75,16 +75,21 @@ behind_front (one ∷ roots) (suc i) d up less = (at roots i up.0 (omega arith),
 abbrev pub AreKept : List RootAt → List RootAt → ℕ → Type 0
 AreKept roots list i = KeysAscend list × (KeysAscend roots → list ≡ take i roots)
 
--- the next one is kept, or not
-pub kept_more : (roots list after : List RootAt) (i : ℕ) (d : RootAt) (behind : Bool) → i < length roots
-    → IsTrue behind ↔ IsBehind list (get_or roots i d) → behind ≡ true → AreKept roots list i → after ≡ list ++ get_or roots i d ∷ []
+-- the next one is kept where it is behind them, and else not
+pub kept_more : (roots list lent after : List RootAt) (i : ℕ) (d : RootAt) (behind : Bool) → i < length roots → lent ≡ list
+    → IsTrue behind ↔ IsBehind lent (get_or roots i d) → behind ≡ true → AreKept roots list i → after ≡ list ++ get_or roots i d ∷ []
     → AreKept roots after (i + 1)
-kept_more roots list after i d behind less both is kept put =
-    (subst KeysAscend (sym put) (ascend_more list (get_or roots i d) kept.0 (both.0 is)),
+kept_more roots list lent after i d behind less same both is kept put =
+    let all : IsBehind list (get_or roots i d) = subst (λ xs. IsBehind xs (get_or roots i d)) same (both.0 is) in
+    (subst KeysAscend (sym put) (ascend_more list (get_or roots i d) kept.0 all),
     (λ up. put ∙ ap (λ xs. xs ++ get_or roots i d ∷ []) (kept.1 up) ∙ sym (take_more roots i d less)))
 
-pub kept_less : (roots list : List RootAt) (i : ℕ) (d : RootAt) (behind : Bool) → i < length roots
-    → IsTrue behind ↔ IsBehind list (get_or roots i d) → behind ≡ false → AreKept roots list i → AreKept roots list (i + 1)
-kept_less roots list i d behind less both is kept =
+pub kept_less : (roots list lent : List RootAt) (i : ℕ) (d : RootAt) (behind : Bool) → i < length roots → lent ≡ list
+    → IsTrue behind ↔ IsBehind lent (get_or roots i d) → behind ≡ false → AreKept roots list i → AreKept roots list (i + 1)
+kept_less roots list lent i d behind less same both is kept =
     (kept.0,
-    (λ up. let yes = both.1 (subst (λ xs. IsBehind xs (get_or roots i d)) (sym (kept.1 up)) (behind_front roots i d up less)) in absurd (cc)))
+    (λ up.
+    let all : IsBehind lent (get_or roots i d) =
+        subst (λ xs. IsBehind xs (get_or roots i d)) (sym (same ∙ kept.1 up)) (behind_front roots i d up less) in
+    let yes = both.1 all in
+    absurd (cc)))
