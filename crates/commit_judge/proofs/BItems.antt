@@ -37,11 +37,11 @@ each P of (change ∷ changes) zero d one inside all is = by (of change) is all
     by : (o : Option ItemAt) → o ≡ Some one → AllByRecursion P (map located_item (cons_option o (filter_map of changes))) → P (located_item one)
     by None is all = absurd (cc)
     by (Some other) is all = subst (λ x. P (located_item x)) (same_Some other one is) all.0
-each P of (change ∷ changes) (suc i) d one inside all is = by (of change) all
+each P of (change ∷ changes) (suc i) d one inside all is = each P of changes i d one (omega arith) (rest (of change) all) is
   where
-    by : (o : Option ItemAt) → AllByRecursion P (map located_item (cons_option o (filter_map of changes))) → P (located_item one)
-    by None all = each P of changes i d one (omega arith) all is
-    by (Some other) all = each P of changes i d one (omega arith) all.1 is
+    rest : (o : Option ItemAt) → AllByRecursion P (map located_item (cons_option o (filter_map of changes))) → AllByRecursion P (picked of changes)
+    rest None all = all
+    rest (Some other) all = all.1
 
 -- the span of an item, where there is an item and it has one
 abbrev span_at : ℕ → Option ItemAt → Option Span
