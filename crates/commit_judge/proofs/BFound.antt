@@ -1,6 +1,6 @@
 -- The spans of a table that names name.
-use Rattle.std.proofs.Common.{◌≡◌, ℕ, ◌+◌, ◌-◌, ◌*◌, ◌/◌, ◌<◌, ◌⊎◌, Bool, true, false, cond, not, ◌&&◌, List, length, take, get_or, inl, inr, refl, ap, sym, ◌∙◌, subst, arith}
-use Rattle.std.specs.Prelude.{◌++◌, ◌∷◌, [], nat_lt, Option, Some, None, IfSome, option_to_list}
+use Rattle.std.proofs.Common.{◌≡◌, ℕ, ◌+◌, ◌-◌, ◌*◌, ◌<◌, ◌⊎◌, Bool, true, false, cond, not, List, length, take, get_or, inl, inr, refl, ap, sym, ◌∙◌, subst, arith}
+use Rattle.std.specs.Prelude.{◌++◌, [], nat_lt, Option, Some, None, IfSome, option_to_list}
 use Rattle.std.specs.List.{Contains}
 use Rattle.std.specs.Ordering.{bool_cmp, is_lt, nat_cmp, ordering_then}
 use Rattle.std.specs.declared.cmp.Ordering.{Ordering}
@@ -10,16 +10,15 @@ use Rattle.std.proofs.lemmas.Bool.Decides.{nat_tests}
 use Rattle.std.proofs.lemmas.List.{take_more}
 use Rattle.std.proofs.lemmas.Option.{same_Some}
 use Rattle.std.proofs.lemmas.List.Elements.{Contains-append_cases, Contains-append_left, Contains-push, Contains-push_cases}
-use Rattle.verdict.specs.declared.kinds.TheConstants.{EXTENT_DATA, EXTENT_ITEM, METADATA_ITEM}
 use Rattle.live_index.specs.Pairs.{Pairs}
 use Rattle.span_index.specs.Order.{is_below}
-use Rattle.span_index.specs.Spans.{IsMeeting, IsNextShown, Table, is_behind, is_met, offset_of, shows_behind}
+use Rattle.span_index.specs.Spans.{IsMeeting, Table, is_met}
 use Rattle.span_index.specs.declared.span.SortName.TheVariants.{Owned as OwnedName}
 use Rattle.span_index.specs.declared.span.Span.{Span}
 use Rattle.span_index.specs.declared.span.SpanSort.{SpanSort}
 use Rattle.span_index.specs.declared.span.SpanSort.TheVariants.{Owned, Summed, Shown}
 use Rattle.change_records.proofs.Merge.{contains_none}
-use Rattle.change_records.specs.Search.{AreAlone, AreLawful, IsLawfulSort, IsLawfulSpan, IsShownAt, SortNames, SpanNames}
+use Rattle.change_records.specs.Search.{AreAlone, AreLawful, SpanNames}
 use Rattle.change_records.specs.declared.item_ref.ItemRef.{ItemRef}
 
 -- ---- what an extent owns
@@ -102,13 +101,13 @@ unfolding is_below is_met
 least_owned f n g m d (Owned e) some met least = elim (then_less (nat_cmp f g) (ordering_then (nat_cmp (sectors_below d n) m) (bool_cmp (not d) e))
     (and_parts (nat_lt f (g + m * 4096))
     (is_lt (ordering_then (nat_cmp f g) (ordering_then (nat_cmp (sectors_below d n) m) (bool_cmp (not d) e)))) met).1) [
-  | inl less ↦ absurd (not_less (nat_cmp f g) (ordering_then (nat_cmp n m) (bool_cmp d e)) least less)
-  | inr same ↦
-      let first : f ≡ g = equal_is f g same.0 in
-      let rest : (n ≡ m) × (d ≡ e) =
-      between n m d e some same.1 (then_not (nat_cmp f g) (ordering_then (nat_cmp n m) (bool_cmp d e)) least same.0) in
-      λ i. record { first = first i; sectors = rest.0 i; sort = Owned (rest.1 i) }
-]
+      | inl less ↦ absurd (not_less (nat_cmp f g) (ordering_then (nat_cmp n m) (bool_cmp d e)) least less)
+      | inr same ↦
+          let first : f ≡ g = equal_is f g same.0 in
+          let rest : (n ≡ m) × (d ≡ e) =
+          between n m d e some same.1 (then_not (nat_cmp f g) (ordering_then (nat_cmp n m) (bool_cmp d e)) least same.0) in
+          λ i. record { first = first i; sectors = rest.0 i; sort = Owned (rest.1 i) }
+    ]
 least_owned f n g m d Summed some met least = absurd (cc)
 least_owned f n g m d (Shown t i o e l) some met least = absurd (cc)
 
@@ -153,12 +152,13 @@ owned_parts f n d span is =
 -- the spans that the first names name are found
 abbrev pub AreFoundSpans : ℕ → Table → List ItemRef → List Span → Type 0
 AreFoundSpans nodesize table refs found =
-    AreLawful nodesize table → AreAlone table → (pairs : Pairs) (span : Span) (at : ItemRef) → 0 < table span → SpanNames pairs span at → Contains refs at
-    → Contains found span
+    AreLawful nodesize table → AreAlone table → (pairs : Pairs) (span : Span) (at : ItemRef) → 0 < table span → SpanNames pairs span at
+    → Contains refs at → Contains found span
 
-pub found_more : (nodesize : ℕ) (table : Table) (refs : List ItemRef) (i : ℕ) (d : ItemRef) (now new : List Span) (some : Option Span) → i < length refs
-    → AreFoundSpans nodesize table (take i refs) now
-    → (AreLawful nodesize table → AreAlone table → (pairs : Pairs) (span : Span) → 0 < table span → SpanNames pairs span (get_or refs i d) → some ≡ Some span)
+pub found_more : (nodesize : ℕ) (table : Table) (refs : List ItemRef) (i : ℕ) (d : ItemRef) (now new : List Span) (some : Option Span)
+    → i < length refs → AreFoundSpans nodesize table (take i refs) now
+    → (AreLawful nodesize table → AreAlone table → (pairs : Pairs) (span : Span) → 0 < table span → SpanNames pairs span (get_or refs i d)
+    → some ≡ Some span)
     → new ≡ now ++ option_to_list some → AreFoundSpans nodesize table (take (i + 1) refs) new
 found_more nodesize table refs i d now new some inside so is more lawful alone pairs span at stands names among =
     subst (λ l. Contains l span) (sym more)
@@ -176,7 +176,8 @@ AllStand table found = (span : Span) → Contains found span → 0 < table span
 
 pub stand_more : (table : Table) (now new : List Span) (some : Option Span) → AllStand table now → IfSome some (λ span. 0 < table span)
     → new ≡ now ++ option_to_list some → AllStand table new
-stand_more table now new some so stands more span among = by some stands (Contains-append_cases now (option_to_list some) span (subst (λ l. Contains l span) more among))
+stand_more table now new some so stands more span among =
+    by some stands (Contains-append_cases now (option_to_list some) span (subst (λ l. Contains l span) more among))
   where
     by : (some : Option Span) → IfSome some (λ span. 0 < table span) → Contains now span ⊎ Contains (option_to_list some) span → 0 < table span
     by some stands (inl early) = so span early

@@ -51,7 +51,8 @@ first_span : (o : Option Span) → cons_option o [] ≡ option_to_list o
 first_span None = refl
 first_span (Some span) = refl
 
-one_more : (nodesize : ℕ) (o : Option ItemAt) → filter_map (span_of nodesize) (map located_item (cons_option o [])) ≡ option_to_list (span_at nodesize o)
+one_more : (nodesize : ℕ) (o : Option ItemAt)
+    → filter_map (span_of nodesize) (map located_item (cons_option o [])) ≡ option_to_list (span_at nodesize o)
 one_more nodesize None = refl
 one_more nodesize (Some one) = first_span (span_of nodesize (located_item one))
 
@@ -96,12 +97,13 @@ no_blocks : (nodesize : ℕ) (blocks : List Live) (items : List Located)
 no_blocks nodesize [] items = refl
 no_blocks nodesize (block ∷ blocks) items = no_blocks nodesize blocks items
 
-items_sound : (P : Located → Type 0) (blocks : List Live) (items : List Located) → AllByRecursion P (map live_record blocks ++ items) → AllByRecursion P items
+items_sound : (P : Located → Type 0) (blocks : List Live) (items : List Located) → AllByRecursion P (map live_record blocks ++ items)
+    → AllByRecursion P items
 items_sound P [] items all = all
 items_sound P (block ∷ blocks) items all = items_sound P blocks items all.1
 
-spans_done : (nodesize : ℕ) (of : ItemChange → Option ItemAt) (changes : List ItemChange) (i : ℕ) (spans : List Span) (sup : Super) (blocks : List Live)
-    → length changes ≤ i → AreSpansOf nodesize of changes i spans → AreSound nodesize (change_records sup blocks (picked of changes))
+spans_done : (nodesize : ℕ) (of : ItemChange → Option ItemAt) (changes : List ItemChange) (i : ℕ) (spans : List Span) (sup : Super)
+    (blocks : List Live) → length changes ≤ i → AreSpansOf nodesize of changes i spans → AreSound nodesize (change_records sup blocks (picked of changes))
     → spans ≡ spans_of nodesize (change_records sup blocks (picked of changes))
 unfolding spans_of
 spans_done nodesize of changes i spans sup blocks all is sound =

@@ -1,18 +1,16 @@
 -- The runs of spans, and runs that are one where they meet or touch.
-use Rattle.std.proofs.Common.{◌≡◌, ℕ, suc, ◌+◌, ◌*◌, ◌%◌, ◌^◌, ◌<◌, ◌≤◌, ◌⊎◌, max, Bool, true, false, ◌&&◌, ◌||◌, List, [], ◌∷◌, ◌++◌, length, take, take_all, get_or, inl, inr, refl, ap, sym, ◌∙◌, subst, arith}
+use Rattle.std.proofs.Common.{◌≡◌, ℕ, suc, ◌+◌, ◌%◌, ◌<◌, ◌≤◌, ◌⊎◌, max, Bool, true, false, ◌&&◌, ◌||◌, List, [], ◌∷◌, ◌++◌, length, take, get_or, inl, inr, refl, ap, sym, ◌∙◌, subst, arith}
 use Rattle.std.specs.Prelude.{Option, Some, None, IfSome, Result, Ok, Err, IfOk, nat_le, nat_lt, option_to_list}
-use Rattle.std.specs.List.{All, Contains, list_any}
+use Rattle.std.specs.List.{All, Contains}
 use Rattle.std.specs.List.Sorted.{IsNonDecreasingBy, IsPermutation}
-use Rattle.std.proofs.lemmas.Bool.{and_from, and_parts, eqb-true, leb-true, le-leb, lt-ltb, ltb-true, or_cases, or_left, or_right}
+use Rattle.std.proofs.lemmas.Bool.{and_from, and_parts, leb-true, le-leb, lt-ltb, ltb-true, or_cases, or_left, or_right}
 use Rattle.std.proofs.lemmas.List.{get_or_default, take_more}
-use Rattle.std.proofs.lemmas.List.Elements.{All-append, All-contains, All-cons, All-head, All-nil, All-push, All-tail, Contains-get_or, Contains-push_cases}
+use Rattle.std.proofs.lemmas.List.Elements.{All-append, All-head, All-nil, All-push, All-tail, Contains-push_cases}
 use Rattle.std.proofs.lemmas.List.Folds.{list_any-append}
 use Rattle.std.proofs.lemmas.List.Sorted.{list_any-IsPermutation}
 use Rattle.span_index.specs.Sectors.{AreRunsFrom, IsRun, has_sector, is_inside}
-use Rattle.span_index.specs.Spans.{end_of}
 use Rattle.span_index.specs.declared.span.Run.{Run}
 use Rattle.span_index.specs.declared.span.Span.{Span}
-use Rattle.change_records.proofs.Merge.{contains_none}
 use Rattle.change_laws.specs.Sectors.{AreInside}
 use Rattle.change_laws.specs.Sound.{IsWhole}
 
@@ -42,31 +40,11 @@ inside_is run address is =
 is_in : (run : Run) (address : ℕ) → run.from ≤ address → address < run.until → is_inside (run ∷ []) address ≡ true
 is_in run address from until = or_left _ false (and_from _ _ (le-leb run.from address from) (lt-ltb address run.until until))
 
--- ---- the run of a span
-
--- a span with a sector at an address has the address between its ends
-pub has_between : (span : Span) (address : ℕ) → has_sector span address ≡ true → (span.first ≤ address) × (address < end_of span)
-has_between span address has =
-    let both = and_parts _ _ has in
-    let more = and_parts _ _ both.1 in
-    (leb-true span.first address both.0, ltb-true address (end_of span) more.0)
-
-pub run_has : (span : Span) (run : Run) (address : ℕ) → run.from ≡ span.first → run.until ≡ end_of span → has_sector span address ≡ true
-    → is_inside (run ∷ []) address ≡ true
-run_has span run address from until has =
-    let at = has_between span address has in
-    let low = at.0 in
-    let high = at.1 in
-    is_in run address (omega (arith, low, from)) (omega (arith, high, until))
-
 -- ---- the runs of all spans
 
 -- the addresses inside runs are inside others
 abbrev pub StayInside : List Run → List Run → Type 0
 StayInside runs others = (address : ℕ) → is_inside runs address ≡ true → is_inside others address ≡ true
-
-pub inside_none : (runs : List Run) → AreInside runs []
-inside_none runs span address among = absurd (contains_none span among)
 
 pub inside_stays : (runs others : List Run) (spans : List Span) → StayInside runs others → AreInside runs spans → AreInside others spans
 inside_stays runs others spans stay are span address among has = stay address (are span address among has)
@@ -227,16 +205,6 @@ merged_apart runs rest i d some new last inside are up behind more so =
       behind = above;
       inside = λ address has. by address (split_inside so.first rest i d address inside has);
     }
-
-pub merged_ascend : (runs rest : List Run) (i : ℕ) (some new : List Run) (last : Run) → new ≡ some ++ last ∷ [] → AreMerged runs rest i some last
-    → AreRunsFrom 0 new
-merged_ascend runs rest i some new last more so = subst (λ l. AreRunsFrom 0 l) (sym more) so.ascend
-
-pub merged_inside : (runs rest : List Run) (i : ℕ) (some new : List Run) (last : Run) → length rest ≤ i → new ≡ some ++ last ∷ []
-    → AreMerged runs rest i some last → StayInside runs new
-merged_inside runs rest i some new last all more so address is =
-    subst (λ l. is_inside l address ≡ true) (sym more)
-    (so.inside address (subst (λ l. is_inside l address ≡ true) (so.parts ∙ ap (λ l. so.first ∷ l) (sym (take_all i rest all))) is))
 
 -- ---- all of it
 

@@ -3,8 +3,8 @@ use Rattle.commit_judge.proofs.runs.merged.Goals as goal
 
 pub loop-run-init : goal.loop-run-init
 loop-run-init c =
-    merged_first c.args.runs.now c.in-Some.rest.now c.new-some.result.items c.in-Some.first.now c.in-Some.ensures.cases.0 c.requires.runs c.requires.ascend
-    c.new-some.ensures.items
+    merged_first c.args.runs.now c.in-Some.rest.now c.new-some.result.items c.in-Some.first.now c.in-Some.ensures.cases.0
+    c.requires.runs c.requires.ascend c.new-some.ensures.items
 
 pub loop-run-preserved-then-run-open : goal.loop-run-preserved-then-run-open
 loop-run-preserved-then-run-open c =

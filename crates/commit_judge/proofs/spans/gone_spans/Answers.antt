@@ -11,5 +11,5 @@ loop-change-preserved c =
 
 pub returns : goal.returns
 returns c = λ sup blocks sound.
-    gone_done c.args.nodesize c.args.items.now c.args.changes.now c.loop-change.change-index c.loop-change.spans.items sup blocks c.loop-change-test.false
-    c.loop-change.invariant sound
+    gone_done c.args.nodesize c.args.items.now c.args.changes.now c.loop-change.change-index c.loop-change.spans.items sup blocks
+    c.loop-change-test.false c.loop-change.invariant sound
