@@ -103,7 +103,8 @@ items_sound P [] items all = all
 items_sound P (block ∷ blocks) items all = items_sound P blocks items all.1
 
 spans_done : (nodesize : ℕ) (of : ItemChange → Option ItemAt) (changes : List ItemChange) (i : ℕ) (spans : List Span) (sup : Super)
-    (blocks : List Live) → length changes ≤ i → AreSpansOf nodesize of changes i spans → AreSound nodesize (change_records sup blocks (picked of changes))
+    (blocks : List Live) → length changes ≤ i → AreSpansOf nodesize of changes i spans
+    → AreSound nodesize (change_records sup blocks (picked of changes))
     → spans ≡ spans_of nodesize (change_records sup blocks (picked of changes))
 unfolding spans_of
 spans_done nodesize of changes i spans sup blocks all is sound =

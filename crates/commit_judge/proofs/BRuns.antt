@@ -130,7 +130,8 @@ merged_first runs rest some first parts are up none = record {
   inside = λ address is. subst (λ l. is_inside (l ++ first ∷ []) address ≡ true) (sym none) is;
 }
 
-split_inside : (first : Run) (rest : List Run) (i : ℕ) (d : Run) (address : ℕ) → i < length rest → is_inside (first ∷ take (i + 1) rest) address ≡ true
+split_inside : (first : Run) (rest : List Run) (i : ℕ) (d : Run) (address : ℕ) → i < length rest
+    → is_inside (first ∷ take (i + 1) rest) address ≡ true
     → (is_inside (first ∷ take i rest) address ≡ true) ⊎ (is_inside (get_or rest i d ∷ []) address ≡ true)
 split_inside first rest i d address inside is =
     inside_parts (first ∷ take i rest) (get_or rest i d ∷ []) address
