@@ -45,5 +45,6 @@ fn is_hot(
         || not (stays_in_place old.now new.now nodesize end address)) }
 {
     let place = old.place(address, u64::from(nodesize), end);
-    is_written(cache, &place, nodesize) || place != new.place(address, u64::from(nodesize), end)
+    is_written(cache, &place, nodesize)
+        || place != new.place(address, u64::from(nodesize), end)
 }
