@@ -37,11 +37,11 @@ each P of (change ∷ changes) zero d one inside all is = by (of change) is all
     by : (o : Option ItemAt) → o ≡ Some one → AllByRecursion P (map located_item (cons_option o (filter_map of changes))) → P (located_item one)
     by None is all = absurd (cc)
     by (Some other) is all = subst (λ x. P (located_item x)) (same_Some other one is) all.0
-each P of (change ∷ changes) (suc i) d one inside all is = by (of change) all
+each P of (change ∷ changes) (suc i) d one inside all is = each P of changes i d one (omega arith) (rest (of change) all) is
   where
-    by : (o : Option ItemAt) → AllByRecursion P (map located_item (cons_option o (filter_map of changes))) → P (located_item one)
-    by None all = each P of changes i d one (omega arith) all is
-    by (Some other) all = each P of changes i d one (omega arith) all.1 is
+    rest : (o : Option ItemAt) → AllByRecursion P (map located_item (cons_option o (filter_map of changes))) → AllByRecursion P (picked of changes)
+    rest None all = all
+    rest (Some other) all = all.1
 
 -- the span of an item, where there is an item and it has one
 abbrev span_at : ℕ → Option ItemAt → Option Span
@@ -51,7 +51,8 @@ first_span : (o : Option Span) → cons_option o [] ≡ option_to_list o
 first_span None = refl
 first_span (Some span) = refl
 
-one_more : (nodesize : ℕ) (o : Option ItemAt) → filter_map (span_of nodesize) (map located_item (cons_option o [])) ≡ option_to_list (span_at nodesize o)
+one_more : (nodesize : ℕ) (o : Option ItemAt)
+    → filter_map (span_of nodesize) (map located_item (cons_option o [])) ≡ option_to_list (span_at nodesize o)
 one_more nodesize None = refl
 one_more nodesize (Some one) = first_span (span_of nodesize (located_item one))
 
@@ -96,12 +97,14 @@ no_blocks : (nodesize : ℕ) (blocks : List Live) (items : List Located)
 no_blocks nodesize [] items = refl
 no_blocks nodesize (block ∷ blocks) items = no_blocks nodesize blocks items
 
-items_sound : (P : Located → Type 0) (blocks : List Live) (items : List Located) → AllByRecursion P (map live_record blocks ++ items) → AllByRecursion P items
+items_sound : (P : Located → Type 0) (blocks : List Live) (items : List Located) → AllByRecursion P (map live_record blocks ++ items)
+    → AllByRecursion P items
 items_sound P [] items all = all
 items_sound P (block ∷ blocks) items all = items_sound P blocks items all.1
 
-spans_done : (nodesize : ℕ) (of : ItemChange → Option ItemAt) (changes : List ItemChange) (i : ℕ) (spans : List Span) (sup : Super) (blocks : List Live)
-    → length changes ≤ i → AreSpansOf nodesize of changes i spans → AreSound nodesize (change_records sup blocks (picked of changes))
+spans_done : (nodesize : ℕ) (of : ItemChange → Option ItemAt) (changes : List ItemChange) (i : ℕ) (spans : List Span) (sup : Super)
+    (blocks : List Live) → length changes ≤ i → AreSpansOf nodesize of changes i spans
+    → AreSound nodesize (change_records sup blocks (picked of changes))
     → spans ≡ spans_of nodesize (change_records sup blocks (picked of changes))
 unfolding spans_of
 spans_done nodesize of changes i spans sup blocks all is sound =

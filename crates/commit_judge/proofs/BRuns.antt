@@ -1,18 +1,16 @@
 -- The runs of spans, and runs that are one where they meet or touch.
-use Rattle.std.proofs.Common.{◌≡◌, ℕ, suc, ◌+◌, ◌*◌, ◌%◌, ◌^◌, ◌<◌, ◌≤◌, ◌⊎◌, max, Bool, true, false, ◌&&◌, ◌||◌, List, [], ◌∷◌, ◌++◌, length, take, take_all, get_or, inl, inr, refl, ap, sym, ◌∙◌, subst, arith}
-use Rattle.std.specs.Prelude.{Option, Some, None, IfSome, Result, IfOk, nat_le, nat_lt, option_to_list}
-use Rattle.std.specs.List.{All, Contains, list_any}
+use Rattle.std.proofs.Common.{◌≡◌, ℕ, suc, ◌+◌, ◌%◌, ◌<◌, ◌≤◌, ◌⊎◌, max, Bool, true, false, ◌&&◌, ◌||◌, List, [], ◌∷◌, ◌++◌, length, take, get_or, inl, inr, refl, ap, sym, ◌∙◌, subst, arith}
+use Rattle.std.specs.Prelude.{Option, Some, None, IfSome, Result, Ok, Err, IfOk, nat_le, nat_lt, option_to_list}
+use Rattle.std.specs.List.{All, Contains}
 use Rattle.std.specs.List.Sorted.{IsNonDecreasingBy, IsPermutation}
-use Rattle.std.proofs.lemmas.Bool.{and_from, and_parts, eqb-true, leb-true, le-leb, lt-ltb, ltb-true, or_cases, or_left, or_right}
+use Rattle.std.proofs.lemmas.Bool.{and_from, and_parts, leb-true, le-leb, lt-ltb, ltb-true, or_cases, or_left, or_right}
 use Rattle.std.proofs.lemmas.List.{get_or_default, take_more}
-use Rattle.std.proofs.lemmas.List.Elements.{All-append, All-contains, All-cons, All-head, All-nil, All-push, All-tail, Contains-get_or, Contains-push_cases}
+use Rattle.std.proofs.lemmas.List.Elements.{All-append, All-head, All-nil, All-push, All-tail, Contains-push_cases}
 use Rattle.std.proofs.lemmas.List.Folds.{list_any-append}
 use Rattle.std.proofs.lemmas.List.Sorted.{list_any-IsPermutation}
 use Rattle.span_index.specs.Sectors.{AreRunsFrom, IsRun, has_sector, is_inside}
-use Rattle.span_index.specs.Spans.{end_of}
 use Rattle.span_index.specs.declared.span.Run.{Run}
 use Rattle.span_index.specs.declared.span.Span.{Span}
-use Rattle.change_records.proofs.Merge.{contains_none}
 use Rattle.change_laws.specs.Sectors.{AreInside}
 use Rattle.change_laws.specs.Sound.{IsWhole}
 
@@ -42,31 +40,11 @@ inside_is run address is =
 is_in : (run : Run) (address : ℕ) → run.from ≤ address → address < run.until → is_inside (run ∷ []) address ≡ true
 is_in run address from until = or_left _ false (and_from _ _ (le-leb run.from address from) (lt-ltb address run.until until))
 
--- ---- the run of a span
-
--- a span with a sector at an address has the address between its ends
-pub has_between : (span : Span) (address : ℕ) → has_sector span address ≡ true → (span.first ≤ address) × (address < end_of span)
-has_between span address has =
-    let both = and_parts _ _ has in
-    let more = and_parts _ _ both.1 in
-    (leb-true span.first address both.0, ltb-true address (end_of span) more.0)
-
-pub run_has : (span : Span) (run : Run) (address : ℕ) → run.from ≡ span.first → run.until ≡ end_of span → has_sector span address ≡ true
-    → is_inside (run ∷ []) address ≡ true
-run_has span run address from until has =
-    let at = has_between span address has in
-    let low = at.0 in
-    let high = at.1 in
-    is_in run address (omega (arith, low, from)) (omega (arith, high, until))
-
 -- ---- the runs of all spans
 
 -- the addresses inside runs are inside others
 abbrev pub StayInside : List Run → List Run → Type 0
 StayInside runs others = (address : ℕ) → is_inside runs address ≡ true → is_inside others address ≡ true
-
-pub inside_none : (runs : List Run) → AreInside runs []
-inside_none runs span address among = absurd (contains_none span among)
 
 pub inside_stays : (runs others : List Run) (spans : List Span) → StayInside runs others → AreInside runs spans → AreInside others spans
 inside_stays runs others spans stay are span address among has = stay address (are span address among has)
@@ -130,93 +108,112 @@ joined_is run other is its =
     whole (inr same) = ap (λ n. n % 4096) same ∙ its.1
 
 -- Of runs by where they begin, the first and so many of the rest are merged into some and the last, which may still grow.
-pub record AreMerged (first : Run) (rest : List Run) (i : ℕ) (some : List Run) (open' : Run) : Type 0 where
-  pub ascend : AreRunsFrom 0 (some ++ open' ∷ [])
-  pub behind : (k : ℕ) (d : Run) → i ≤ k → k < length rest → open'.from ≤ (get_or rest k d).from
-  pub inside : StayInside (first ∷ take i rest) (some ++ open' ∷ [])
+pub record AreMerged (runs rest : List Run) (i : ℕ) (some : List Run) (last : Run) : Type 0 where
+  pub first : Run
+  pub parts : runs ≡ first ∷ rest
+  pub ascend : AreRunsFrom 0 (some ++ last ∷ [])
+  pub behind : (k : ℕ) (d : Run) → i ≤ k → k < length rest → last.from ≤ (get_or rest k d).from
+  pub inside : StayInside (first ∷ take i rest) (some ++ last ∷ [])
 
-pub merged_first : (runs : List Run) (first : Run) (rest : List Run) → runs ≡ first ∷ rest → All IsRun runs
-    → IsNonDecreasingBy (λ (run : Run). run.from) runs → AreMerged first rest 0 [] first
-merged_first runs first rest parts are up = record {
-  ascend = (omega arith, All-head IsRun first rest (subst (λ l. All IsRun l) parts are), tt);
-  behind = λ k d low inside. subst (λ l. IsNonDecreasingBy (λ (run : Run). run.from) l) parts up 0 (suc k) d (omega arith) (omega arith);
-  inside = λ address is. is;
+-- where a run begins
+abbrev begin : Run → ℕ
+begin run = run.from
+
+pub merged_first : (runs rest some : List Run) (first : Run) → runs ≡ first ∷ rest → All IsRun runs → IsNonDecreasingBy (λ (run : Run). run.from) runs
+    → some ≡ [] → AreMerged runs rest 0 some first
+merged_first runs rest some first parts are up none = record {
+  first = first;
+  parts = parts;
+  ascend = subst (λ l. AreRunsFrom 0 (l ++ first ∷ [])) (sym none)
+      (omega arith, All-head IsRun first rest (subst (λ l. All IsRun l) parts are), tt);
+  behind = λ k d low inside. subst (λ l. IsNonDecreasingBy begin l) parts up 0 (suc k) d (omega arith) (omega arith);
+  inside = λ address is. subst (λ l. is_inside (l ++ first ∷ []) address ≡ true) (sym none) is;
 }
 
-split_inside : (first : Run) (rest : List Run) (i : ℕ) (d : Run) (address : ℕ) → i < length rest → is_inside (first ∷ take (i + 1) rest) address ≡ true
+split_inside : (first : Run) (rest : List Run) (i : ℕ) (d : Run) (address : ℕ) → i < length rest
+    → is_inside (first ∷ take (i + 1) rest) address ≡ true
     → (is_inside (first ∷ take i rest) address ≡ true) ⊎ (is_inside (get_or rest i d ∷ []) address ≡ true)
 split_inside first rest i d address inside is =
     inside_parts (first ∷ take i rest) (get_or rest i d ∷ []) address
     (subst (λ l. is_inside (first ∷ l) address ≡ true) (take_more rest i d inside) is)
 
+rest_is : (runs rest : List Run) (first : Run) (i : ℕ) (d : Run) → runs ≡ first ∷ rest → All IsRun runs → i < length rest → IsRun (get_or rest i d)
+rest_is runs rest first i d parts are inside = All-tail IsRun first rest (subst (λ l. All IsRun l) parts are) i d inside
+
 -- the next run meets or touches the last
-pub merged_joined : (first : Run) (rest : List Run) (i : ℕ) (d : Run) (some : List Run) (open' : Run) → i < length rest → IsRun (get_or rest i d)
-    → AreMerged first rest i some open' → AreMerged first rest (i + 1) some (joined open' (get_or rest i d))
-merged_joined first rest i d some open' inside is so = record {
-  ascend = last_swapped 0 some open' (joined open' (get_or rest i d)) so.ascend refl
-      (joined_is open' (get_or rest i d) (last_is 0 some open' so.ascend) is);
-  behind = λ k e low up. so.behind k e (omega arith) up;
-  inside = λ address has. by address (split_inside first rest i d address inside has);
-}
+pub merged_joined : (runs rest : List Run) (i : ℕ) (d : Run) (some : List Run) (last : Run) (until : ℕ) → i < length rest → All IsRun runs
+    → until ≡ max last.until (get_or rest i d).until → AreMerged runs rest i some last
+    → AreMerged runs rest (i + 1) some (record { from = last.from; until = until })
+merged_joined runs rest i d some last until inside are is so =
+    subst (λ n. AreMerged runs rest (i + 1) some (record { from = last.from; until = n })) (sym is) all
   where
-    begins : open'.from ≤ (get_or rest i d).from
+    begins : last.from ≤ (get_or rest i d).from
     begins = so.behind i d (omega arith) inside
 
-    here : (address : ℕ) → is_inside (open' ∷ []) address ≡ true → is_inside (joined open' (get_or rest i d) ∷ []) address ≡ true
+    here : (address : ℕ) → is_inside (last ∷ []) address ≡ true → is_inside (joined last (get_or rest i d) ∷ []) address ≡ true
     here address has =
-        let at = inside_is open' address has in
-        let high : address < open'.until = at.1 in
-        is_in (joined open' (get_or rest i d)) address at.0 (omega arith)
+        let at = inside_is last address has in
+        let high : address < last.until = at.1 in
+        is_in (joined last (get_or rest i d)) address at.0 (omega arith)
 
-    by : (address : ℕ) → (is_inside (first ∷ take i rest) address ≡ true) ⊎ (is_inside (get_or rest i d ∷ []) address ≡ true)
-        → is_inside (some ++ joined open' (get_or rest i d) ∷ []) address ≡ true
-    by address (inl early) = elim (inside_parts some (open' ∷ []) address (so.inside address early)) [
-      | inl old ↦ inside_left some (joined open' (get_or rest i d) ∷ []) address old
-      | inr last ↦ inside_right some (joined open' (get_or rest i d) ∷ []) address (here address last)
-    ]
-    by address (inr next) =
-        let at = inside_is (get_or rest i d) address next in
+    there : (address : ℕ) → is_inside (get_or rest i d ∷ []) address ≡ true → is_inside (joined last (get_or rest i d) ∷ []) address ≡ true
+    there address has =
+        let at = inside_is (get_or rest i d) address has in
         let low : (get_or rest i d).from ≤ address = at.0 in
         let high : address < (get_or rest i d).until = at.1 in
-        inside_right some (joined open' (get_or rest i d) ∷ []) address
-        (is_in (joined open' (get_or rest i d)) address (omega arith) (omega arith))
+        is_in (joined last (get_or rest i d)) address (omega arith) (omega arith)
+
+    by : (address : ℕ) → (is_inside (so.first ∷ take i rest) address ≡ true) ⊎ (is_inside (get_or rest i d ∷ []) address ≡ true)
+        → is_inside (some ++ joined last (get_or rest i d) ∷ []) address ≡ true
+    by address (inl early) = elim (inside_parts some (last ∷ []) address (so.inside address early)) [
+      | inl old ↦ inside_left some (joined last (get_or rest i d) ∷ []) address old
+      | inr new ↦ inside_right some (joined last (get_or rest i d) ∷ []) address (here address new)
+    ]
+    by address (inr later) = inside_right some (joined last (get_or rest i d) ∷ []) address (there address later)
+
+    all : AreMerged runs rest (i + 1) some (joined last (get_or rest i d))
+    all = record {
+      first = so.first;
+      parts = so.parts;
+      ascend = last_swapped 0 some last (joined last (get_or rest i d)) so.ascend refl
+          (joined_is last (get_or rest i d) (last_is 0 some last so.ascend) (rest_is runs rest so.first i d so.parts are inside));
+      behind = λ k e low up. so.behind k e (omega arith) up;
+      inside = λ address has. by address (split_inside so.first rest i d address inside has);
+    }
 
 -- the next run begins behind the last
-pub merged_apart : (first : Run) (rest : List Run) (i : ℕ) (d : Run) (some new : List Run) (open' : Run) → i < length rest → IsRun (get_or rest i d)
-    → IsNonDecreasingBy (λ (run : Run). run.from) (first ∷ rest) → open'.until ≤ (get_or rest i d).from → new ≡ some ++ open' ∷ []
-    → AreMerged first rest i some open' → AreMerged first rest (i + 1) new (get_or rest i d)
-merged_apart first rest i d some new open' inside is up behind more so = record {
-  ascend = subst (λ l. AreRunsFrom 0 (l ++ get_or rest i d ∷ [])) (sym more) (last_followed 0 some open' (get_or rest i d) so.ascend behind is);
-  behind = λ k e low high. up_to k e low high;
-  inside = λ address has.
-      subst (λ l. is_inside (l ++ get_or rest i d ∷ []) address ≡ true) (sym more) (by address (split_inside first rest i d address inside has));
-}
+pub merged_apart : (runs rest : List Run) (i : ℕ) (d : Run) (some new : List Run) (last : Run) → i < length rest → All IsRun runs
+    → IsNonDecreasingBy (λ (run : Run). run.from) runs → last.until < (get_or rest i d).from → new ≡ some ++ last ∷ []
+    → AreMerged runs rest i some last → AreMerged runs rest (i + 1) new (get_or rest i d)
+merged_apart runs rest i d some new last inside are up behind more so =
+    subst (λ l. AreMerged runs rest (i + 1) l (get_or rest i d)) (sym more) all
   where
-    up_to : (k : ℕ) (e : Run) → i + 1 ≤ k → k < length rest → (get_or rest i d).from ≤ (get_or rest k e).from
-    up_to k e low high =
-        subst (λ (r : Run). r.from ≤ (get_or rest k e).from) (get_or_default rest i e d inside) (up (suc i) (suc k) e (omega arith) (omega arith))
+    above : (k : ℕ) (e : Run) → i + 1 ≤ k → k < length rest → (get_or rest i d).from ≤ (get_or rest k e).from
+    above k e low high =
+        subst (λ (r : Run). r.from ≤ (get_or rest k e).from) (get_or_default rest i e d inside)
+        (subst (λ l. IsNonDecreasingBy begin l) so.parts up (suc i) (suc k) e (omega arith) (omega arith))
 
-    by : (address : ℕ) → (is_inside (first ∷ take i rest) address ≡ true) ⊎ (is_inside (get_or rest i d ∷ []) address ≡ true)
-        → is_inside ((some ++ open' ∷ []) ++ get_or rest i d ∷ []) address ≡ true
-    by address (inl early) = inside_left (some ++ open' ∷ []) (get_or rest i d ∷ []) address (so.inside address early)
-    by address (inr next) = inside_right (some ++ open' ∷ []) (get_or rest i d ∷ []) address next
+    by : (address : ℕ) → (is_inside (so.first ∷ take i rest) address ≡ true) ⊎ (is_inside (get_or rest i d ∷ []) address ≡ true)
+        → is_inside ((some ++ last ∷ []) ++ get_or rest i d ∷ []) address ≡ true
+    by address (inl early) = inside_left (some ++ last ∷ []) (get_or rest i d ∷ []) address (so.inside address early)
+    by address (inr later) = inside_right (some ++ last ∷ []) (get_or rest i d ∷ []) address later
 
-pub merged_all : (runs : List Run) (first : Run) (rest : List Run) (i : ℕ) (some new : List Run) (open' : Run) → runs ≡ first ∷ rest → length rest ≤ i
-    → new ≡ some ++ open' ∷ [] → AreMerged first rest i some open' → AreRunsFrom 0 new × StayInside runs new
-merged_all runs first rest i some new open' parts all more so = (
-  subst (λ l. AreRunsFrom 0 l) (sym more) so.ascend,
-  λ address is.
-      subst (λ l. is_inside l address ≡ true) (sym more)
-      (so.inside address (subst (λ l. is_inside l address ≡ true) (parts ∙ ap (λ l. first ∷ l) (sym (take_all i rest all))) is)),
-)
-
-pub rest_runs : (runs : List Run) (first : Run) (rest : List Run) → runs ≡ first ∷ rest → All IsRun runs → All IsRun rest
-rest_runs runs first rest parts are = All-tail IsRun first rest (subst (λ l. All IsRun l) parts are)
+    all : AreMerged runs rest (i + 1) (some ++ last ∷ []) (get_or rest i d)
+    all = record {
+      first = so.first;
+      parts = so.parts;
+      ascend = last_followed 0 some last (get_or rest i d) so.ascend (omega (arith, behind)) (rest_is runs rest so.first i d so.parts are inside);
+      behind = above;
+      inside = λ address has. by address (split_inside so.first rest i d address inside has);
+    }
 
 -- ---- all of it
 
-pub sorted_stay : (runs sorted : List Run) → IsPermutation runs sorted → StayInside runs sorted
-sorted_stay runs sorted same address is = sym (list_any-IsPermutation (covers address) runs sorted same) ∙ is
-
-pub stay_then : (runs mid others : List Run) → StayInside runs mid → StayInside mid others → StayInside runs others
-stay_then runs mid others first second address is = second address (first address is)
+-- what is inside runs is inside those that they are merged into, in their order
+pub merged_spans : {V E : Type 0} (result : Result V E) (items : V → List Run) (runs sorted lent : List Run) (spans : List Span)
+    → IsPermutation runs sorted → lent ≡ sorted → IfOk result (λ some. StayInside lent (items some)) → AreInside runs spans
+    → IfOk result (λ some. AreInside (items some) spans)
+merged_spans (Ok some) items runs sorted lent spans same lends stay are = λ span address among has.
+    stay address (subst (λ l. is_inside l address ≡ true) (sym lends)
+    (sym (list_any-IsPermutation (covers address) runs sorted same) ∙ are span address among has))
+merged_spans (Err e) items runs sorted lent spans same lends stay are = tt

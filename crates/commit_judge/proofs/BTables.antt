@@ -1,5 +1,5 @@
 -- One span more is put into a table, or taken out of it.
-use Rattle.std.proofs.Common.{◌≡◌, ℕ, ◌+◌, ◌-◌, ◌<◌, Bool, true, false, cond, List, length, take, get_or, refl, ap, sym, ◌∙◌, arith}
+use Rattle.std.proofs.Common.{◌≡◌, ℕ, ◌+◌, ◌-◌, ◌<◌, Bool, true, false, cond, List, [], length, take, get_or, refl, ap, sym, ◌∙◌, arith}
 use Rattle.std.specs.List.{count_by}
 use Rattle.std.proofs.Math.Path.{fun_ext}
 use Rattle.std.proofs.lemmas.List.Sums.{count_by_more_no, count_by_more_yes}
@@ -17,28 +17,32 @@ turned x y true false e f = absurd (cc (same_itself x, same_is x y e))
 turned x y false true e f = absurd (cc (same_itself x, same_is y x f))
 turned x y false false e f = refl
 
+-- one where a test passes
+abbrev once : Bool → ℕ
+once b = cond b 1 0
+
 -- how often a span stands among one more
 times_more : (spans : List Span) (i : ℕ) (d span : Span) → i < length spans
-    → times_of_span (take (i + 1) spans) span ≡ times_of_span (take i spans) span + cond (is_same (get_or spans i d) span) 1 0
+    → times_of_span (take (i + 1) spans) span ≡ times_of_span (take i spans) span + once (is_same (get_or spans i d) span)
 unfolding times_of_span
 times_more spans i d span inside = by (is_same (get_or spans i d) span) refl
   where
     by : (b : Bool) → is_same (get_or spans i d) span ≡ b
-        → count_by (is_same span) (take (i + 1) spans) ≡ count_by (is_same span) (take i spans) + cond (is_same (get_or spans i d) span) 1 0
+        → count_by (is_same span) (take (i + 1) spans) ≡ count_by (is_same span) (take i spans) + once (is_same (get_or spans i d) span)
     by true e =
         count_by_more_yes (is_same span) spans i d inside (turned span (get_or spans i d) _ true refl e)
-        ∙ ap (λ b. count_by (is_same span) (take i spans) + cond b 1 0) (sym e)
+        ∙ ap (λ b. count_by (is_same span) (take i spans) + once b) (sym e)
     by false e =
         let more : count_by (is_same span) (take (i + 1) spans) ≡ count_by (is_same span) (take i spans) =
         count_by_more_no (is_same span) spans i d inside (turned span (get_or spans i d) _ false refl e) in
-        let none : cond (is_same (get_or spans i d) span) 1 0 ≡ 0 = ap (λ b. cond b 1 0) e in
+        let none : once (is_same (get_or spans i d) span) ≡ 0 = ap once e in
         omega (arith, more, none)
 
-with_one : (b : Bool) (n a t m : ℕ) → n ≡ a + t → m ≡ t + cond b 1 0 → cond b (n + 1) n ≡ a + m
+with_one : (b : Bool) (n a t m : ℕ) → n ≡ a + t → m ≡ t + once b → cond b (n + 1) n ≡ a + m
 with_one true n a t m is more = omega (arith, is, more)
 with_one false n a t m is more = omega (arith, is, more)
 
-without_one : (b : Bool) (n a t m : ℕ) → n ≡ a - t → m ≡ t + cond b 1 0 → cond b (n - 1) n ≡ a - m
+without_one : (b : Bool) (n a t m : ℕ) → n ≡ a - t → m ≡ t + once b → cond b (n - 1) n ≡ a - m
 without_one true n a t m is more = omega (arith, is, more)
 without_one false n a t m is more = omega (arith, is, more)
 

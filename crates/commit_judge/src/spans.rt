@@ -1,6 +1,6 @@
 //! The spans of the items that a commit changes.
 
-ghost use Rattle.std.specs.Prelude.{◌≡◌, ℕ, ◌-◌, ◌<◌, ◌++◌, not, List, Some, None, IfOk, IfSome, OnOk, option_map, option_to_list, slice_get, if◌then◌else◌};
+ghost use Rattle.std.specs.Prelude.{◌≡◌, ◌-◌, ◌<◌, ◌++◌, not, List, Some, None, IfOk, IfSome, OnOk, option_map, option_to_list, slice_get, if◌then◌else◌};
 ghost use Rattle.std.specs.List.{Contains};
 ghost use Rattle.records.specs.Part.{IsLawful, part_of};
 ghost use Rattle.records.specs.Part.Part.{FileExtentPart};
@@ -35,10 +35,10 @@ use verdict::kinds::{EXTENT_DATA, EXTENT_ITEM, METADATA_ITEM};
 /// The size of a sector in bytes.
 pub(crate) const SECTOR: u64 = 4096;
 
-/// The bytes of a checksum.
+// The bytes of a checksum.
 const SUM: u64 = 4;
 
-/// The type of a range of a file whose extent was written.
+// The type of a range of a file whose extent was written.
 const REGULAR: u8 = 1;
 
 /// The span of an item of a tree, where it has one. The reader of items sees to it that the item is lawful.
