@@ -1,5 +1,6 @@
 pub mod JCounts
 pub mod JPassed
+pub mod JShort
 pub mod JTried
 pub mod EHot
 pub mod EFresh
