@@ -67,7 +67,7 @@ pub(crate) fn found_spans<L>(
     refs: &[ItemRef],
     steps: &mut Steps<L>,
 ) -> Result<Vec<Span>, NoMemory>
-    ensures named { AreLawful nodesize (times_of table.now) → AreAlone (times_of table.now) → IfOk result (λ found.
+    ensures found { AreLawful nodesize (times_of table.now) → AreAlone (times_of table.now) → IfOk result (λ found.
         (pairs : Pairs) (span : ASpan) (at : ARef) →
         0 < times_of table.now span → SpanNames pairs span at → Contains refs.now at → Contains found.items span) }
     ensures stand { IfOk result (λ found.
