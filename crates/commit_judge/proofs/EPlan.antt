@@ -50,8 +50,10 @@ unfolding added_from
 added_next at n left is = subst (λ k. added_from at k ≡ Added at ∷ added_from (at + 1) left) (sym is) (rw add-one refl)
 
 -- changes that are put behind others one after the other
-one_more : (now after rest left : List ItemChange) (change : ItemChange) → after ≡ now ++ change ∷ [] → rest ≡ change ∷ left → after ++ left ≡ now ++ rest
-one_more now after rest left change put first = ap (λ xs. xs ++ left) put ∙ append_assoc now (change ∷ []) left ∙ ap (λ xs. now ++ xs) (sym first)
+one_more : (now after rest left : List ItemChange) (change : ItemChange) → after ≡ now ++ change ∷ [] → rest ≡ change ∷ left
+    → after ++ left ≡ now ++ rest
+one_more now after rest left change put first =
+    ap (λ xs. xs ++ left) put ∙ append_assoc now (change ∷ []) left ∙ ap (λ xs. now ++ xs) (sym first)
 
 pub removed_more : (before now after : List ItemChange) (at n : ℕ) → at < n → now ++ removed_from at (n - at) ≡ before ++ removed_from 0 n
     → after ≡ now ++ Removed at ∷ [] → after ++ removed_from (at + 1) (n - (at + 1)) ≡ before ++ removed_from 0 n
@@ -138,7 +140,7 @@ module _ {L : Type 0} (index : Index L) (pending : FinMap nat_cmp ℕ) where
       let is = super image (room image stands) stands.raw in
       let both = subst (λ d. Differs fresh.sup before after d image) what gives stands.known.bases is.1 in
       let differs : IsDifference image judged (written_in pending) (Changed plan.change) =
-          subst (λ c. IsDifference image judged (written_in pending) (Changed c)) (sym change_is) both.0 in
+      subst (λ c. IsDifference image judged (written_in pending) (Changed c)) (sym change_is) both.0 in
       record {
         raw = raw_is ∙ is.0;
         commit = record {

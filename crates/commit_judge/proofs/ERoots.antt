@@ -1,6 +1,6 @@
 -- Root items in the order of their keys, taken one after the other.
 use Rattle.std.proofs.Common.{◌≡◌, ℕ, zero, suc, ◌+◌, ◌-◌, ◌<◌, true, false, List, [], ◌∷◌, ◌++◌, length, get_or, take, refl, sym, ap, subst, ◌∙◌, arith}
-use Rattle.std.specs.Prelude.{Bool, Option, Some, None, slice_get, IsTrue, ◌↔◌}
+use Rattle.std.specs.Prelude.{Bool, Some, None, slice_get, IsTrue, ◌↔◌}
 use Rattle.std.specs.List.{AllByRecursion}
 use Rattle.std.proofs.lemmas.List.{take_more}
 use Rattle.std.proofs.lemmas.Option.{slice_get_within}
@@ -47,8 +47,10 @@ below_last (one ∷ list) (suc k) root last is behind = below_last list k root l
 pub behind_last : (list : List RootAt) (root last : RootAt) (below : Bool) → KeysAscend list → slice_get list (length list - 1) ≡ Some last
     → below ≡ key_below last.key root.key → IsTrue below ↔ IsBehind list root
 behind_last list root last below up is says =
-    let inside : length list - 1 < length list = slice_get_within _ _ _ is in
-    ((λ h. last_below list (length list - 1) root last (omega arith) up is (sym says ∙ h)), (λ h. says ∙ below_last list (length list - 1) root last is h))
+    let inside : length list - 1 < length list = slice_get_within _ _ _ is in (
+      (λ h. last_below list (length list - 1) root last (omega arith) up is (sym says ∙ h)),
+      (λ h. says ∙ below_last list (length list - 1) root last is h),
+    )
 
 pub behind_none : (list : List RootAt) (root : RootAt) → slice_get list (length list - 1) ≡ None → IsTrue true ↔ IsBehind list root
 behind_none [] root is = ((λ h. tt), (λ h. refl))
@@ -80,16 +82,18 @@ pub kept_more : (roots list lent after : List RootAt) (i : ℕ) (d : RootAt) (be
     → IsTrue behind ↔ IsBehind lent (get_or roots i d) → behind ≡ true → AreKept roots list i → after ≡ list ++ get_or roots i d ∷ []
     → AreKept roots after (i + 1)
 kept_more roots list lent after i d behind less same both is kept put =
-    let all : IsBehind list (get_or roots i d) = subst (λ xs. IsBehind xs (get_or roots i d)) same (both.0 is) in
-    (subst KeysAscend (sym put) (ascend_more list (get_or roots i d) kept.0 all),
-    (λ up. put ∙ ap (λ xs. xs ++ get_or roots i d ∷ []) (kept.1 up) ∙ sym (take_more roots i d less)))
+    let all : IsBehind list (get_or roots i d) = subst (λ xs. IsBehind xs (get_or roots i d)) same (both.0 is) in (
+      subst KeysAscend (sym put) (ascend_more list (get_or roots i d) kept.0 all),
+      (λ up. put ∙ ap (λ xs. xs ++ get_or roots i d ∷ []) (kept.1 up) ∙ sym (take_more roots i d less)),
+    )
 
 pub kept_less : (roots list lent : List RootAt) (i : ℕ) (d : RootAt) (behind : Bool) → i < length roots → lent ≡ list
     → IsTrue behind ↔ IsBehind lent (get_or roots i d) → behind ≡ false → AreKept roots list i → AreKept roots list (i + 1)
-kept_less roots list lent i d behind less same both is kept =
-    (kept.0,
-    (λ up.
-    let all : IsBehind lent (get_or roots i d) =
-        subst (λ xs. IsBehind xs (get_or roots i d)) (sym (same ∙ kept.1 up)) (behind_front roots i d up less) in
-    let yes = both.1 all in
-    absurd (cc)))
+kept_less roots list lent i d behind less same both is kept = (
+  kept.0,
+  (λ up.
+      let all : IsBehind lent (get_or roots i d) =
+      subst (λ xs. IsBehind xs (get_or roots i d)) (sym (same ∙ kept.1 up)) (behind_front roots i d up less) in
+      let yes = both.1 all in
+      absurd (cc)),
+)

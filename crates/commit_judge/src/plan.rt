@@ -18,7 +18,7 @@ use change_records::{ItemChange, ItemRef, affected, pair};
 use recon_disk::{Disk, Steps};
 use std::alloc::Global;
 use super_reader::Super;
-use tree_change::{Change, Diff, difference};
+use tree_change::{Change, Diff, are_read_alike, difference};
 use verdict::NoMemory;
 use write_cache::WriteCache;
 
@@ -155,15 +155,4 @@ fn refs_in<L>(
         &change.map,
         steps,
     )
-}
-
-// Whether blocks are read alike by both superblocks.
-fn are_read_alike(a: &Super, b: &Super) -> bool
-    ensures { result ≡ are_read_alike a.now b.now }
-{
-    a.fsid == b.fsid
-        && a.nodesize == b.nodesize
-        && a.incompat == b.incompat
-        && a.compat_ro == b.compat_ro
-        && a.devid == b.devid
 }

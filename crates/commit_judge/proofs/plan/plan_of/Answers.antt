@@ -17,4 +17,5 @@ returns-in_ok-plan_by-in-Change-clause-told g c =
 pub returns-in-Found-clause-told : goal.returns-in-Found-clause-told
 returns-in-Found-clause-told g c =
     tree_found c.args.index.now c.args.cache.now (g.D.Disk.bytes c.args.disk.now) c.in_ok-fresh.fresh (g.D.Disk.reads c.args.disk.now)
-    (g.D.Disk.reads c.difference.new.disk) c.in_ok-change.field-0 c.in-Found.finding c.in_ok-fresh.ensures c.in-Found.is c.in_ok-change.ensures.gives.told
+    (g.D.Disk.reads c.difference.new.disk) c.in_ok-change.field-0 c.in-Found.finding c.in_ok-fresh.ensures
+    c.in-Found.is c.in_ok-change.ensures.gives.told
