@@ -1,0 +1,87 @@
+-- What a commit does to accounts and to spans.
+use Rattle.std.proofs.Common.{◌≡◌, ℕ, ◌<◌, ◌≤◌, Bool, true, List, [], ◌∷◌, refl, ap, sym, ◌∙◌, subst, inl, inr, arith}
+use Rattle.std.specs.List.{All, Contains, filter_map}
+use Rattle.std.proofs.lemmas.List.Elements.{All-contains, Contains-push_cases}
+use Rattle.accounts.specs.Context.{Context}
+use Rattle.accounts.specs.declared.postings.Posting.{Posting}
+use Rattle.change_records.specs.Search.{AreAlone, AreLawful, SpanNames}
+use Rattle.change_records.specs.Spans.{IsLawfulIn, span_of}
+use Rattle.change_records.specs.declared.changes.ItemChange.{ItemChange}
+use Rattle.change_records.specs.declared.item_ref.ItemRef.{ItemRef}
+use Rattle.change_records.proofs.Merge.{contains_none, from_one}
+use Rattle.live_index.specs.Pairs.{Pairs}
+use Rattle.live_index.specs.declared.live.Live.{Live}
+use Rattle.records.specs.Part.{IsLawful, Located}
+use Rattle.records.specs.declared.owned.ItemAt.{ItemAt}
+use Rattle.span_index.specs.Sectors.{AreRunsFrom, has_sector, is_inside, times_of_span}
+use Rattle.span_index.specs.declared.span.Run.{Run}
+use Rattle.span_index.specs.declared.span.Span.{Span}
+use Rattle.super_reader.specs.declared.Super.{Super}
+use Rattle.change_laws.specs.Commit.{AreNamedInside, Commit, Known, came_by, context_by, gone_by}
+use Rattle.change_laws.specs.Sectors.{AreInside, AreSound}
+use Rattle.change_laws.specs.Sound.{IsSound, IsWhole, SpansStand}
+use Rattle.change_laws.specs.Steps.{change_records, spans_of, step_posts}
+use Rattle.change_laws.proofs.WNamed.{each_of}
+use Rattle.change_laws.proofs.XWhole.{span_whole}
+use Rattle.commit_judge.specs.Moves.{AreMovesOf, AreSpansMoved, context_after}
+use Rattle.commit_judge.specs.declared.moves.Moves.{Moves}
+
+-- the spans of sound records are whole
+spans_whole : (n : ℕ) (records : List Located) → AreSound n records → All IsWhole (spans_of n records)
+unfolding spans_of
+spans_whole n records sound =
+    each_of IsWhole (filter_map (span_of n) records) (λ span has.
+    let found = from_one (span_of n) records span has in
+    let good = All-contains (λ (one : Located). IsLawfulIn n one one.part × IsLawful one.part) records found.0 sound found.1 in
+    span_whole n found.0 found.0.part span found.2 good.0 good.1)
+
+-- what is posted of slices is what is posted of the lists that they show
+pub posts_by : (context : Context) (sup : Super) (side : List ItemAt → List ItemChange → List Located) (posts : List Posting)
+    (slice blocks : List Live) (shown items : List ItemAt) (some changes : List ItemChange) (few refs : List ItemRef)
+    → slice ≡ blocks → shown ≡ items → some ≡ changes → few ≡ refs
+    → posts ≡ step_posts context (change_records sup slice (side shown some)) few
+    → posts ≡ step_posts context (change_records sup blocks (side items changes)) refs
+posts_by context sup side posts slice blocks shown items some changes few refs blocks_are items_are changes_are refs_are is =
+    is ∙ (λ i. step_posts context (change_records sup (blocks_are i) (side (items_are i) (changes_are i))) (refs_are i))
+
+-- the same of spans, of sound records
+pub spans_by : (n : ℕ) (sup : Super) (blocks : List Live) (side : List ItemAt → List ItemChange → List Located) (spans : List Span)
+    (shown items : List ItemAt) (some changes : List ItemChange) → shown ≡ items → some ≡ changes
+    → ((s : Super) (b : List Live) → AreSound n (change_records s b (side shown some)) → spans ≡ spans_of n (change_records s b (side shown some)))
+    → AreSound n (change_records sup blocks (side items changes)) → spans ≡ spans_of n (change_records sup blocks (side items changes))
+spans_by n sup blocks side spans shown items some changes items_are changes_are is =
+    subst (λ (found : List Located). AreSound n (change_records sup blocks found) → spans ≡ spans_of n (change_records sup blocks found))
+    (λ i. side (items_are i) (changes_are i)) (is sup blocks)
+
+-- spans are inside runs where the slice that shows them is
+pub inside_by : (runs : List Run) (slice spans : List Span) → slice ≡ spans → (All IsWhole slice → AreInside runs slice) → All IsWhole spans → AreInside runs spans
+inside_by runs slice spans same is = subst (λ (s : List Span). All IsWhole s → AreInside runs s) same is
+
+-- a span of some is inside runs where all are
+one_inside : (runs : List Run) (spans : List Span) (span : Span) → AreInside runs spans → Contains spans span → AreInside runs (span ∷ [])
+one_inside runs spans span inside has one address is sector =
+    elim (Contains-push_cases [] span one is) [
+      inl never ↦ absurd (contains_none one never)
+    | inr same ↦ inside one address (subst (Contains spans) (sym same) has) sector
+    ]
+
+module _ (k : Known) (c : Commit) (gone came : List Span) (runs : List Run) (found : List Span)
+    (gone_are : AreSound k.sup.nodesize (gone_by k c) → gone ≡ spans_of k.sup.nodesize (gone_by k c))
+    (came_are : AreSound c.fresh.nodesize (came_by c) → came ≡ spans_of c.fresh.nodesize (came_by c))
+    (names : AreLawful k.sup.nodesize k.spans → AreAlone k.spans → (pairs : Pairs) (span : Span) (at : ItemRef)
+    → 0 < k.spans span → SpanNames pairs span at → Contains c.refs at → Contains found span)
+    (there : (span : Span) → Contains found span → 0 < k.spans span)
+    (gone_in : All IsWhole gone → AreInside runs gone) (came_in : All IsWhole came → AreInside runs came)
+    (found_in : All IsWhole found → AreInside runs found) where
+  pub spans_moved : SpansStand k → IsSound k c → AreSpansMoved k c gone came runs
+  spans_moved stand sound =
+      let gone_is : gone ≡ spans_of k.sup.nodesize (gone_by k c) = gone_are sound.gone in
+      let came_is : came ≡ spans_of c.fresh.nodesize (came_by c) = came_are sound.came in
+      let all : AreInside runs found = found_in (each_of IsWhole found (λ span has. stand.whole span (there span has))) in
+      record {
+        gone_is = gone_is;
+        came_is = came_is;
+        gone_inside = gone_in (subst (All IsWhole) (sym gone_is) (spans_whole k.sup.nodesize (gone_by k c) sound.gone));
+        came_inside = came_in (subst (All IsWhole) (sym came_is) (spans_whole c.fresh.nodesize (came_by c) sound.came));
+        found_inside = λ span at stands shows has. one_inside runs found span all (names stand.lawful stand.alone k.pairs span at stands shows has);
+      }

@@ -1,0 +1,36 @@
+use Rattle.std.proofs.Common.{sym, ◌∙◌, subst}
+use Rattle.std.specs.List.{Contains}
+use Rattle.change_laws.specs.Commit.{context_by}
+use Rattle.change_laws.specs.Paired.{came_items, gone_items}
+use Rattle.change_laws.specs.Steps.{step_posts}
+use Rattle.commit_judge.specs.Index.{known}
+use Rattle.commit_judge.specs.Moves.{context_after}
+use Rattle.commit_judge.specs.Plan.{commit_in}
+use Rattle.commit_judge.proofs.JMoves.{inside_by, posts_by, spans_by, spans_moved}
+use Rattle.commit_judge.proofs.moves.moves_of.Goals as goal
+
+pub returns : goal.returns
+returns g c =
+    let k = known c.args.index.now in
+    let d = commit_in c.args.plan.now in
+    record {
+      gone =
+          posts_by (context_by k) c.args.index.now.sup gone_items c.in_ok-gone.gone _ _ _ _ _ _ _ _ c.as_slice.ensures.value
+          c.as_slice-old.ensures.value c.as_slice-changes.ensures.value c.as_slice-refs.ensures.value c.in_ok-gone.ensures;
+      came =
+          posts_by (context_after k d) c.args.plan.now.sup came_items c.in_ok-came.came _ _ _ _ _ _ _ _ c.as_slice-2.ensures.value
+          c.as_slice-new.ensures.value c.as_slice-changes.ensures.value c.as_slice-refs.ensures.value
+          (c.in_ok-came.ensures ∙ (λ i. step_posts (c.after-after.ensures i) _ _));
+      spans =
+          spans_moved k d c.in_ok-gone_spans.gone_spans.items c.in_ok-came_spans.came_spans.items c.in_ok-runs.runs.items c.in_ok-found.found.items
+          (spans_by k.sup.nodesize k.sup d.change.old_blocks.items gone_items c.in_ok-gone_spans.gone_spans.items _ _ _ _ c.as_slice-old.ensures.value
+          c.as_slice-changes.ensures.value c.in_ok-gone_spans.ensures)
+          (spans_by d.fresh.nodesize d.fresh d.change.new_blocks.items came_items c.in_ok-came_spans.came_spans.items _ _ _ _ c.as_slice-new.ensures.value
+          c.as_slice-changes.ensures.value c.in_ok-came_spans.ensures)
+          (λ lawful alone pairs span at stands shows has.
+          c.in_ok-found.ensures.found lawful alone pairs span at stands shows (subst (λ refs. Contains refs at) (sym c.as_slice-refs.ensures.value) has))
+          c.in_ok-found.ensures.stand (inside_by c.in_ok-runs.runs.items _ _ c.as_slice-3.ensures.value c.in_ok-runs.ensures.gone)
+          (inside_by c.in_ok-runs.runs.items _ _ c.as_slice-4.ensures.value c.in_ok-runs.ensures.came)
+          (inside_by c.in_ok-runs.runs.items _ _ c.as_slice-5.ensures.value c.in_ok-runs.ensures.found);
+      ascend = c.in_ok-runs.ensures.ascend;
+    }
