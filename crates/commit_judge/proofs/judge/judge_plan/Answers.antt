@@ -1,11 +1,13 @@
-use Rattle.std.proofs.Common.{sym, ◌∙◌, subst}
+use Rattle.std.proofs.Common.{◌≡◌, List, sym, ◌∙◌, subst}
 use Rattle.std.specs.Prelude.{Some, None}
+use Rattle.chunk_map.specs.Roots.{KeysAscend}
 use Rattle.ledger_index.specs.Ledger.{IsTidy, sums_of}
 use Rattle.span_index.specs.Table.{times_of}
+use Rattle.volume_items.specs.declared.root_at.RootAt.{RootAt}
 use Rattle.write_cache.specs.Cache.{overlaid}
 use Rattle.change_laws.specs.Commit.{IsKnown}
 use Rattle.commit_judge.specs.Index.{known}
-use Rattle.commit_judge.specs.Judging.{TriedSays}
+use Rattle.commit_judge.specs.Judging.{next_of}
 use Rattle.commit_judge.specs.Plan.{commit_in}
 use Rattle.commit_judge.proofs.JJudge.{hot_on, reads_of, same_known}
 use Rattle.commit_judge.proofs.judge.judge_plan.Goals as goal
@@ -53,7 +55,8 @@ returns g c image before after stands size plan =
       stands = record {
         known =
             subst (IsKnown (overlaid c.args.cache.now 0 image))
-            (sym (subst (λ roots. _ ≡ _) c.deref.ensures.value (c.in_ok-pass.ensures.known _)))
+            (sym (subst (λ (roots : List RootAt). KeysAscend roots → known c.pass.new.index
+            ≡ next_of k d roots (sums_of c.apply.new.totals) (times_of c.apply.new.spans)) c.deref.ensures.value c.in_ok-pass.ensures.known says.2))
             says.1;
         raw = c.in_ok-pass.ensures.raw ∙ plan.raw;
         entries = subst IsTidy (sym c.in_ok-pass.ensures.totals) (c.in_ok-apply.ensures.entries stands.entries);
