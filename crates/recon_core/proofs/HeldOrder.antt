@@ -1,7 +1,10 @@
--- Writes that do not meet apply equally in any order, and states of one judged image are alike.
-use Rattle.std.proofs.Common.{◌≡◌, ℕ, zero, suc, ◌+◌, ◌-◌, ◌<◌, ◌≤◌, ◌⊎◌, inl, inr, Bool, true, false, not, if◌then◌else◌, List, [], ◌∷◌, ◌++◌, length, take, drop, map, get_or, refl, sym, ap, ◌∙◌, arith, subst, cond, IsTrue}
+-- Writes that do not meet apply equally in any order and wait as one map, and states of one image, one such map and one judged image are alike.
+use Rattle.std.proofs.Common.{◌≡◌, ℕ, zero, suc, ◌+◌, ◌-◌, ◌<◌, ◌≤◌, ◌⊎◌, inl, inr, Bool, true, false, not, if◌then◌else◌, List, [], ◌∷◌, ◌++◌, length, take, drop, map, get_or, Option, Some, refl, sym, ap, ◌∙◌, arith, subst, cond, IsTrue}
 use Rattle.std.specs.Prelude.{ltb, IsPermutation}
 use Rattle.std.specs.List.{All, AllByRecursion, AllPairs, sum_by}
+use Rattle.std.specs.Ordering.{nat_cmp}
+use Rattle.std.specs.Cmp.{nat_cmp_total}
+use Rattle.std.specs.FinMap.{FinMap, get, same_map, nat_cmp-IsAntisymmetric}
 use Rattle.std.proofs.lemmas.Bool.{cases_lt, lt-ltb, le-ltb}
 use Rattle.std.proofs.lemmas.Grind.{common_steps}
 use Rattle.std.proofs.lemmas.List.{ext_get_or}
@@ -16,7 +19,10 @@ use Rattle.verdict.specs.declared.machine.Event.TheVariants.{Write, Settle, Fetc
 use Rattle.verdict.specs.declared.machine.Answer.{Answer}
 use Rattle.verdict.specs.declared.machine.Answer.TheVariants.{Held, Fetched}
 use Rattle.verdict.proofs.Images.{length-written_any, length-applied}
+use Rattle.write_cache.specs.Cache.{cache_of, with_bytes, with_writes}
+use Rattle.write_cache.proofs.CacheLaws.{cache_of-push, get-with_bytes_before, get-with_bytes_behind, get-with_bytes_in}
 use Rattle.records.specs.FullCheck.{full_check}
+use Rattle.commit_judge.specs.Counts.{blocks_between, hot_between}
 use Rattle.recon_core.specs.Machine.{MachineState, Step, answer_to, image_by, judged_image, machine_step, settle_step, with_pending}
 use Rattle.recon_core.specs.Standing.{waits}
 use Rattle.recon_core.specs.Law.{AreApart, OrderDecidesNothing, Outcome, outcomes_from, state_after}
@@ -98,6 +104,64 @@ same_applied xs ys moved once image =
     ∙ ap (λ k. sum_by (put_at i) ys + kept_byte k (get_or image i 0)) (sym c)
     ∙ sym (laid ys image i (omega arith) (omega arith)))
 
+-- the same of the map of waiting bytes
+kept_or : ℕ → ℕ → Option ℕ → Option ℕ
+kept_or zero byte waiting = waiting
+kept_or (suc n) byte waiting = Some byte
+
+nothing_put : (ws : List HeldWrite) (i : ℕ) → sum_by (covers i) ws ≡ 0 → sum_by (put_at i) ws ≡ 0
+nothing_put [] i none = refl
+nothing_put (w ∷ ws) i none =
+    let c : sum_by (covers i) (w ∷ ws) ≡ covers i w + sum_by (covers i) ws = sum_by-cons (covers i) w ws in
+    let p : sum_by (put_at i) (w ∷ ws) ≡ put_at i w + sum_by (put_at i) ws = sum_by-cons (put_at i) w ws in
+    elim (covered i w) [
+      | inside from high one byte ↦ absurd (omega arith)
+      | outside out zero_ byte ↦ let rest : sum_by (put_at i) ws ≡ 0 = nothing_put ws i (omega arith) in omega arith
+    ]
+
+get_out : (m : FinMap nat_cmp ℕ) (at : ℕ) (bytes : List ℕ) (i : ℕ) → (i < at) ⊎ (at + length bytes ≤ i) → get (with_bytes m at bytes) i ≡ get m i
+get_out m at bytes i (inl low) = get-with_bytes_before m at bytes i low
+get_out m at bytes i (inr high) = get-with_bytes_behind m at bytes i high
+
+held_at : (ws : List HeldWrite) (m : FinMap nat_cmp ℕ) (i : ℕ) → sum_by (covers i) ws ≤ 1
+    → get (with_writes m ws) i ≡ kept_or (sum_by (covers i) ws) (sum_by (put_at i) ws) (get m i)
+unfolding kept_or with_writes
+held_at [] m i once = refl
+held_at (w ∷ ws) m i once =
+    let c : sum_by (covers i) (w ∷ ws) ≡ covers i w + sum_by (covers i) ws = sum_by-cons (covers i) w ws in
+    let p : sum_by (put_at i) (w ∷ ws) ≡ put_at i w + sum_by (put_at i) ws = sum_by-cons (put_at i) w ws in
+    let more = held_at ws (with_bytes m w.at w.bytes) i (omega arith) in
+    elim (covered i w) [
+      | inside from high one byte ↦
+          let none : sum_by (covers i) ws ≡ 0 = omega arith in
+          let all : 1 ≡ sum_by (covers i) (w ∷ ws) = omega arith in
+          let rest : sum_by (put_at i) ws ≡ 0 = nothing_put ws i none in
+          let here : get_or w.bytes (i - w.at) 0 ≡ sum_by (put_at i) (w ∷ ws) = omega arith in
+          more
+          ∙ ap (λ k. kept_or k (sum_by (put_at i) ws) (get (with_bytes m w.at w.bytes) i)) none
+          ∙ get-with_bytes_in m w.at w.bytes i from high
+          ∙ ap Some here
+          ∙ ap (λ k. kept_or k (sum_by (put_at i) (w ∷ ws)) (get m i)) all
+      | outside out zero_ byte ↦
+          let same : sum_by (covers i) ws ≡ sum_by (covers i) (w ∷ ws) = omega arith in
+          let puts : sum_by (put_at i) ws ≡ sum_by (put_at i) (w ∷ ws) = omega arith in
+          more
+          ∙ ap (kept_or (sum_by (covers i) ws) (sum_by (put_at i) ws)) (get_out m w.at w.bytes i out)
+          ∙ ap (λ k. kept_or k (sum_by (put_at i) ws) (get m i)) same
+          ∙ ap (λ k. kept_or (sum_by (covers i) (w ∷ ws)) k (get m i)) puts
+    ]
+
+-- so they wait as one map in any order
+same_held : (xs ys : List HeldWrite) → IsPermutation xs ys → ((i : ℕ) → sum_by (covers i) xs ≤ 1) → (m : FinMap nat_cmp ℕ) → with_writes m xs ≡ with_writes m ys
+same_held xs ys moved once m = same_map nat_cmp_total nat_cmp-IsAntisymmetric (with_writes m xs) (with_writes m ys) (λ i.
+    let c : sum_by (covers i) ys ≡ sum_by (covers i) xs = sum_by-IsPermutation (covers i) xs ys moved in
+    let p : sum_by (put_at i) ys ≡ sum_by (put_at i) xs = sum_by-IsPermutation (put_at i) xs ys moved in
+    let few : sum_by (covers i) xs ≤ 1 = once i in
+    held_at xs m i few
+    ∙ ap (λ k. kept_or k (sum_by (put_at i) xs) (get m i)) (sym c)
+    ∙ ap (λ k. kept_or (sum_by (covers i) ys) k (get m i)) (sym p)
+    ∙ sym (held_at ys m i (omega arith)))
+
 -- the write of an event, of no bytes where it has none
 write_of : Event → HeldWrite
 write_of (Write submitter at bytes) = record { at = at; bytes = bytes }
@@ -150,9 +214,10 @@ once_covered i (e ∷ es) apart =
       | hits one from high ↦ let none : sum_by (covers i) (map write_of es) ≡ 0 = none_covers i e es one (recursion_from_All (AreApart e) es first) in omega arith
     ]
 
--- states of one image and one judged image
+-- states of one image, one map of waiting bytes and one judged image
 record AreSame (s t : MachineState) : Type 0 where
   image : s.image ≡ t.image
+  cache : cache_of s.pending ≡ cache_of t.pending
   judged : judged_image s ≡ judged_image t
 
 applied-push : (image : List ℕ) (ws : List HeldWrite) (w : HeldWrite) → applied image (ws ++ w ∷ []) ≡ written (applied image ws) w.at w.bytes
@@ -162,10 +227,11 @@ applied-push image (v ∷ vs) w = applied-push (written image v.at v.bytes) vs w
 same_more : (s t : MachineState) (w : HeldWrite) → AreSame s t → AreSame (with_pending s w) (with_pending t w)
 same_more s t w same = record {
   image = same.image;
+  cache = cache_of-push s.pending w ∙ ap (λ m. with_bytes m w.at w.bytes) same.cache ∙ sym (cache_of-push t.pending w);
   judged = applied-push s.image s.pending w ∙ ap (λ image. written image w.at w.bytes) same.judged ∙ sym (applied-push t.image t.pending w);
 }
 
--- steps with one answer, to states of one image and one judged image
+-- steps with one answer, to states that are so
 record AgreeInStep (one other : Step) : Type 0 where
   answer : one.answer ≡ other.answer
   after : AreSame one.after other.after
@@ -175,8 +241,10 @@ settled s t same =
     let image : image_by (full_check (judged_image s)) (judged_image s) s.image ≡ image_by (full_check (judged_image t)) (judged_image t) t.image =
     ap (λ judged. image_by (full_check judged) judged s.image) same.judged ∙ ap (image_by (full_check (judged_image t)) (judged_image t)) same.image in
     record {
-      answer = ap (λ judged. answer_to (full_check judged)) same.judged;
-      after = record { image = image; judged = image };
+      answer = ap (λ judged. answer_to (full_check judged) (blocks_between s.image (cache_of s.pending)) (hot_between s.image (cache_of s.pending))) same.judged
+          ∙ ap (λ old. answer_to (full_check (judged_image t)) (blocks_between old (cache_of s.pending)) (hot_between old (cache_of s.pending))) same.image
+          ∙ ap (λ m. answer_to (full_check (judged_image t)) (blocks_between t.image m) (hot_between t.image m)) same.cache;
+      after = record { image = image; cache = refl; judged = image };
     }
 
 -- a write, by whether it meets the superblock place
@@ -212,17 +280,20 @@ held_step false s w held = refl
 
 record Leaves (s : MachineState) (ws : List HeldWrite) (after : MachineState) : Type 0 where
   image : after.image ≡ s.image
+  cache : cache_of after.pending ≡ with_writes (cache_of s.pending) ws
   judged : judged_image after ≡ applied (judged_image s) ws
 
 one_more : (s : MachineState) (w : HeldWrite) (ws : List HeldWrite) (after : MachineState) → Leaves (with_pending s w) ws after → Leaves s (w ∷ ws) after
+unfolding with_writes
 one_more s w ws after rest = record {
   image = rest.image;
+  cache = rest.cache ∙ ap (λ m. with_writes m ws) (cache_of-push s.pending w);
   judged = rest.judged ∙ ap (λ image. applied image ws) (applied-push s.image s.pending w);
 }
 
 leaves : (es : List Event) (s : MachineState) → AllByRecursion (λ e. IsTrue (waits e)) es → Leaves s (map write_of es) (state_after s es)
-unfolding write_of write_step
-leaves [] s held = record { image = refl; judged = refl }
+unfolding write_of write_step with_writes
+leaves [] s held = record { image = refl; cache = refl; judged = refl }
 leaves (Write submitter at bytes ∷ es) s held =
     let w : HeldWrite = record { at = at; bytes = bytes } in
     one_more s w (map write_of es) _
@@ -237,6 +308,13 @@ order_decides_nothing state one other held apart moved =
     let waiting = All-permutation (λ e. IsTrue (waits e)) one other moved held in
     let a = leaves one state (recursion_from_All (λ e. IsTrue (waits e)) one held) in
     let b = leaves other state (recursion_from_All (λ e. IsTrue (waits e)) other waiting) in
-    let applies = same_applied (map write_of one) (map write_of other) (IsPermutation-map write_of one other moved) (λ i. once_covered i one apart) (judged_image state) in
-    let same : AreSame (state_after state one) (state_after state other) = record { image = a.image ∙ sym b.image; judged = a.judged ∙ applies ∙ sym b.judged } in
+    let once : (i : ℕ) → sum_by (covers i) (map write_of one) ≤ 1 = λ i. once_covered i one apart in
+    let writes = IsPermutation-map write_of one other moved in
+    let applies = same_applied (map write_of one) (map write_of other) writes once (judged_image state) in
+    let held_same = same_held (map write_of one) (map write_of other) writes once (cache_of state.pending) in
+    let same : AreSame (state_after state one) (state_after state other) = record {
+      image = a.image ∙ sym b.image;
+      cache = a.cache ∙ held_same ∙ sym b.cache;
+      judged = a.judged ∙ applies ∙ sym b.judged;
+    } in
     record { image = same.image; outcomes = λ events. outcomes_same events _ _ same }

@@ -1,18 +1,16 @@
 -- The calls that went out so far, with those that are left, are all of them.
-use Rattle.std.proofs.Common.{◌≡◌, ℕ, suc, ◌+◌, ◌-◌, ◌/◌, ◌<◌, ◌≤◌, ◌↔◌, inl, inr, min, max, Bool, true, false, IsTrue, List, [], ◌∷◌, ◌++◌, length, take, drop, Option, Some, None, IfSome, refl, sym, ap, ◌∙◌, arith, subst, add-one, add-zero}
+use Rattle.std.proofs.Common.{◌≡◌, ℕ, ◌+◌, ◌-◌, ◌↔◌, inl, inr, min, max, Bool, true, false, IsTrue, List, [], ◌∷◌, ◌++◌, length, take, drop, Option, Some, None, IfSome, refl, sym, ap, ◌∙◌, arith, subst}
 use Rattle.std.specs.Ordering.{nat_cmp}
 use Rattle.std.specs.FinMap.{FinMap}
-use Rattle.std.proofs.Math.Nat.{add-div_right, div-eq_of_lt}
 use Rattle.std.proofs.lemmas.Bool.{cases_lt}
-use Rattle.std.proofs.lemmas.List.{append-nil, append_assoc, drop-drop, take_all, length-drop}
+use Rattle.std.proofs.lemmas.List.{take_all, length-drop}
 use Rattle.verdict.specs.Image.{range}
 use Rattle.recon_disk.specs.Calls.{Sent, Wrote, Flushed, and_sent, run_calls, HasSentFront}
 use Rattle.write_cache.specs.Cache.{overlaid}
-use Rattle.write_cache.proofs.CacheLaws.{range-overlaid_image}
 use Rattle.write_cache.specs.Pieces.{Piece, ArePiecesOf}
 use Rattle.recon_core.specs.Order.{piece_calls, closing_calls, HasSentOut, HasSentPart, WaitsInPlace, pieces_calls}
-use Rattle.recon_disk.specs.Calls.{cut_calls, run_calls, HasSentFront}
-use Rattle.recon_core.specs.Sent.{HasSentRuns, HasSentSomeRuns}
+use Rattle.recon_disk.specs.Calls.{run_calls, HasSentFront}
+use Rattle.recon_core.specs.Sent.{HasSentRuns, HasSentSomeRuns, IsPlaceOf}
 use Rattle.recon_disk.proofs.Sending.{SentSoFar, each_sent, front_first, front_second, no_run, none_sent, part_more, sent_none, sent_then, some_sent}
 
 -- the two runs of a piece
@@ -91,24 +89,22 @@ pub is_false : (b : Bool) → b ≡ false → (P : Type 0) → IsTrue b ↔ P �
 is_false b e P says = subst (λ x. IsTrue x ↔ P) e says
 
 -- a settle's calls: the runs and a flush
-pub settled_out : (bytes : Option (List ℕ)) (m : FinMap nat_cmp ℕ) (first mid last : Option (List Sent)) (b : Bool) → b ≡ false → IsTrue b ↔ WaitsInPlace m
+pub settled_out : (bytes : Option (List ℕ)) (m : FinMap nat_cmp ℕ) (place : List ℕ) (first mid last : Option (List Sent)) (b : Bool) → b ≡ false → IsTrue b ↔ WaitsInPlace m
     → HasSentRuns m first mid → last ≡ and_sent mid (Flushed ∷ [])
-    → IfSome bytes (λ image. HasSentOut m (overlaid m 0 image) first last)
-settled_out None m first mid last b e says runs h = tt
-settled_out (Some image) m first mid last b e says runs h = (
+    → IfSome bytes (λ image. IsPlaceOf m place image → HasSentOut m (overlaid m 0 image) first last)
+settled_out None m place first mid last b e says runs h = tt
+settled_out (Some image) m place first mid last b e says runs h = λ right. (
   pieces_calls runs.0 ++ closing_calls false [],
   record { pieces = runs.0; runs = runs.1; commit = false; place = is_false b e (WaitsInPlace m) says; order = refl },
   h ∙ ap (λ o. and_sent o (Flushed ∷ [])) runs.2 ∙ sent_then first (pieces_calls runs.0) (Flushed ∷ []),
 )
 
 -- a commit's calls: the runs, a flush, the place and a flush
-pub committed_out : (bytes : Option (List ℕ)) (m : FinMap nat_cmp ℕ) (begun first mid flushed placed last : Option (List Sent)) (place read : List ℕ) (b : Bool) → b ≡ true → IsTrue b ↔ WaitsInPlace m
-    → IfSome bytes (λ image. read ≡ range 65536 4096 image) → place ≡ overlaid m 65536 read
-    → begun ≡ first → HasSentRuns m begun mid → flushed ≡ and_sent mid (Flushed ∷ []) → placed ≡ and_sent flushed (Wrote 65536 place ∷ []) → last ≡ and_sent placed (Flushed ∷ [])
-    → IfSome bytes (λ image. HasSentOut m (overlaid m 0 image) first last)
-committed_out None m begun first mid flushed placed last place read b e says r p same runs f w h = tt
-committed_out (Some image) m begun first mid flushed placed last place read b e says r p same runs f w h =
-    let q : place ≡ range 65536 4096 (overlaid m 0 image) = p ∙ ap (overlaid m 65536) r ∙ sym (range-overlaid_image m image 65536 4096) in
+pub committed_out : (bytes : Option (List ℕ)) (m : FinMap nat_cmp ℕ) (first mid flushed placed last : Option (List Sent)) (place : List ℕ) (b : Bool) → b ≡ true → IsTrue b ↔ WaitsInPlace m
+    → HasSentRuns m first mid → flushed ≡ and_sent mid (Flushed ∷ []) → placed ≡ and_sent flushed (Wrote 65536 place ∷ []) → last ≡ and_sent placed (Flushed ∷ [])
+    → IfSome bytes (λ image. IsPlaceOf m place image → HasSentOut m (overlaid m 0 image) first last)
+committed_out None m first mid flushed placed last place b e says runs f w h = tt
+committed_out (Some image) m first mid flushed placed last place b e says runs f w h = λ right.
     let calls : List Sent = pieces_calls runs.0 in (
       calls ++ closing_calls true (range 65536 4096 (overlaid m 0 image)),
       record { pieces = runs.0; runs = runs.1; commit = true; place = subst (λ x. IsTrue x ↔ WaitsInPlace m) e says; order = refl },
@@ -116,66 +112,62 @@ committed_out (Some image) m begun first mid flushed placed last place read b e 
           ∙ sent_then flushed (Wrote 65536 place ∷ []) (Flushed ∷ [])
           ∙ ap (λ o. and_sent o (Wrote 65536 place ∷ Flushed ∷ [])) f
           ∙ sent_then mid (Flushed ∷ []) (Wrote 65536 place ∷ Flushed ∷ [])
-          ∙ ap (λ o. and_sent o (Flushed ∷ Wrote 65536 place ∷ Flushed ∷ [])) (runs.2 ∙ ap (λ o. and_sent o calls) same)
+          ∙ ap (λ o. and_sent o (Flushed ∷ Wrote 65536 place ∷ Flushed ∷ [])) runs.2
           ∙ sent_then first calls (Flushed ∷ Wrote 65536 place ∷ Flushed ∷ [])
-          ∙ ap (λ x. and_sent first (calls ++ (Flushed ∷ Wrote 65536 x ∷ Flushed ∷ []))) q,
+          ∙ ap (λ x. and_sent first (calls ++ (Flushed ∷ Wrote 65536 x ∷ Flushed ∷ []))) right,
     )
 
 -- where a call failed: at the runs, or behind them with these sent and the others left
-pub out_in_part : (bytes : Option (List ℕ)) (m : FinMap nat_cmp ℕ) (begun first last : Option (List Sent)) (b : Bool) → IsTrue b ↔ WaitsInPlace m
-    → begun ≡ first → HasSentSomeRuns m begun last → HasSentPart m bytes first last
+pub out_in_part : (bytes : Option (List ℕ)) (IsOf : List ℕ → Type 0) (m : FinMap nat_cmp ℕ) (first last : Option (List Sent)) (b : Bool) → IsTrue b ↔ WaitsInPlace m
+    → HasSentSomeRuns m first last → HasSentPart IsOf m bytes first last
 unfolding HasSentPart
-out_in_part None m begun first last b says same runs = inr tt
-out_in_part (Some image) m begun first last b says same runs =
+out_in_part None IsOf m first last b says runs = inr tt
+out_in_part (Some image) IsOf m first last b says runs =
     let after : List Sent = closing_calls b (range 65536 4096 (overlaid m 0 image)) in
-    inr (
+    inr (λ right. (
       pieces_calls runs.0 ++ after,
       record { pieces = runs.0; runs = runs.1; commit = b; place = says; order = refl },
-      front_first first last (pieces_calls runs.0) after (pieces_calls runs.0 ++ after) refl (subst (λ o. HasSentFront (pieces_calls runs.0) o last) same runs.2),
-    )
+      front_first first last (pieces_calls runs.0) after (pieces_calls runs.0 ++ after) refl runs.2,
+    ))
 
-closing_part : (bytes : Option (List ℕ)) (m : FinMap nat_cmp ℕ) (begun first mid last : Option (List Sent)) (b : Bool) → IsTrue b ↔ WaitsInPlace m
-    → begun ≡ first → HasSentRuns m begun mid
-    → IfSome bytes (λ image. HasSentFront (closing_calls b (range 65536 4096 (overlaid m 0 image))) mid last) → HasSentPart m bytes first last
+closing_part : (bytes : Option (List ℕ)) (IsOf : List ℕ → Type 0) (m : FinMap nat_cmp ℕ) (first mid last : Option (List Sent)) (b : Bool) → IsTrue b ↔ WaitsInPlace m
+    → HasSentRuns m first mid
+    → IfSome bytes (λ image. IsOf image → HasSentFront (closing_calls b (range 65536 4096 (overlaid m 0 image))) mid last) → HasSentPart IsOf m bytes first last
 unfolding HasSentPart
-closing_part None m begun first mid last b says same runs h = inr tt
-closing_part (Some image) m begun first mid last b says same runs h =
+closing_part None IsOf m first mid last b says runs h = inr tt
+closing_part (Some image) IsOf m first mid last b says runs h =
     let after : List Sent = closing_calls b (range 65536 4096 (overlaid m 0 image)) in
-    inr (
+    inr (λ right. (
       pieces_calls runs.0 ++ after,
       record { pieces = runs.0; runs = runs.1; commit = b; place = says; order = refl },
-      front_second first mid last (pieces_calls runs.0) after (pieces_calls runs.0 ++ after) refl (runs.2 ∙ ap (λ o. and_sent o (pieces_calls runs.0)) same) h,
-    )
+      front_second first mid last (pieces_calls runs.0) after (pieces_calls runs.0 ++ after) refl runs.2 (h right),
+    ))
 
 if_each : {P : List ℕ → Type 0} (o : Option (List ℕ)) → ((x : List ℕ) → P x) → IfSome o P
 if_each None f = tt
 if_each (Some x) f = f x
 
 -- the flush behind the runs failed
-pub flush_fails : (bytes : Option (List ℕ)) (m : FinMap nat_cmp ℕ) (begun first mid last : Option (List Sent)) (b : Bool) → IsTrue b ↔ WaitsInPlace m
-    → begun ≡ first → HasSentRuns m begun mid → last ≡ mid → HasSentPart m bytes first last
-flush_fails bytes m begun first mid last b says same runs h =
-    closing_part bytes m begun first mid last b says same runs (if_each bytes (λ image. ([], closing_calls b (range 65536 4096 (overlaid m 0 image)), refl, h ∙ sym (sent_none mid))))
+pub flush_fails : (bytes : Option (List ℕ)) (IsOf : List ℕ → Type 0) (m : FinMap nat_cmp ℕ) (first mid last : Option (List Sent)) (b : Bool) → IsTrue b ↔ WaitsInPlace m
+    → HasSentRuns m first mid → last ≡ mid → HasSentPart IsOf m bytes first last
+flush_fails bytes IsOf m first mid last b says runs h =
+    closing_part bytes IsOf m first mid last b says runs (if_each bytes (λ image right. ([], closing_calls b (range 65536 4096 (overlaid m 0 image)), refl, h ∙ sym (sent_none mid))))
 
 -- the write of the place failed, or the last flush
-pub place_write_fails : (bytes : Option (List ℕ)) (m : FinMap nat_cmp ℕ) (begun first mid flushed last : Option (List Sent)) (b : Bool) → b ≡ true → IsTrue b ↔ WaitsInPlace m
-    → begun ≡ first → HasSentRuns m begun mid → flushed ≡ and_sent mid (Flushed ∷ []) → last ≡ flushed → HasSentPart m bytes first last
-place_write_fails bytes m begun first mid flushed last b e says same runs f h =
-    closing_part bytes m begun first mid last b says same runs (if_each bytes (λ image.
+pub place_write_fails : (bytes : Option (List ℕ)) (IsOf : List ℕ → Type 0) (m : FinMap nat_cmp ℕ) (first mid flushed last : Option (List Sent)) (b : Bool) → b ≡ true → IsTrue b ↔ WaitsInPlace m
+    → HasSentRuns m first mid → flushed ≡ and_sent mid (Flushed ∷ []) → last ≡ flushed → HasSentPart IsOf m bytes first last
+place_write_fails bytes IsOf m first mid flushed last b e says runs f h =
+    closing_part bytes IsOf m first mid last b says runs (if_each bytes (λ image right.
     (Flushed ∷ [], Wrote 65536 (range 65536 4096 (overlaid m 0 image)) ∷ Flushed ∷ [], ap (λ x. closing_calls x (range 65536 4096 (overlaid m 0 image))) e, h ∙ f)))
 
-pub last_flush_fails : (bytes : Option (List ℕ)) (m : FinMap nat_cmp ℕ) (begun first mid flushed placed last : Option (List Sent)) (place read : List ℕ) (b : Bool) → b ≡ true → IsTrue b ↔ WaitsInPlace m
-    → IfSome bytes (λ image. read ≡ range 65536 4096 image) → place ≡ overlaid m 65536 read
-    → begun ≡ first → HasSentRuns m begun mid → flushed ≡ and_sent mid (Flushed ∷ []) → placed ≡ and_sent flushed (Wrote 65536 place ∷ []) → last ≡ placed
-    → HasSentPart m bytes first last
-unfolding HasSentPart
-last_flush_fails None m begun first mid flushed placed last place read b e says r p same runs f w h = inr tt
-last_flush_fails (Some image) m begun first mid flushed placed last place read b e says r p same runs f w h =
-    let q : place ≡ range 65536 4096 (overlaid m 0 image) = p ∙ ap (overlaid m 65536) r ∙ sym (range-overlaid_image m image 65536 4096) in
-    closing_part (Some image) m begun first mid last b says same runs (
+pub last_flush_fails : (bytes : Option (List ℕ)) (m : FinMap nat_cmp ℕ) (first mid flushed placed last : Option (List Sent)) (place : List ℕ) (b : Bool) → b ≡ true → IsTrue b ↔ WaitsInPlace m
+    → HasSentRuns m first mid → flushed ≡ and_sent mid (Flushed ∷ []) → placed ≡ and_sent flushed (Wrote 65536 place ∷ []) → last ≡ placed
+    → HasSentPart (IsPlaceOf m place) m bytes first last
+last_flush_fails bytes m first mid flushed placed last place b e says runs f w h =
+    closing_part bytes (IsPlaceOf m place) m first mid last b says runs (if_each bytes (λ image right. (
       Flushed ∷ Wrote 65536 (range 65536 4096 (overlaid m 0 image)) ∷ [],
       Flushed ∷ [],
       ap (λ x. closing_calls x (range 65536 4096 (overlaid m 0 image))) e,
       h ∙ w ∙ ap (λ o. and_sent o (Wrote 65536 place ∷ [])) f ∙ sent_then mid (Flushed ∷ []) (Wrote 65536 place ∷ [])
-          ∙ ap (λ x. and_sent mid (Flushed ∷ Wrote 65536 x ∷ [])) q,
-    )
+          ∙ ap (λ x. and_sent mid (Flushed ∷ Wrote 65536 x ∷ [])) right,
+    )))

@@ -1,8 +1,6 @@
 -- What a disk holds while writes go out to it piece by piece.
-use Rattle.std.proofs.Common.{◌≡◌, ℕ, ◌+◌, ◌-◌, ◌<◌, ◌≤◌, ◌⊎◌, inl, inr, List, [], length, take, drop, get_or, refl, sym, ap, ◌∙◌, arith}
+use Rattle.std.proofs.Common.{◌≡◌, ℕ, ◌-◌, ◌<◌, ◌≤◌, ◌⊎◌, inl, inr, List, length, get_or, refl, sym, ap, ◌∙◌, arith}
 use Rattle.std.proofs.lemmas.Bool.{cases_lt}
-use Rattle.std.proofs.lemmas.Grind.{common_steps}
-use Rattle.std.proofs.lemmas.List.{ext_get_or, length-take, length-drop, length-take-le, get_or-take, get_or-drop, take-append-drop}
 use Rattle.verdict.specs.Image.{range, written}
 use Rattle.verdict.proofs.Images.{length-written, get-written_in, get-written_before, get-written_behind}
 use Rattle.write_cache.proofs.CacheLaws.{length-range, get-range}

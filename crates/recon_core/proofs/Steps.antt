@@ -14,14 +14,20 @@ use Rattle.verdict.specs.Image.{range, applied}
 use Rattle.verdict.specs.declared.machine.HeldWrite.{HeldWrite}
 use Rattle.verdict.specs.declared.finding.Finding.{Finding}
 use Rattle.write_cache.specs.Cache.{with_bytes, cache_of, overlaid}
-use Rattle.write_cache.proofs.CacheLaws.{length-overlaid, overlaid-empty, overlaid-applied, cache_of-push, cache_of-none, AllInside-push, get-with_bytes_before, get-with_bytes_behind}
+use Rattle.write_cache.proofs.CacheLaws.{length-overlaid, overlaid-applied, cache_of-push, cache_of-none, AllInside-push, get-with_bytes_before, get-with_bytes_behind}
 use Rattle.records.specs.FullCheck.{full_check}
 use Rattle.verdict.specs.declared.finding.Verdict.{Verdict}
 use Rattle.verdict.specs.declared.finding.Verdict.TheVariants.{Accept, Found}
 use Rattle.recon_core.specs.declared.checker.Checker.{Checker}
-use Rattle.recon_core.specs.declared.checker.Started.TheVariants.{Ready, Refused}
+use Rattle.commit_judge.specs.Counts.{blocks_between, hot_between}
+use Rattle.commit_judge.specs.Index.{IndexStands}
+use Rattle.commit_judge.specs.Start.{IsBuilt, IsReady}
+use Rattle.commit_judge.specs.declared.build.Built.{Built}
+use Rattle.commit_judge.specs.declared.build.Built.TheVariants.{Ready, Refused}
+use Rattle.commit_judge.specs.declared.index.Index.{Index}
+use Rattle.recon_core.specs.Reads.{HasReadTrees, HasReads}
 use Rattle.recon_core.specs.Machine.{MachineState, answer_to, image_by, judged_image, settle_step, machine_step, with_pending}
-use Rattle.recon_core.specs.Standing.{BeginsWith, StandsFor, IsAccepted, IsBelow, AllMissPlace, Takes, BeginsOver}
+use Rattle.recon_core.specs.Standing.{BeginsWith, StandsFor, IsAccepted, IsBelow, AllMissPlace, Takes}
 use Rattle.recon_core.specs.Stops.{IsLeftBy, IsJudgedStop, IsStopImage}
 use Rattle.recon_core.specs.Judged.{IsSettled, IsLeftOf}
 
@@ -34,40 +40,44 @@ fetched None m at n k len over items bytes size e o b = tt
 fetched (Some image) m at n k len over items bytes size e o b =
     b ∙ take_at over (drop (length over) items) k size ∙ o ∙ ap (λ j. range at j (overlaid m 0 image)) e
 
--- a checker begins where the image is accepted
-pub begins_ready : (told : Option (List ℕ)) (len generation : ℕ) (m : FinMap nat_cmp ℕ) (v : Verdict) (checker : Checker) → m ≡ empty → v ≡ Accept generation → IfSome told (λ image. length image ≡ len)
-    → checker.cache ≡ empty → checker.closed ≡ false → checker.length ≡ len
-    → IfSome told (λ image. v ≡ full_check (overlaid m 0 image))
-    → IfSome told (λ image. BeginsOver image (Ready checker))
-begins_ready None len generation m v checker empty_ is size none open_ same says = tt
-begins_ready (Some image) len generation m v checker empty_ is size none open_ same says = record {
-  lawful = record {
-    accepted = (generation, sym (sym is ∙ says ∙ ap full_check (ap (λ n. overlaid n 0 image) empty_ ∙ overlaid-empty 0 image)));
-    inside = tt;
-    apart = tt;
-  };
-  cache = none ∙ sym cache_of-none;
-  closed = open_;
-  size = same ∙ sym size;
-}
+-- what the start of an index says, by the disk as it was before it was asked for its length
+pub built_from : {L : Type 0} (told now : Option (List ℕ)) (before begun after : ℕ) (built : Built L) → now ≡ told → begun ≡ before
+    → IfSome now (λ image. IsBuilt image begun after built) → IfSome told (λ image. IsBuilt image before after built)
+built_from told now before begun after built same reads says =
+    subst (λ o. IfSome o (λ image. IsBuilt image before after built)) same (subst (λ n. IfSome now (λ image. IsBuilt image n after built)) reads says)
 
--- with the generation
-pub begins_with : (told : Option (List ℕ)) (len generation : ℕ) (m : FinMap nat_cmp ℕ) (v : Verdict) (checker : Checker) → m ≡ empty → v ≡ Accept generation → IfSome told (λ image. length image ≡ len)
-    → checker.cache ≡ empty → checker.closed ≡ false → checker.length ≡ len
-    → IfSome told (λ image. v ≡ full_check (overlaid m 0 image))
+-- a checker begins where the image is accepted, with its generation
+pub begins_ready : {L : Type 0} (told : Option (List ℕ)) (len before after generation : ℕ) (built : Built L) (checker : Checker L) → built ≡ Ready checker.index → IfSome told (λ image. length image ≡ len)
+    → checker.cache ≡ empty → checker.closed ≡ false → checker.length ≡ len → generation ≡ checker.index.sup.generation
+    → IfSome told (λ image. IsBuilt image before after built)
     → IfSome told (λ image. BeginsWith image (Ok (checker, generation)))
-begins_with None len generation m v checker empty_ is size none open_ same says = tt
-begins_with (Some image) len generation m v checker empty_ is size none open_ same says = (
-  begins_ready (Some image) len generation m v checker empty_ is size none open_ same says,
-  sym (sym is ∙ says ∙ ap full_check (ap (λ n. overlaid n 0 image) empty_ ∙ overlaid-empty 0 image)),
-)
+begins_ready None len before after generation built checker is size none open_ same its says = tt
+begins_ready (Some image) len before after generation built checker is size none open_ same its says =
+    let ready : IsReady image before after checker.index = subst (IsBuilt image before after) is says in (
+      record {
+        lawful = record { accepted = (checker.index.sup.generation, ready.accepted); inside = tt; apart = tt };
+        cache = none ∙ sym cache_of-none;
+        index = ready.stands;
+        closed = open_;
+        size = same ∙ sym size;
+      },
+      ready.accepted ∙ ap Accept (sym its),
+    )
 
--- and is refused with the finding where it is not
-pub begins_refused : (told : Option (List ℕ)) (m : FinMap nat_cmp ℕ) (v : Verdict) (finding : Finding) → m ≡ empty → v ≡ Found finding
-    → IfSome told (λ image. v ≡ full_check (overlaid m 0 image))
-    → IfSome told (λ image. BeginsOver image (Refused finding))
-begins_refused None m v finding none is says = tt
-begins_refused (Some image) m v finding none is says = sym (sym is ∙ says ∙ ap full_check (ap (λ n. overlaid n 0 image) none ∙ overlaid-empty 0 image))
+pub begins_refused : {L : Type 0} (told : Option (List ℕ)) (before after : ℕ) (built : Built L) (finding : Finding) → built ≡ Refused finding
+    → IfSome told (λ image. IsBuilt image before after built)
+    → IfSome told (λ image. full_check image ≡ Found finding)
+begins_refused None before after built finding is says = tt
+begins_refused (Some image) before after built finding is says = subst (IsBuilt image before after) is says
+
+-- how often it was read
+pub begins_reads : {L : Type 0} (told : Option (List ℕ)) (before after : ℕ) (built : Built L) (index : Index L) → built ≡ Ready index
+    → IfSome told (λ image. IsBuilt image before after built)
+    → IfSome told (λ image. HasReadTrees image before after)
+begins_reads None before after built index is says = tt
+begins_reads (Some image) before after built index is says =
+    let ready : IsReady image before after index = subst (IsBuilt image before after) is says in
+    record { trees = ready.trees; walks = ready.walks; reads = ready.reads }
 
 is_none_some : (o : Option ℕ) → o ≡ None → IsSome o → ⊥
 is_none_some None e h = cc
@@ -87,7 +97,7 @@ below_put end m at bytes below fits i some = elim (cases_lt i at) [
 ]
 
 -- what is judged, by the writes that wait and one more
-pub judged_more : (checker : Checker) (state : MachineState) (at : ℕ) (bytes : List ℕ) → StandsFor checker state → at + length bytes ≤ length state.image
+pub judged_more : {L : Type 0} (checker : Checker L) (state : MachineState) (at : ℕ) (bytes : List ℕ) → StandsFor checker state → at + length bytes ≤ length state.image
     → overlaid (with_bytes checker.cache at bytes) 0 state.image ≡ applied state.image (state.pending ++ record { at = at; bytes = bytes } ∷ [])
 judged_more checker state at bytes stands fits =
     let w : HeldWrite = record { at = at; bytes = bytes } in
@@ -95,7 +105,7 @@ judged_more checker state at bytes stands fits =
     ∙ ap (λ m. overlaid m 0 state.image) (sym (cache_of-push state.pending w))
     ∙ overlaid-applied (state.pending ++ w ∷ []) state.image (AllInside-push (length state.image) state.pending w stands.lawful.inside fits)
 
-pub judged_all : (checker : Checker) (state : MachineState) → StandsFor checker state → overlaid checker.cache 0 state.image ≡ applied state.image state.pending
+pub judged_all : {L : Type 0} (checker : Checker L) (state : MachineState) → StandsFor checker state → overlaid checker.cache 0 state.image ≡ applied state.image state.pending
 judged_all checker state stands = ap (λ m. overlaid m 0 state.image) stands.cache ∙ overlaid-applied state.pending state.image stands.lawful.inside
 
 accepted_by : (v : Verdict) (judged old : List ℕ) → full_check judged ≡ v → IsAccepted old → IsAccepted (image_by v judged old)
@@ -107,13 +117,15 @@ length_by (Accept generation) judged old h = h
 length_by (Found finding) judged old h = refl
 
 -- a judged event
-pub takes_judged : (checker new : Checker) (s : MachineState) (m : FinMap nat_cmp ℕ) (said : Answer) (bytes : Option (List ℕ)) → IsAccepted s.image
-    → overlaid m 0 s.image ≡ judged_image s → IsSettled m said bytes s.image → new ≡ record checker { cache = empty }
+pub takes_judged : {L : Type 0} (checker new : Checker L) (s : MachineState) (m : FinMap nat_cmp ℕ) (said : Answer) (bytes : Option (List ℕ)) → IsAccepted s.image
+    → m ≡ cache_of s.pending → overlaid m 0 s.image ≡ judged_image s → IsSettled m new.index said bytes s.image → new ≡ record checker { cache = empty; index = new.index }
     → checker.closed ≡ s.closed → checker.length ≡ length s.image → Takes (settle_step s) said new bytes
-takes_judged checker new s m said bytes accepted judged settled is open_ size =
+takes_judged checker new s m said bytes accepted waiting judged settled is open_ size =
     let n : length (judged_image s) ≡ length s.image = ap length (sym judged) ∙ length-overlaid m 0 s.image in
     record {
-      answer = settled.0 ∙ ap (λ i. answer_to (full_check i)) judged;
+      answer = settled.says
+          ∙ ap (λ i. answer_to (full_check i) (blocks_between s.image m) (hot_between s.image m)) judged
+          ∙ ap (λ k. answer_to (full_check (judged_image s)) (blocks_between s.image k) (hot_between s.image k)) waiting;
       stands = record {
         lawful = record {
           accepted = accepted_by (full_check (judged_image s)) (judged_image s) s.image refl accepted;
@@ -121,11 +133,16 @@ takes_judged checker new s m said bytes accepted judged settled is open_ size =
           apart = tt;
         };
         cache = ap (λ k. k.cache) is ∙ sym cache_of-none;
+        index = subst (λ i. IndexStands (image_by (full_check i) i s.image) new.index) judged settled.stands;
         closed = ap (λ k. k.closed) is ∙ open_;
         size = ap (λ k. k.length) is ∙ size ∙ sym (length_by (full_check (judged_image s)) (judged_image s) s.image n);
       };
-      image = settled.1 ∙ ap (λ i. Some (image_by (full_check i) i s.image)) judged;
+      image = settled.holds ∙ ap (λ i. Some (image_by (full_check i) i s.image)) judged;
     }
+
+-- what is said of the image that a disk tells, of which the index stands
+at_image : (P Q : List ℕ → Type 0) (told : Option (List ℕ)) (image : List ℕ) → told ≡ Some image → P image → IfSome told (λ i. P i → Q i) → Q image
+at_image P Q told image is p h = subst (λ o. IfSome o (λ i. P i → Q i)) is h p
 
 -- what is left of an image where a call failed in a judged event
 judged_stop : (s : MachineState) (m : FinMap nat_cmp ℕ) (left : List ℕ) → m ≡ cache_of s.pending → overlaid m 0 s.image ≡ judged_image s → IsLeftOf m s.image left → IsJudgedStop s left
@@ -142,16 +159,24 @@ pub held_is : (s : MachineState) (submitter at : ℕ) (bytes : List ℕ) → mee
     → machine_step s (Write submitter at bytes) ≡ record { answer = Held; after = with_pending s (record { at = at; bytes = bytes }) }
 held_is s submitter at bytes h = ap (λ b. cond b (settle_step (with_pending s (record { at = at; bytes = bytes }))) (record { answer = Held; after = with_pending s (record { at = at; bytes = bytes }) })) h
 
-pub takes_commit : (checker new : Checker) (s : MachineState) (submitter at : ℕ) (data_ : List ℕ) (said : Answer) (before bytes : Option (List ℕ)) → StandsFor checker s
-    → at + length data_ ≤ length s.image → meets_superblock at (length data_) ≡ true → before ≡ Some s.image
-    → IfSome before (IsSettled (with_bytes checker.cache at data_) said bytes)
-    → new ≡ record checker { cache = empty } → Takes (machine_step s (Write submitter at data_)) said new bytes
-takes_commit checker new s submitter at data_ said before bytes stands fits meets told settled is =
-    subst (λ t. Takes t said new bytes) (sym (commit_is s submitter at data_ meets))
-    (takes_judged checker new (with_pending s (record { at = at; bytes = data_ })) (with_bytes checker.cache at data_) said bytes stands.lawful.accepted
-    (judged_more checker s at data_ stands fits) (subst (λ o. IfSome o (IsSettled (with_bytes checker.cache at data_) said bytes)) told settled) is stands.closed stands.size)
+-- what waits with a commit's own bytes
+waits_more : {L : Type 0} (checker : Checker L) (s : MachineState) (at : ℕ) (bytes : List ℕ) → StandsFor checker s
+    → with_bytes checker.cache at bytes ≡ cache_of (s.pending ++ record { at = at; bytes = bytes } ∷ [])
+waits_more checker s at bytes stands = ap (λ k. with_bytes k at bytes) stands.cache ∙ sym (cache_of-push s.pending (record { at = at; bytes = bytes }))
 
-each_some : {P Q : List ℕ → Type 0} (o : Option (List ℕ)) → ((x : List ℕ) → P x → Q x) → IsSomeAnd o P → IsSomeAnd o Q
+pub takes_commit : {L : Type 0} (checker new : Checker L) (s : MachineState) (submitter at : ℕ) (data_ : List ℕ) (said : Answer) (before bytes : Option (List ℕ)) → StandsFor checker s
+    → at + length data_ ≤ length s.image → meets_superblock at (length data_) ≡ true → before ≡ Some s.image
+    → IfSome before (λ image. IndexStands image checker.index → IsSettled (with_bytes checker.cache at data_) new.index said bytes image)
+    → new ≡ record checker { cache = empty; index = new.index } → Takes (machine_step s (Write submitter at data_)) said new bytes
+takes_commit checker new s submitter at data_ said before bytes stands fits meets told settled is =
+    let m : FinMap nat_cmp ℕ = with_bytes checker.cache at data_ in
+    subst (λ t. Takes t said new bytes) (sym (commit_is s submitter at data_ meets))
+    (takes_judged checker new (with_pending s (record { at = at; bytes = data_ })) m said bytes stands.lawful.accepted
+    (waits_more checker s at data_ stands) (judged_more checker s at data_ stands fits)
+    (at_image (λ image. IndexStands image checker.index) (λ image. IsSettled m new.index said bytes image) before s.image told stands.index settled)
+    is stands.closed stands.size)
+
+pub each_some : {P Q : List ℕ → Type 0} (o : Option (List ℕ)) → ((x : List ℕ) → P x → Q x) → IsSomeAnd o P → IsSomeAnd o Q
 each_some None f h = h
 each_some (Some x) f h = f x h
 
@@ -159,38 +184,45 @@ by_true : (b : Bool) (P Q : Type 0) → b ≡ true → P → MatchBool b P Q
 by_true true P Q is p = p
 by_true false P Q is p = absurd (cc)
 
-pub stop_commit : (checker : Checker) (s : MachineState) (submitter at : ℕ) (data_ : List ℕ) (before after : Option (List ℕ)) → StandsFor checker s
+pub stop_commit : {L : Type 0} (checker : Checker L) (s : MachineState) (submitter at : ℕ) (data_ : List ℕ) (before after : Option (List ℕ)) → StandsFor checker s
     → at + length data_ ≤ length s.image → meets_superblock at (length data_) ≡ true → before ≡ Some s.image
-    → IfSome before (λ image. IsSomeAnd after (IsLeftOf (with_bytes checker.cache at data_) image))
+    → IfSome before (λ image. IndexStands image checker.index → IsSomeAnd after (IsLeftOf (with_bytes checker.cache at data_) image))
     → IsSomeAnd after (IsStopImage s (Write submitter at data_))
 stop_commit checker s submitter at data_ before after stands fits meets told left =
     let w : HeldWrite = record { at = at; bytes = data_ } in
     let m : FinMap nat_cmp ℕ = with_bytes checker.cache at data_ in
-    let waits : m ≡ cache_of (s.pending ++ w ∷ []) = ap (λ k. with_bytes k at data_) stands.cache ∙ sym (cache_of-push s.pending w) in
     each_some {P = IsLeftOf m s.image} {Q = IsStopImage s (Write submitter at data_)} after
     (λ x h. by_true (meets_superblock at (length data_)) (IsJudgedStop (with_pending s w) x) (x ≡ s.image) meets
-    (judged_stop (with_pending s w) m x waits (judged_more checker s at data_ stands fits) h))
-    (subst (λ o. IfSome o (λ image. IsSomeAnd after (IsLeftOf m image))) told left)
+    (judged_stop (with_pending s w) m x (waits_more checker s at data_ stands) (judged_more checker s at data_ stands fits) h))
+    (at_image (λ image. IndexStands image checker.index) (λ image. IsSomeAnd after (IsLeftOf m image)) before s.image told stands.index left)
 
-pub stop_settle : (checker : Checker) (s : MachineState) (before after : Option (List ℕ)) → StandsFor checker s → before ≡ Some s.image
-    → IfSome before (λ image. IsSomeAnd after (IsLeftOf checker.cache image))
+pub stop_settle : {L : Type 0} (checker : Checker L) (s : MachineState) (before after : Option (List ℕ)) → StandsFor checker s → before ≡ Some s.image
+    → IfSome before (λ image. IndexStands image checker.index → IsSomeAnd after (IsLeftOf checker.cache image))
     → IsSomeAnd after (IsStopImage s Settle)
 stop_settle checker s before after stands told left =
     each_some {P = IsLeftOf checker.cache s.image} {Q = IsStopImage s Settle} after
     (λ x h. judged_stop s checker.cache x stands.cache (judged_all checker s stands) h)
-    (subst (λ o. IfSome o (λ image. IsSomeAnd after (IsLeftOf checker.cache image))) told left)
+    (at_image (λ image. IndexStands image checker.index) (λ image. IsSomeAnd after (IsLeftOf checker.cache image)) before s.image told stands.index left)
 
-pub takes_settle : (checker new : Checker) (s : MachineState) (said : Answer) (before bytes : Option (List ℕ)) → StandsFor checker s → before ≡ Some s.image
-    → IfSome before (IsSettled checker.cache said bytes) → new ≡ record checker { cache = empty } → Takes (machine_step s Settle) said new bytes
+pub takes_settle : {L : Type 0} (checker new : Checker L) (s : MachineState) (said : Answer) (before bytes : Option (List ℕ)) → StandsFor checker s → before ≡ Some s.image
+    → IfSome before (λ image. IndexStands image checker.index → IsSettled checker.cache new.index said bytes image)
+    → new ≡ record checker { cache = empty; index = new.index } → Takes (machine_step s Settle) said new bytes
 takes_settle checker new s said before bytes stands told settled is =
-    takes_judged checker new s checker.cache said bytes stands.lawful.accepted (judged_all checker s stands)
-    (subst (λ o. IfSome o (IsSettled checker.cache said bytes)) told settled) is stands.closed stands.size
+    takes_judged checker new s checker.cache said bytes stands.lawful.accepted stands.cache (judged_all checker s stands)
+    (at_image (λ image. IndexStands image checker.index) (λ image. IsSettled checker.cache new.index said bytes image) before s.image told stands.index settled)
+    is stands.closed stands.size
+
+-- how often a judged event reads
+pub reads_judged : {L : Type 0} (checker : Checker L) (s : MachineState) (said : Answer) (before : Option (List ℕ)) (first last : ℕ) → StandsFor checker s → before ≡ Some s.image
+    → IfSome before (λ image. IndexStands image checker.index → HasReads said first last) → HasReads said first last
+reads_judged checker s said before first last stands told reads =
+    at_image (λ image. IndexStands image checker.index) (λ image. HasReads said first last) before s.image told stands.index reads
 
 AllMissPlace-push : (ws : List HeldWrite) (w : HeldWrite) → AllMissPlace ws → meets_superblock w.at (length w.bytes) ≡ false → AllMissPlace (ws ++ w ∷ [])
 AllMissPlace-push [] w h g = (g, tt)
 AllMissPlace-push (v ∷ ws) w h g = (h.0, AllMissPlace-push ws w h.1 g)
 
-pub takes_held : (checker new : Checker) (s : MachineState) (submitter at : ℕ) (data_ : List ℕ) (said : Answer) (bytes : Option (List ℕ)) → StandsFor checker s
+pub takes_held : {L : Type 0} (checker new : Checker L) (s : MachineState) (submitter at : ℕ) (data_ : List ℕ) (said : Answer) (bytes : Option (List ℕ)) → StandsFor checker s
     → at + length data_ ≤ length s.image → meets_superblock at (length data_) ≡ false → bytes ≡ Some s.image → said ≡ Held
     → new ≡ record checker { cache = with_bytes checker.cache at data_ } → Takes (machine_step s (Write submitter at data_)) said new bytes
 takes_held checker new s submitter at data_ said bytes stands fits misses told is new_is =
@@ -199,14 +231,15 @@ takes_held checker new s submitter at data_ said bytes stands fits misses told i
       answer = is;
       stands = record {
         lawful = record { accepted = stands.lawful.accepted; inside = AllInside-push (length s.image) s.pending w stands.lawful.inside fits; apart = AllMissPlace-push s.pending w stands.lawful.apart misses };
-        cache = ap (λ k. k.cache) new_is ∙ ap (λ m. with_bytes m at data_) stands.cache ∙ sym (cache_of-push s.pending w);
+        cache = ap (λ k. k.cache) new_is ∙ waits_more checker s at data_ stands;
+        index = subst (λ k. IndexStands s.image k.index) (sym new_is) stands.index;
         closed = ap (λ k. k.closed) new_is ∙ stands.closed;
         size = ap (λ k. k.length) new_is ∙ stands.size;
       };
       image = told;
     })
 
-pub takes_fetch : (checker new : Checker) (s : MachineState) (at len : ℕ) (said : Answer) (before bytes : Option (List ℕ)) → StandsFor checker s
+pub takes_fetch : {L : Type 0} (checker new : Checker L) (s : MachineState) (at len : ℕ) (said : Answer) (before bytes : Option (List ℕ)) → StandsFor checker s
     → before ≡ Some s.image → bytes ≡ before → new ≡ checker
     → IfSome before (λ image. said ≡ Fetched (range at len (overlaid checker.cache 0 image)))
     → Takes (machine_step s (Fetch at len)) said new bytes
@@ -217,13 +250,12 @@ takes_fetch checker new s at len said before bytes stands told same is says = re
 }
 
 -- after a judged event the cache is empty or as it was
-pub below_after : {T E : Type 0} (end : ℕ) (r : Result T E) (old new : Checker) → IsBelow end old.cache
-    → OnOk r (new ≡ record old { cache = empty }) → OnErr r (new ≡ record old { closed = true }) → IsBelow end new.cache
-below_after end (Ok x) old new below ok err = subst (λ k. IsBelow end k.cache) (sym ok) (below_none end)
-below_after end (Err e) old new below ok err = subst (λ k. IsBelow end k.cache) (sym err) below
+pub below_after : {T E : Type 0} (end : ℕ) (r : Result T E) (old new : FinMap nat_cmp ℕ) → IsBelow end old → OnOk r (new ≡ empty) → OnErr r (new ≡ old) → IsBelow end new
+below_after end (Ok x) old new below ok err = subst (IsBelow end) (sym ok) (below_none end)
+below_after end (Err e) old new below ok err = subst (IsBelow end) (sym err) below
 
 -- after a write that waits or finds no memory it has that write or is as it was
-pub below_held : {T E : Type 0} (end : ℕ) (r : Result T E) (old new : Checker) (at : ℕ) (bytes : List ℕ) → IsBelow end old.cache → at + length bytes ≤ end
+pub below_held : {T E L : Type 0} (end : ℕ) (r : Result T E) (old new : Checker L) (at : ℕ) (bytes : List ℕ) → IsBelow end old.cache → at + length bytes ≤ end
     → OnOk r (new ≡ record old { cache = with_bytes old.cache at bytes }) → OnErr r (new ≡ old) → IsBelow end new.cache
 below_held end (Ok x) old new at bytes below fits ok err = subst (λ k. IsBelow end k.cache) (sym ok) (below_put end old.cache at bytes below fits)
 below_held end (Err e) old new at bytes below fits ok err = subst (λ k. IsBelow end k.cache) (sym err) below
@@ -241,3 +273,12 @@ with_ok (Err e) f p o = tt
 pub at_err : {T E P : Type 0} (r : Result T E) (e : E) → IsErrOf r e → OnErr r P → P
 at_err (Ok x) e is h = absurd (cc)
 at_err (Err x) e is h = h
+
+-- what an Ok says, in other words
+pub each_ok : {T E : Type 0} {P Q : T → Type 0} (r : Result T E) → ((x : T) → P x → Q x) → IfOk r P → IfOk r Q
+each_ok (Ok x) f h = f x h
+each_ok (Err e) f h = tt
+
+-- a write that waits reads nothing
+pub reads_held : (said : Answer) (reads : ℕ) → said ≡ Held → HasReads said reads reads
+reads_held said reads is = subst (λ a. HasReads a reads reads) (sym is) (omega arith)

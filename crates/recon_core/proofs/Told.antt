@@ -1,23 +1,22 @@
 -- What goes out to a disk that may not tell its bytes.
-use Rattle.std.proofs.Common.{◌≡◌, ℕ, ◌+◌, ◌-◌, ◌<◌, ◌≤◌, ◌⊎◌, ◌↔◌, inl, inr, min, Bool, true, false, List, [], ◌∷◌, get_or, length, take, drop, IsTrue, IsSome, Option, Some, None, IfSome, option_map, Result, Ok, Err, IsErr, OnOk, OnErr, refl, sym, ap, ◌∙◌, arith, subst}
+use Rattle.std.proofs.Common.{◌≡◌, ℕ, ◌+◌, ◌-◌, ◌<◌, ◌≤◌, ◌⊎◌, ◌↔◌, inl, inr, min, Bool, true, false, List, [], ◌∷◌, get_or, length, take, drop, IsTrue, IsSome, Option, Some, None, IfSome, option_map, Result, Ok, Err, IsErr, refl, sym, ap, ◌∙◌, arith, subst}
 use Rattle.std.specs.Option.{IsSomeAnd, unwrap_or}
 use Rattle.std.specs.Ordering.{nat_cmp}
 use Rattle.std.specs.FinMap.{FinMap, get}
 use Rattle.std.proofs.lemmas.Bool.{cases_lt}
-use Rattle.std.proofs.lemmas.List.{length-drop, length-take-le, get_or-take, get_or-drop, get_or_past}
-use Rattle.verdict.specs.Image.{range, written}
-use Rattle.verdict.proofs.Images.{length-written, get-written_before, get-written_behind}
+use Rattle.std.proofs.lemmas.List.{length-drop, length-take-le, get_or_past}
+use Rattle.verdict.specs.Image.{written}
 use Rattle.recon_disk.specs.declared.disk.Disk.{Ghosts}
-use Rattle.recon_disk.specs.Outside.{IsPartlyWritten, MayBeWritten, counted}
+use Rattle.recon_disk.specs.Outside.{MayBeWritten, counted}
 use Rattle.write_cache.specs.Cache.{overlaid}
 use Rattle.write_cache.specs.Pieces.{Piece, map_of, AreApart}
-use Rattle.write_cache.proofs.CacheLaws.{length-overlaid, get-overlaid, range-overlaid_image}
+use Rattle.write_cache.proofs.CacheLaws.{length-overlaid, get-overlaid}
 use Rattle.recon_core.specs.Stops.{IsPartlySent}
 use Rattle.recon_core.specs.Standing.{IsBelow}
-use Rattle.recon_core.specs.Sent.{StaysButForPiece, with_place_of, sent_piece, IsAllOrPart}
-use Rattle.recon_disk.specs.Sending.{Sends, StaysOutside}
+use Rattle.recon_core.specs.Sent.{IsAllOrPart, IsPlaceOf, LetsThrough, StaysButForPiece, with_place_of, sent_piece}
+use Rattle.recon_disk.specs.Sending.{StaysOutside}
 use Rattle.recon_core.proofs.Places.{place_same, place_last, length-with_place_of, get-with_place_of_in, get-with_place_of_out, inside_place, outside_place, where_is}
-use Rattle.recon_disk.proofs.Sending.{written-nil, written-more, outside_then, outside_wider, written_outside}
+use Rattle.recon_disk.proofs.Sending.{outside_then, outside_wider, written_outside}
 use Rattle.recon_core.proofs.Law.{sent_all, some_is, length-sent_piece, sent_piece-out, sent_piece-place, first_inside, get-map_of_rest, get-map_of_first, in_range, out_of_range, ranged, all_sent}
 
 -- a piece went out, or one of its two runs failed
@@ -98,7 +97,7 @@ left_below end m left of_map below i some = elim (some_or_none (get m i)) [
   | inr none ↦ absurd (not_none (get (map_of left) i) some (of_map i none))
 ]
 
-nothing_sent : (m : FinMap nat_cmp ℕ) (image : List ℕ) → IsPartlySent m image image
+pub nothing_sent : (m : FinMap nat_cmp ℕ) (image : List ℕ) → IsPartlySent m image image
 nothing_sent m image = record { same_length = refl; place = λ i l h. refl; others = λ i n. refl }
 
 pub begin_sending : (m : FinMap nat_cmp ℕ) (first : Option (List ℕ)) (len : ℕ) (pieces : List Piece) → IfSome first (λ image. length image ≡ len) → 69632 ≤ len → IsBelow len m
@@ -189,33 +188,29 @@ piece_fails m first now last p left so h =
     ] so.part
 
 -- where nothing meets the superblock place, what went out is all
-pub told_settled : (first last : Option (List ℕ)) (len : ℕ) (m : FinMap nat_cmp ℕ) → IfSome first (λ image. length image ≡ len) → 69632 ≤ len
+pub told_settled : (first last : Option (List ℕ)) (len : ℕ) (m : FinMap nat_cmp ℕ) (place : List ℕ) → IfSome first (λ image. length image ≡ len) → 69632 ≤ len
     → ((i : ℕ) → 65536 ≤ i → i < 69632 → get m i ≡ None)
     → last ≡ option_map (λ image. with_place_of image (overlaid m 0 image)) first
-    → last ≡ option_map (λ image. overlaid m 0 image) first
-told_settled None last len m size long apart l = l
-told_settled (Some image) last len m size long apart l =
+    → IfSome first (λ image. IsPlaceOf m place image → last ≡ Some (overlaid m 0 image))
+told_settled None last len m place size long apart l = tt
+told_settled (Some image) last len m place size long apart l = λ right.
     l ∙ ap Some (place_same image (overlaid m 0 image) (length-overlaid m 0 image) (omega arith) (λ i low high.
     get-overlaid m 0 image i (omega arith) ∙ ap (λ o. unwrap_or o (get_or image i 0)) (ap (get m) (omega arith) ∙ apart i low high)))
 
 -- and with the whole place behind it, all of a commit
-pub told_commit : (first mid last : Option (List ℕ)) (len : ℕ) (m : FinMap nat_cmp ℕ) (place read : List ℕ) → IfSome first (λ image. length image ≡ len) → 69632 ≤ len
-    → IfSome first (λ image. read ≡ range 65536 4096 image) → place ≡ overlaid m 65536 read
+commit_told : (m : FinMap nat_cmp ℕ) (image place : List ℕ) → 69632 ≤ length image → IsPlaceOf m place image
+    → written (with_place_of image (overlaid m 0 image)) 65536 place ≡ overlaid m 0 image
+commit_told m image place long right =
+    ap (written (with_place_of image (overlaid m 0 image)) 65536) right
+    ∙ place_last image (overlaid m 0 image) (length-overlaid m 0 image) (omega arith)
+
+pub told_commit : (first mid last : Option (List ℕ)) (len : ℕ) (m : FinMap nat_cmp ℕ) (place : List ℕ) → IfSome first (λ image. length image ≡ len) → 69632 ≤ len
     → mid ≡ option_map (λ image. with_place_of image (overlaid m 0 image)) first
     → last ≡ option_map (λ image. written image 65536 place) mid
-    → last ≡ option_map (λ image. overlaid m 0 image) first
-told_commit None mid last len m place read size long r p e l = l ∙ ap (option_map (λ image. written image 65536 place)) e
-told_commit (Some image) mid last len m place read size long r p e l =
-    let over : List ℕ = overlaid m 0 image in
-    let q : place ≡ range 65536 4096 over = p ∙ ap (overlaid m 65536) r ∙ sym (range-overlaid_image m image 65536 4096) in
-    l ∙ ap (option_map (λ i. written i 65536 place)) e
-    ∙ ap (λ x. Some (written (with_place_of image over) 65536 x)) q
-    ∙ ap Some (place_last image over (length-overlaid m 0 image) (omega arith))
-
--- what was sent to a disk that was read before
-pub read_first : (first begun last : Option (List ℕ)) (m : FinMap nat_cmp ℕ) → begun ≡ first → last ≡ option_map (λ image. with_place_of image (overlaid m 0 image)) begun
-    → last ≡ option_map (λ image. with_place_of image (overlaid m 0 image)) first
-read_first first begun last m same l = l ∙ ap (option_map (λ image. with_place_of image (overlaid m 0 image))) same
+    → IfSome first (λ image. IsPlaceOf m place image → last ≡ Some (overlaid m 0 image))
+told_commit None mid last len m place size long e l = tt
+told_commit (Some image) mid last len m place size long e l = λ right.
+    l ∙ ap (option_map (λ i. written i 65536 place)) e ∙ ap Some (commit_told m image place (omega arith) right)
 
 -- where no byte waits, a laid-over image has its own
 over_none : (m : FinMap nat_cmp ℕ) (image : List ℕ) (i : ℕ) → get m i ≡ None → get_or (overlaid m 0 image) i 0 ≡ get_or image i 0
@@ -239,15 +234,36 @@ but_place m image long =
       ];
     }
 
--- what is left where all but the place went out, or all
-pub left_but_place : (first mid last : Option (List ℕ)) (len : ℕ) (m : FinMap nat_cmp ℕ) → IfSome first (λ image. length image ≡ len) → 69632 ≤ len
-    → mid ≡ option_map (λ image. with_place_of image (overlaid m 0 image)) first → last ≡ mid → IfSome first (λ image. IsSomeAnd last (IsAllOrPart m image))
-left_but_place None mid last len m size long e h = tt
-left_but_place (Some image) mid last len m size long e h = subst (λ o. IsSomeAnd o (IsAllOrPart m image)) (sym (h ∙ e)) (inr (but_place m image (omega arith)))
+-- what is left where a run failed, where all but the place went out, or all
+pub left_part : (first last : Option (List ℕ)) (m : FinMap nat_cmp ℕ) (place : List ℕ) → IfSome first (λ image. IsSomeAnd last (IsPartlySent m image))
+    → IfSome first (λ image. IsPlaceOf m place image → IsSomeAnd last (IsAllOrPart m image))
+left_part None last m place h = tt
+left_part (Some image) None m place h = λ right. h
+left_part (Some image) (Some left) m place h = λ right. inr h
 
-pub left_all : (first mid last : Option (List ℕ)) (m : FinMap nat_cmp ℕ) → mid ≡ option_map (λ image. overlaid m 0 image) first → last ≡ mid → IfSome first (λ image. IsSomeAnd last (IsAllOrPart m image))
-left_all None mid last m e h = tt
-left_all (Some image) mid last m e h = subst (λ o. IsSomeAnd o (IsAllOrPart m image)) (sym (h ∙ e)) (inl refl)
+pub left_but_place : (first mid last : Option (List ℕ)) (len : ℕ) (m : FinMap nat_cmp ℕ) (place : List ℕ) → IfSome first (λ image. length image ≡ len) → 69632 ≤ len
+    → mid ≡ option_map (λ image. with_place_of image (overlaid m 0 image)) first → last ≡ mid → IfSome first (λ image. IsPlaceOf m place image → IsSomeAnd last (IsAllOrPart m image))
+left_but_place None mid last len m place size long e h = tt
+left_but_place (Some image) mid last len m place size long e h = λ right. subst (λ o. IsSomeAnd o (IsAllOrPart m image)) (sym (h ∙ e)) (inr (but_place m image (omega arith)))
+
+pub left_all : (first mid last : Option (List ℕ)) (m : FinMap nat_cmp ℕ) (place : List ℕ) → IfSome first (λ image. IsPlaceOf m place image → mid ≡ Some (overlaid m 0 image)) → last ≡ mid
+    → IfSome first (λ image. IsPlaceOf m place image → IsSomeAnd last (IsAllOrPart m image))
+left_all None mid last m place e h = tt
+left_all (Some image) mid last m place e h = λ right. subst (λ o. IsSomeAnd o (IsAllOrPart m image)) (sym (h ∙ e right)) (inl refl)
+
+-- a step that stops at a failed call
+pub stops_through : {D T E : Type 0} (disk : Ghosts D) (old new : D) (m : FinMap nat_cmp ℕ) (place : List ℕ) (r : Result T E) → IsErr r
+    → IfSome (disk.bytes old) (λ image. IsPlaceOf m place image → IsSomeAnd (disk.bytes new) (IsAllOrPart m image)) → disk.len new ≡ disk.len old
+    → disk.faults old ≤ disk.faults new → counted (disk.faults old) ≤ disk.faults new → disk.reads new ≡ disk.reads old → LetsThrough disk old new m place r
+stops_through disk old new m place (Ok x) err left len grows failed reads = absurd (cc)
+stops_through disk old new m place (Err e) err left len grows failed reads =
+    record { made = tt; left = left; len = len; cause = record { grows = grows; failed = failed; fine = tt }; reads = reads }
+
+-- a flush behind what was made
+pub made_too : (first mid last : Option (List ℕ)) (m : FinMap nat_cmp ℕ) (place : List ℕ) → IfSome first (λ image. IsPlaceOf m place image → mid ≡ Some (overlaid m 0 image)) → last ≡ mid
+    → IfSome first (λ image. IsPlaceOf m place image → last ≡ Some (overlaid m 0 image))
+made_too None mid last m place e h = tt
+made_too (Some image) mid last m place e h = λ right. h ∙ e right
 
 -- the write of the place failed: it wrote the whole place or nothing
 place_left : (m : FinMap nat_cmp ℕ) (image mid place : List ℕ) (last : Option (List ℕ)) → length place ≡ 4096 → IsPartlySent m image mid → written mid 65536 place ≡ overlaid m 0 image
@@ -258,19 +274,14 @@ place_left m image mid place last size part all may =
       | inr whole ↦ inl (whole ∙ all)
     ])
 
-some_one : (a b : List ℕ) → Some a ≡ Some b → a ≡ b
-some_one a b h = cc
-
-pub place_fails : (first mid last : Option (List ℕ)) (len : ℕ) (m : FinMap nat_cmp ℕ) (place read : List ℕ) → IfSome first (λ image. length image ≡ len) → 69632 ≤ len
-    → IfSome first (λ image. read ≡ range 65536 4096 image) → place ≡ overlaid m 65536 read → length place ≡ 4096
+pub place_fails : (first mid last : Option (List ℕ)) (len : ℕ) (m : FinMap nat_cmp ℕ) (place : List ℕ) → IfSome first (λ image. length image ≡ len) → 69632 ≤ len
+    → length place ≡ 4096
     → mid ≡ option_map (λ image. with_place_of image (overlaid m 0 image)) first
     → MayBeWritten mid 65536 place last
-    → IfSome first (λ image. IsSomeAnd last (IsAllOrPart m image))
-place_fails None mid last len m place read size long r p n e may = tt
-place_fails (Some image) mid last len m place read size long r p n e may =
-    let but : List ℕ = with_place_of image (overlaid m 0 image) in
-    place_left m image but place last n (but_place m image (omega arith))
-    (some_one _ _ (told_commit (Some image) (Some but) (Some (written but 65536 place)) len m place read size long r p refl refl))
+    → IfSome first (λ image. IsPlaceOf m place image → IsSomeAnd last (IsAllOrPart m image))
+place_fails None mid last len m place size long n e may = tt
+place_fails (Some image) mid last len m place size long n e may = λ right.
+    place_left m image (with_place_of image (overlaid m 0 image)) place last n (but_place m image (omega arith)) (commit_told m image place (omega arith) right)
     (subst (λ o. MayBeWritten o 65536 place last) e may)
 
 none_or_some : (o : Option ℕ) → (IsSome o → o ≡ None) → o ≡ None

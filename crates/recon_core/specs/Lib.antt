@@ -1,5 +1,6 @@
 pub mod Machine
 pub mod Standing
+pub mod Reads
 pub mod Stops
 pub mod Sent
 pub mod Judged

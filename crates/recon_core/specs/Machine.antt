@@ -8,7 +8,9 @@ use Rattle.verdict.specs.declared.machine.Event.{Event}
 use Rattle.verdict.specs.declared.machine.Event.TheVariants.{Write, Settle, Fetch}
 use Rattle.verdict.specs.declared.machine.Answer.{Answer}
 use Rattle.verdict.specs.declared.machine.Answer.TheVariants.{Held, Fetched, Passed, Rejected}
+use Rattle.write_cache.specs.Cache.{cache_of}
 use Rattle.records.specs.FullCheck.{full_check}
+use Rattle.commit_judge.specs.Counts.{blocks_between, hot_between}
 use Rattle.verdict.specs.declared.finding.Verdict.{Verdict}
 use Rattle.verdict.specs.declared.finding.Verdict.TheVariants.{Accept, Found}
 
@@ -32,21 +34,21 @@ judged_image s = applied s.image s.pending
 abbrev pub with_pending : MachineState → HeldWrite → MachineState
 with_pending s w = record { image = s.image; pending = s.pending ++ w ∷ []; closed = s.closed }
 
--- the answer to a judged event
-abbrev pub answer_to : Verdict → Answer
-answer_to (Accept generation) = Passed generation 0 0
-answer_to (Found finding) = Rejected finding
+-- the answer to a judged event, with how many blocks the two images do not share, and how many of the old ones a stop may harm
+abbrev pub answer_to : Verdict → ℕ → ℕ → Answer
+answer_to (Accept generation) blocks hot = Passed generation blocks hot
+answer_to (Found finding) blocks hot = Rejected finding
 
 -- of two images the first where the full check accepts, and else the second
 abbrev pub image_by : Verdict → List ℕ → List ℕ → List ℕ
 image_by (Accept generation) judged old = judged
 image_by (Found finding) judged old = old
 
--- A judged event: where the full check accepts, the image becomes the judged one, and else it stays.
--- Nothing waits any more.
+-- A judged event: where the full check accepts, the image becomes the judged one, and else it stays. The blocks are counted between the
+-- image before the event and the judged one. Nothing waits any more.
 abbrev pub judged_step : MachineState → Verdict → Step
 judged_step s verdict = record {
-  answer = answer_to verdict;
+  answer = answer_to verdict (blocks_between s.image (cache_of s.pending)) (hot_between s.image (cache_of s.pending));
   after = record { image = image_by verdict (judged_image s) s.image; pending = []; closed = s.closed };
 }
 

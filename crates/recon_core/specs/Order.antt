@@ -1,5 +1,5 @@
 -- In which calls the bytes of a passed event go out to the device, and in which order.
-use Rattle.std.specs.Prelude.{ℕ, zero, suc, ◌≡◌, ◌+◌, ◌-◌, ◌/◌, ◌<◌, ◌≤◌, ◌↔◌, ◌⊎◌, Bool, true, false, IsTrue, List, [], ◌∷◌, ◌++◌, length, take, drop, max, Option, IfSome, IsSome}
+use Rattle.std.specs.Prelude.{ℕ, ◌≡◌, ◌-◌, ◌<◌, ◌≤◌, ◌↔◌, ◌⊎◌, Bool, true, false, IsTrue, List, [], ◌∷◌, ◌++◌, take, drop, max, Option, IfSome, IsSome}
 use Rattle.std.specs.List.{flat_map}
 use Rattle.std.specs.Ordering.{nat_cmp}
 use Rattle.std.specs.FinMap.{FinMap, get}
@@ -42,20 +42,21 @@ pub record AreCallsOf (waiting : FinMap nat_cmp ℕ) (judged : List ℕ) (calls 
 abbrev pub HasSentOut : FinMap nat_cmp ℕ → List ℕ → Option (List Sent) → Option (List Sent) → Type 0
 HasSentOut waiting judged before now = (calls : List Sent) × AreCallsOf waiting judged calls × (now ≡ and_sent before calls)
 
--- what was sent where a call failed: nothing, or a front of the calls that send out what waits
-unfoldable pub HasSentPart : FinMap nat_cmp ℕ → Option (List ℕ) → Option (List Sent) → Option (List Sent) → Type 0
-HasSentPart waiting bytes before now =
+-- What was sent where a call failed: nothing, or a front of the calls that send out what waits. The calls are said of the disk's image, where
+-- it is told, and where this holds of it.
+unfoldable pub HasSentPart : (List ℕ → Type 0) → FinMap nat_cmp ℕ → Option (List ℕ) → Option (List Sent) → Option (List Sent) → Type 0
+HasSentPart IsOf waiting bytes before now =
     (now ≡ before)
-    ⊎ IfSome bytes (λ image. (calls : List Sent) × AreCallsOf waiting (overlaid waiting 0 image) calls × HasSentFront calls before now)
+    ⊎ IfSome bytes (λ image. IsOf image → (calls : List Sent) × AreCallsOf waiting (overlaid waiting 0 image) calls × HasSentFront calls before now)
 
 -- all that waits when an event is judged: a commit's own bytes lie over the others
 abbrev pub judged_with : FinMap nat_cmp ℕ → Event → FinMap nat_cmp ℕ
 judged_with waiting (Write submitter at bytes) = with_bytes waiting at bytes
 judged_with waiting _ = waiting
 
--- what an answer sent to a disk that held these bytes, where it tells them: with `Passed` what waits went out, and with
--- any other answer nothing
-unfoldable pub HasSentBy : Answer → FinMap nat_cmp ℕ → Option (List ℕ) → Option (List Sent) → Option (List Sent) → Type 0
-HasSentBy (Passed generation blocks hot) waiting bytes before now =
-    IfSome bytes (λ image. HasSentOut waiting (overlaid waiting 0 image) before now)
-HasSentBy _ waiting bytes before now = now ≡ before
+-- What an answer sent to a disk that held these bytes, where it tells them and this holds of them: with `Passed` what waits went out. With
+-- any other answer nothing was sent.
+unfoldable pub HasSentBy : (List ℕ → Type 0) → Answer → FinMap nat_cmp ℕ → Option (List ℕ) → Option (List Sent) → Option (List Sent) → Type 0
+HasSentBy IsOf (Passed generation blocks hot) waiting bytes before now =
+    IfSome bytes (λ image. IsOf image → HasSentOut waiting (overlaid waiting 0 image) before now)
+HasSentBy IsOf _ waiting bytes before now = now ≡ before

@@ -1,5 +1,5 @@
 -- These words serve private functions alone: what goes out to a disk step by step.
-use Rattle.std.specs.Prelude.{ℕ, ◌≡◌, ◌+◌, ◌-◌, ◌<◌, ◌≤◌, ◌⊎◌, List, length, take, drop, min, Option, Result, OnOk, OnErr, IfSome, option_map, slice_index}
+use Rattle.std.specs.Prelude.{ℕ, ◌≡◌, ◌+◌, ◌-◌, ◌<◌, ◌≤◌, ◌⊎◌, List, length, take, drop, min, Option, Some, Result, OnOk, OnErr, IfSome, slice_index}
 use Rattle.std.specs.Option.{IsSomeAnd}
 use Rattle.std.specs.Ordering.{nat_cmp}
 use Rattle.std.specs.FinMap.{FinMap}
@@ -26,7 +26,8 @@ with_place_of other image = written image 65536 (range 65536 4096 other)
 -- an image with a piece's bytes before the superblock place over it, and those behind it
 unfoldable pub sent_piece : List ℕ → ℕ → List ℕ → List ℕ
 sent_piece image at bytes =
-    written (written image at (take (min (65536 - at) (length bytes)) bytes)) (at + min (69632 - at) (length bytes)) (drop (min (69632 - at) (length bytes)) bytes)
+    written (written image at (take (min (65536 - at) (length bytes)) bytes)) (at + min (69632 - at) (length bytes))
+    (drop (min (69632 - at) (length bytes)) bytes)
 
 -- all that waits went out, or a part of it outside the superblock place
 abbrev pub IsAllOrPart : FinMap nat_cmp ℕ → List ℕ → List ℕ → Type 0
@@ -39,3 +40,17 @@ HasSentRuns waiting before now = (pieces : List Piece) × ArePiecesOf waiting pi
 -- a front of them did
 abbrev pub HasSentSomeRuns : FinMap nat_cmp ℕ → Option (List Sent) → Option (List Sent) → Type 0
 HasSentSomeRuns waiting before now = (pieces : List Piece) × ArePiecesOf waiting pieces × HasSentFront (pieces_calls pieces) before now
+
+-- the bytes are those of the superblock place of an image with the waiting bytes over it
+abbrev pub IsPlaceOf : FinMap nat_cmp ℕ → List ℕ → List ℕ → Type 0
+IsPlaceOf waiting place image = place ≡ range 65536 4096 (overlaid waiting 0 image)
+
+-- What is left of a disk once all that waits is let through with these bytes as the superblock place: where they are those of its image the
+-- whole, or a part where a call failed. Nothing is read.
+pub record LetsThrough {D T E : Type 0} (disk : Ghosts D) (old new : D) (waiting : FinMap nat_cmp ℕ) (place : List ℕ)
+    (result : Result T E) : Type 0 where
+  pub made : OnOk result (IfSome (disk.bytes old) (λ image. IsPlaceOf waiting place image → disk.bytes new ≡ Some (overlaid waiting 0 image)))
+  pub left : OnErr result (IfSome (disk.bytes old) (λ image. IsPlaceOf waiting place image → IsSomeAnd (disk.bytes new) (IsAllOrPart waiting image)))
+  pub len : disk.len new ≡ disk.len old
+  pub cause : HasCause (disk.faults old) (disk.faults new) result
+  pub reads : disk.reads new ≡ disk.reads old

@@ -15,6 +15,7 @@ use Rattle.write_cache.specs.Cache.{cache_of, AllInside}
 use Rattle.records.specs.FullCheck.{full_check}
 use Rattle.verdict.specs.declared.finding.Finding.{Finding}
 use Rattle.verdict.specs.declared.finding.Verdict.TheVariants.{Accept, Found}
+use Rattle.commit_judge.specs.Index.{IndexStands}
 use Rattle.recon_core.specs.declared.checker.Checker.{Checker}
 use Rattle.recon_core.specs.declared.checker.Started.{Started}
 use Rattle.recon_core.specs.declared.checker.Started.TheVariants.{Ready, Refused}
@@ -37,10 +38,11 @@ pub record IsMachineState (state : MachineState) : Type 0 where
   pub apart : AllMissPlace state.pending
 
 -- The checker stands for the state: its cache has exactly the offsets that the waiting writes touch,
--- each with the newest byte, and its flag and its length are those of the state.
-pub record StandsFor (checker : Checker) (state : MachineState) : Type 0 where
+-- each with the newest byte, its index stands for the image, and its flag and its length are those of the state.
+pub record StandsFor {L : Type 0} (checker : Checker L) (state : MachineState) : Type 0 where
   pub lawful : IsMachineState state
   pub cache : checker.cache ≡ cache_of state.pending
+  pub index : IndexStands state.image checker.index
   pub closed : checker.closed ≡ state.closed
   pub size : checker.length ≡ length state.image
 
@@ -53,31 +55,31 @@ abbrev pub first_state : List ℕ → MachineState
 first_state image = record { image = image; pending = []; closed = false }
 
 -- how a checker begins over a disk with this image
-abbrev pub BeginsOver : List ℕ → Started → Type 0
+abbrev pub BeginsOver : {L : Type 0} → List ℕ → Started L → Type 0
 BeginsOver image (Ready checker) = StandsFor checker (first_state image)
 BeginsOver image (Refused finding) = full_check image ≡ Found finding
 
 -- the same with the generation of the accepted image, or with the finding
-abbrev pub BeginsWith : List ℕ → Result (Checker × ℕ) Finding → Type 0
+abbrev pub BeginsWith : {L : Type 0} → List ℕ → Result (Checker L × ℕ) Finding → Type 0
 BeginsWith image (Ok begun) = StandsFor begun.0 (first_state image) × (full_check image ≡ Accept begun.1)
 BeginsWith image (Err finding) = full_check image ≡ Found finding
 
 -- a checker over a disk of this length over which nothing happened yet
-abbrev pub IsFirst : ℕ → Checker → Type 0
+abbrev pub IsFirst : {L : Type 0} → ℕ → Checker L → Type 0
 IsFirst len checker = (checker.cache ≡ empty) × (checker.closed ≡ false) × (checker.length ≡ len)
 
-abbrev pub BeginsOpen : ℕ → Result (Checker × ℕ) Finding → Type 0
+abbrev pub BeginsOpen : {L : Type 0} → ℕ → Result (Checker L × ℕ) Finding → Type 0
 BeginsOpen len (Ok begun) = IsFirst len begun.0
 BeginsOpen len (Err finding) = Unit {0}
 
 -- how it begins over a disk of this length
-abbrev pub BeginsAt : ℕ → Started → Type 0
+abbrev pub BeginsAt : {L : Type 0} → ℕ → Started L → Type 0
 BeginsAt len (Ready checker) = IsFirst len checker
 BeginsAt len (Refused finding) = Unit {0}
 
 -- The refusal of an event before anything is done: the checker is closed, or the event's range passes
 -- the end of the device.
-abbrev pub refusal_of : Checker → Event → Option Stop
+abbrev pub refusal_of : {L : Type 0} → Checker L → Event → Option Stop
 refusal_of checker event =
     if checker.closed then Some Closed
     else if nat_lt checker.length (end_of event) then Some (PastEnd (begin_of event) (length_of event) checker.length)
@@ -124,11 +126,11 @@ IsAnswerTo Settle answer = IsJudgement answer
 IsAnswerTo (Fetch at len) answer = IsFetched len answer
 
 -- What want of memory leaves of the checker: all stays, and after a judged event it is closed.
-abbrev pub IsAfterWant : Event → Checker → Checker → Type 0
+abbrev pub IsAfterWant : {L : Type 0} → Event → Checker L → Checker L → Type 0
 IsAfterWant event old new = MatchBool (is_judged event) (new.closed ≡ true) (new ≡ old)
 
 -- what was answered, the checker and the disk's bytes are those of a step of the machine
-pub record Takes (step : Step) (said : Answer) (checker : Checker) (bytes : Option (List ℕ)) : Type 0 where
+pub record Takes {L : Type 0} (step : Step) (said : Answer) (checker : Checker L) (bytes : Option (List ℕ)) : Type 0 where
   pub answer : said ≡ step.answer
   pub stands : StandsFor checker step.after
   pub image : bytes ≡ Some step.after.image

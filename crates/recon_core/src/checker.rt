@@ -5,18 +5,24 @@ ghost use Rattle.recon_core.specs.Judged.{stop_for};
 
 use crate::fetching::fetch;
 use crate::judging::judge_waiting;
-use plain_check::{Fault, Verdict, judge_within};
+use chunk_map::Bases;
+use commit_judge::{Built, Index};
+use plain_check::Fault;
 use recon_disk::{Disk, Steps};
 use std::alloc::Global;
 use verdict::{Answer, Event, Finding, HeldWrite, Stop, meets_superblock};
 use write_cache::WriteCache;
 
-/// A checker over a disk: what waits, whether it is closed, and the disk's length in bytes. A closed
-/// checker is not used again.
+/// A checker over a disk: what waits, what is known of the disk's image, whether it is closed, and the disk's length in
+/// bytes. A closed checker is not used again.
+///
+/// The mark `L` ties the index to its counter of looks.
 #[derive(Drop)]
-pub struct Checker {
+pub struct Checker<L> {
     /// The writes that wait.
     pub cache: WriteCache,
+    /// What is known of the disk's image.
+    pub index: Index<L>,
     /// Whether a fault closed it.
     pub closed: bool,
     /// The length of the disk in bytes.
@@ -25,14 +31,14 @@ pub struct Checker {
 
 /// What the start of a checker gives.
 #[derive(Drop)]
-pub enum Started {
+pub enum Started<L> {
     /// The disk's image is accepted, and nothing waits.
-    Ready(Checker),
+    Ready(Checker<L>),
     /// The full check's finding of the disk's image.
     Refused(Finding),
 }
 
-impl Checker {
+impl<L> Checker<L> {
     ghost use Rattle.std.specs.Prelude.{◌≡◌, ◌≢◌, ◌+◌, ◌^◌, ◌<◌, ◌≤◌, length, true, Some, None, Ok, Err, IfOk, IfErr, IfSome, OnOk, OnErr, IsSomeAnd, IsTrue, IsErrOf};
     ghost use Rattle.std.specs.FinMap as map;
     ghost use Rattle.verdict.specs.Events.{IsSized};
@@ -44,16 +50,20 @@ impl Checker {
     ghost use Rattle.recon_core.specs.Stops.{IsStopImage};
     ghost use Rattle.recon_core.specs.Judged.{Judges};
     ghost use Rattle.recon_core.specs.Order.{HasSentBy, HasSentPart, judged_with};
+    ghost use Rattle.recon_core.specs.Reads.{HasBegun, HasReads, HasStarted};
+    ghost use Rattle.commit_judge.specs.Index.{IndexStands};
 
-    /// A checker over the disk, where the full check accepts its image. The disk's bytes stay. Its
-    /// stops are `DiskFault` and `NoMemory`.
-    pub fn start<D: Disk, L>(
+    /// A checker over the disk, where the full check accepts its image. The disk's bytes stay. The superblock is one
+    /// read of the disk, and each block of the trees at most two. Its stops are `DiskFault` and `NoMemory`.
+    pub fn start<D: Disk>(
         alloc: Global,
         disk: &mut D,
         steps: &mut Steps<L>,
-    ) -> Result<Started, Stop>
+    ) -> Result<Started<L>, Stop>
         ensures told { IfOk result (λ started.
             IfSome (D.bytes disk.old) (λ image. BeginsOver image started)) }
+        ensures reads { IfOk result (λ started. IfSome (D.bytes disk.old)
+            (λ image. HasStarted image (D.reads disk.old) (D.reads disk.new) started)) }
         ensures ready { IfOk result (BeginsAt (D.len disk.old)) }
         ensures stops { IsNoRefusal result }
         ensures kept { Kept D.Disk disk.old disk.new (is_disk_fault result) }
@@ -66,26 +76,29 @@ impl Checker {
 
     /// The same, with the generation of the superblock where the image is accepted, and the finding where it is not. The
     /// length of the disk is asked once, and its image is read once.
-    pub fn begin<D: Disk, L>(
+    pub fn begin<D: Disk>(
         alloc: Global,
         disk: &mut D,
-        _steps: &mut Steps<L>,
-    ) -> Result<Result<(Checker, u64), Finding>, Stop>
+        steps: &mut Steps<L>,
+    ) -> Result<Result<(Checker<L>, u64), Finding>, Stop>
         ensures told { IfOk result (λ begun.
             IfSome (D.bytes disk.old) (λ image. BeginsWith image begun)) }
+        ensures reads { IfOk result (λ begun. IfSome (D.bytes disk.old)
+            (λ image. HasBegun image (D.reads disk.old) (D.reads disk.new) begun)) }
         ensures ready { IfOk result (BeginsOpen (D.len disk.old)) }
         ensures stops { IsNoRefusal result }
         ensures kept { Kept D.Disk disk.old disk.new (is_disk_fault result) }
     {
-        let cache = WriteCache::new(alloc);
         let Ok(length) = disk.length() else {
             return Err(Stop::DiskFault);
         };
-        match judge_within(alloc, disk, &cache, length) {
-            Ok(Verdict::Found(finding)) => Ok(Err(finding)),
-            Ok(Verdict::Accept { generation }) => {
+        match Index::build_within(alloc, disk, length, steps) {
+            Ok(Built::Refused(finding)) => Ok(Err(finding)),
+            Ok(Built::Ready(index)) => {
+                let generation = index.sup().generation;
                 let checker = Checker {
-                    cache,
+                    cache: WriteCache::new(alloc),
+                    index,
                     closed: false,
                     length,
                 };
@@ -108,13 +121,16 @@ impl Checker {
     /// waits outside the superblock place in rising order, each cut from its front into calls of 1,048,576
     /// bytes and a shorter last one; a flush; and on a commit the whole place in one call and a flush.
     /// Where a call fails, those before it were sent. Any other answer, and `NoMemory`, sends nothing.
+    ///
+    /// A write that waits reads nothing, and a fetch once. A judged event that passes reads at most twice each block
+    /// that the image before it and the judged one do not share.
     #[tactic(auto, unfolding(crate::specs::Order::HasSentBy, crate::specs::Order::HasSentPart))]
-    pub fn event<D: Disk, L>(
+    pub fn event<D: Disk>(
         &mut self,
         alloc: Global,
         disk: &mut D,
         ev: Event,
-        _steps: &mut Steps<L>,
+        steps: &mut Steps<L>,
     ) -> Result<Answer, Stop>
         requires length { self.old.length ≡ D.len disk.old }
         requires below { IsBelow self.old.length self.old.cache }
@@ -136,11 +152,18 @@ impl Checker {
             D.bytes disk.old ≡ Some state.image → IsErrOf result Stop.DiskFault →
             IsSomeAnd (D.bytes disk.new) (IsStopImage state ev) }
 
+        // How often the disk is read.
+        ensures reads { (state : MachineState) → StandsFor self.old state →
+            D.bytes disk.old ≡ Some state.image → IfOk result
+            (λ answer. HasReads answer (D.reads disk.old) (D.reads disk.new)) }
+
         // What a passed event sends to the disk, call by call, that no other answer sends anything, and
-        // what an event sends that has no answer.
-        ensures order { IfOk result (λ answer. HasSentBy answer (judged_with self.old.cache ev)
+        // what an event sends that has no answer. The calls are said where the index stands for the disk's image.
+        ensures order { IfOk result (λ answer.
+            HasSentBy (λ image. IndexStands image self.old.index) answer (judged_with self.old.cache ev)
             (D.bytes disk.old) (D.sent disk.old) (D.sent disk.new)) }
-        ensures part { OnErr result (HasSentPart (judged_with self.old.cache ev)
+        ensures part { OnErr result
+            (HasSentPart (λ image. IndexStands image self.old.index) (judged_with self.old.cache ev)
             (D.bytes disk.old) (D.sent disk.old) (D.sent disk.new)) }
 
         // What the other refusals leave.
@@ -172,12 +195,12 @@ impl Checker {
             Event::Write { at, bytes, .. } => {
                 let write = HeldWrite { at, bytes };
                 if meets_superblock(at, len) {
-                    self.commit(alloc, disk, write)
+                    self.commit(alloc, disk, write, steps)
                 } else {
                     self.hold(write)
                 }
             }
-            Event::Settle => self.settle(alloc, disk),
+            Event::Settle => self.settle(alloc, disk, steps),
             Event::Fetch { at, len } => self.fetch(alloc, disk, at, len),
         }
     }
@@ -198,23 +221,39 @@ impl Checker {
     }
 
     // All that waits is judged.
-    fn settle<D: Disk>(&mut self, alloc: Global, disk: &mut D) -> Result<Answer, Stop>
+    fn settle<D: Disk>(
+        &mut self,
+        alloc: Global,
+        disk: &mut D,
+        steps: &mut Steps<L>,
+    ) -> Result<Answer, Stop>
         requires length { self.old.length ≡ D.len disk.old }
         requires below { IsBelow (D.len disk.old) self.old.cache }
         ensures sort { IfOk result IsJudgement }
         ensures judged { Judges D.Disk disk.old disk.new
-            self.old.cache result (is_disk_fault result) }
-        ensures order { IfOk result (λ answer. HasSentBy answer
+            self.old.cache self.old.index self.new.index result (is_disk_fault result) }
+        ensures order { IfOk result (λ answer.
+            HasSentBy (λ image. IndexStands image self.old.index) answer
             self.old.cache (D.bytes disk.old) (D.sent disk.old) (D.sent disk.new)) }
-        ensures part { OnErr result (HasSentPart
+        ensures part { OnErr result (HasSentPart (λ image. IndexStands image self.old.index)
             self.old.cache (D.bytes disk.old) (D.sent disk.old) (D.sent disk.new)) }
         ensures memory { IsErrOf result Stop.NoMemory → D.bytes disk.new ≡ D.bytes disk.old }
         ensures unsent { IsErrOf result Stop.NoMemory → D.sent disk.new ≡ D.sent disk.old }
-        ensures ok { OnOk result (self.new ≡ record self.old { cache = map.empty }) }
-        ensures err { OnErr result (self.new ≡ record self.old { closed = true }) }
+        ensures ok { OnOk result
+            (self.new ≡ record self.old { cache = map.empty; index = self.new.index }) }
+        ensures err { OnErr result
+            (self.new ≡ record self.old { closed = true; index = self.new.index }) }
         ensures stops { IsNoRefusal result }
     {
-        match judge_waiting(alloc, disk, &mut self.cache, self.length) {
+        let judged = judge_waiting(
+            alloc,
+            disk,
+            &mut self.cache,
+            &mut self.index,
+            self.length,
+            steps,
+        );
+        match judged {
             Ok(answer) => Ok(answer),
             Err(fault) => {
                 self.closed = true;
@@ -230,6 +269,7 @@ impl Checker {
         alloc: Global,
         disk: &mut D,
         write: HeldWrite,
+        steps: &mut Steps<L>,
     ) -> Result<Answer, Stop>
         requires length { self.old.length ≡ D.len disk.old }
         requires small { D.len disk.old < 2 ^ 64 }
@@ -237,16 +277,19 @@ impl Checker {
         requires inside { write.at + length write.bytes ≤ D.len disk.old }
         ensures sort { IfOk result IsJudgement }
         ensures judged { Judges D.Disk disk.old disk.new
-            (with_bytes self.old.cache write.at write.bytes) result (is_disk_fault result) }
-        ensures order { IfOk result (λ answer. HasSentBy answer
+            (with_bytes self.old.cache write.at write.bytes)
+            self.old.index self.new.index result (is_disk_fault result) }
+        ensures order { IfOk result (λ answer.
+            HasSentBy (λ image. IndexStands image self.old.index) answer
             (with_bytes self.old.cache write.at write.bytes)
             (D.bytes disk.old) (D.sent disk.old) (D.sent disk.new)) }
-        ensures part { OnErr result (HasSentPart
+        ensures part { OnErr result (HasSentPart (λ image. IndexStands image self.old.index)
             (with_bytes self.old.cache write.at write.bytes)
             (D.bytes disk.old) (D.sent disk.old) (D.sent disk.new)) }
         ensures memory { IsErrOf result Stop.NoMemory → D.bytes disk.new ≡ D.bytes disk.old }
         ensures unsent { IsErrOf result Stop.NoMemory → D.sent disk.new ≡ D.sent disk.old }
-        ensures ok { OnOk result (self.new ≡ record self.old { cache = map.empty }) }
+        ensures ok { OnOk result
+            (self.new ≡ record self.old { cache = map.empty; index = self.new.index }) }
         ensures err { OnErr result
             ((self.new.closed ≡ true) × (self.new.length ≡ self.old.length)) }
         ensures inside { IsBelow (D.len disk.old) self.new.cache }
@@ -256,7 +299,7 @@ impl Checker {
             self.closed = true;
             return Err(Stop::NoMemory);
         };
-        self.settle(alloc, disk)
+        self.settle(alloc, disk, steps)
     }
 
     // The bytes of a range with all that waits over them.
@@ -279,6 +322,8 @@ impl Checker {
         ensures fault { IsErrOf result Stop.DiskFault →
             self.new ≡ record self.old { closed = true } }
         ensures stops { IsNoRefusal result }
+        ensures reads { IfOk result
+            (λ answer. HasReads answer (D.reads disk.old) (D.reads disk.new)) }
         ensures kept { Kept D.Disk disk.old disk.new (is_disk_fault result) }
     {
         match fetch(alloc, disk, &self.cache, at, len) {

@@ -1,6 +1,6 @@
 //! What reads through what waits.
 
-ghost use Rattle.std.specs.Prelude.{◌≡◌, length, ◌+◌, ◌^◌, ◌<◌, ◌≤◌, IfOk, IfSome};
+ghost use Rattle.std.specs.Prelude.{◌≡◌, length, ◌+◌, ◌^◌, ◌<◌, ◌≤◌, IfOk, IfSome, OnOk};
 ghost use Rattle.verdict.specs.Image.{range};
 ghost use Rattle.recon_disk.specs.Keeping.{Kept};
 ghost use Rattle.write_cache.specs.Cache.{overlaid};
@@ -27,6 +27,7 @@ pub fn fetch<D: Disk>(
     ensures size { IfOk result (λ bytes. length bytes ≡ len) }
     ensures bytes { IfOk result (λ bytes. IfSome (D.bytes disk.old)
         (λ image. bytes ≡ range at len (overlaid cache.now 0 image))) }
+    ensures reads { OnOk result (D.reads disk.new ≤ D.reads disk.old + 1) }
     ensures kept { Kept D.Disk disk.old disk.new (is_disk_fault result) }
 {
     let Ok(mut bytes) = vec![in alloc; 0u8; len as usize] else {

@@ -1,54 +1,65 @@
 //! What is done with all that waits.
 
-ghost use Rattle.std.specs.Prelude.{◌≡◌, ◌^◌, ◌<◌, IfOk, OnOk, OnErr, IsErrOf};
+ghost use Rattle.std.specs.Prelude.{◌≡◌, IfOk, OnOk, OnErr, IsErrOf};
 ghost use Rattle.std.specs.FinMap as map;
 ghost use Rattle.block_source.specs.Gives.{is_disk_fault};
+ghost use Rattle.commit_judge.specs.Index.{IndexStands};
 ghost use Rattle.recon_core.specs.Standing.{IsBelow, IsJudgement};
 ghost use Rattle.recon_core.specs.Judged.{Judges};
 ghost use Rattle.recon_core.specs.Order.{HasSentBy, HasSentPart};
 
 use crate::send::let_through;
-use plain_check::{Fault, Verdict, judge_within};
-use recon_disk::Disk;
+use commit_judge::{Index, Judged, judge_within};
+use plain_check::Fault;
+use recon_disk::{Disk, Steps};
 use std::alloc::Global;
 use verdict::Answer;
 use write_cache::WriteCache;
 
-/// Judges the image that all that waits would make, over a disk of `length` bytes. Where the full check accepts, it goes out to the
-/// disk; then nothing waits any more. After a fault all waits as before. All memory is taken before the
-/// first write.
+/// Judges the image that all that waits would make, over a disk of `length` bytes, by what an index says of the disk's image. Where the
+/// full check accepts, it goes out to the disk; then nothing waits any more, and the index stands for that image. After a fault all waits
+/// as before, and the index is spent. All memory is taken before the first write.
 #[tactic(auto, unfolding(crate::specs::Order::HasSentBy, crate::specs::Order::HasSentPart))]
-pub fn judge_waiting<D: Disk>(
+pub fn judge_waiting<D: Disk, L>(
     alloc: Global,
     disk: &mut D,
     cache: &mut WriteCache,
+    index: &mut Index<L>,
     length: u64,
+    steps: &mut Steps<L>,
 ) -> Result<Answer, Fault>
     requires length { length ≡ D.len disk.old }
     requires below { IsBelow (D.len disk.old) cache.old }
     ensures sort { IfOk result IsJudgement }
-    ensures judged { Judges D.Disk disk.old disk.new cache.old result (is_disk_fault result) }
+    ensures judged { Judges D.Disk disk.old disk.new
+        cache.old index.old index.new result (is_disk_fault result) }
     ensures order { IfOk result (λ answer.
-        HasSentBy answer cache.old (D.bytes disk.old) (D.sent disk.old) (D.sent disk.new)) }
+        HasSentBy (λ image. IndexStands image index.old) answer
+        cache.old (D.bytes disk.old) (D.sent disk.old) (D.sent disk.new)) }
     ensures memory { IsErrOf result Fault.NoMemory → D.bytes disk.new ≡ D.bytes disk.old }
-    ensures part { OnErr result
-        (HasSentPart cache.old (D.bytes disk.old) (D.sent disk.old) (D.sent disk.new)) }
+    ensures part { OnErr result (HasSentPart (λ image. IndexStands image index.old)
+        cache.old (D.bytes disk.old) (D.sent disk.old) (D.sent disk.new)) }
     ensures unsent { IsErrOf result Fault.NoMemory → D.sent disk.new ≡ D.sent disk.old }
     ensures empty { OnOk result (cache.new ≡ map.empty) }
     ensures waits { OnErr result (cache.new ≡ cache.old) }
 {
-    match judge_within(alloc, disk, cache, length)? {
-        Verdict::Found(finding) => {
+    let judged = judge_within(alloc, disk, cache, length, index, steps)?;
+    match judged {
+        Judged::Rejected(finding) => {
             cache.clear();
             Ok(Answer::Rejected(finding))
         }
-        Verdict::Accept { generation } => {
-            let_through(disk, cache)?;
+        Judged::Passed {
+            generation,
+            blocks,
+            hot,
+        } => {
+            let_through(disk, cache, index.superblock())?;
             cache.clear();
             Ok(Answer::Passed {
                 generation,
-                blocks: 0,
-                hot: 0,
+                blocks,
+                hot,
             })
         }
     }

@@ -8,12 +8,35 @@ ghost use Rattle.recon_core.specs.Standing.{IsBelow};
 ghost use Rattle.recon_core.specs.Stops.{IsPartlySent};
 ghost use Rattle.recon_core.specs.Order.{HasSentOut, HasSentPart, piece_calls};
 ghost use Rattle.recon_disk.specs.Calls.{HasSentFront, run_calls};
-ghost use Rattle.recon_core.specs.Sent.{HasSentRuns, HasSentSomeRuns, IsAllOrPart, StaysButForPiece, sent_piece, with_place_of};
+ghost use Rattle.recon_core.specs.Sent.{HasSentRuns, HasSentSomeRuns, IsPlaceOf, LetsThrough, StaysButForPiece, sent_piece, with_place_of};
 ghost use Rattle.recon_disk.specs.Sending.{Sends, StaysOutside};
 
-use recon_disk::{Disk, Failed, write_all_at};
+use recon_disk::{Disk, Failed, WRITE_MAX};
 use verdict::{SUPERBLOCK_AT, SUPERBLOCK_SIZE};
 use write_cache::WriteCache;
+
+// Writes any number of bytes from byte `at` of the disk on, as `recon_disk::write_all_at` does, of which no contract says that it
+// does not read.
+fn send_run<D: Disk>(disk: &mut D, at: u64, bytes: &[u8]) -> Result<(), Failed>
+    requires inside { at + length bytes.now ≤ D.len disk.old }
+    requires fits { at + length bytes.now < 2 ^ 64 }
+    ensures device { Sends D.Disk disk.old disk.new result
+        (λ image. written image at bytes.now)
+        (StaysOutside at (length bytes.now)) }
+    ensures order { OnOk result (D.sent disk.new ≡
+        and_sent (D.sent disk.old) (run_calls at bytes.now)) }
+    ensures part { OnErr result
+        (HasSentFront (run_calls at bytes.now) (D.sent disk.old) (D.sent disk.new)) }
+    ensures reads { D.reads disk.new ≡ D.reads disk.old }
+{
+    let mut done = 0;
+    while done < bytes.len() {
+        let n = WRITE_MAX.min(bytes.len() - done);
+        disk.write(at + done as u64, &bytes[done..done + n])?;
+        done += n;
+    }
+    Ok(())
+}
 
 // Writes the bytes of a piece before the superblock place, and then those behind it.
 fn send_piece<D: Disk>(disk: &mut D, at: u64, bytes: &[u8]) -> Result<(), Failed>
@@ -26,14 +49,15 @@ fn send_piece<D: Disk>(disk: &mut D, at: u64, bytes: &[u8]) -> Result<(), Failed
         and_sent (D.sent disk.old) (piece_calls at bytes.now)) }
     ensures part { OnErr result
         (HasSentFront (piece_calls at bytes.now) (D.sent disk.old) (D.sent disk.new)) }
+    ensures reads { D.reads disk.new ≡ D.reads disk.old }
 {
     let len = bytes.len() as u64;
     let before = SUPERBLOCK_AT.saturating_sub(at).min(len);
     let behind = (SUPERBLOCK_AT + SUPERBLOCK_SIZE)
         .saturating_sub(at)
         .min(len);
-    write_all_at(disk, at, &bytes[..before as usize])?;
-    write_all_at(disk, at + behind, &bytes[behind as usize..])
+    send_run(disk, at, &bytes[..before as usize])?;
+    send_run(disk, at + behind, &bytes[behind as usize..])
 }
 
 // Writes the bytes of all that waits outside the superblock place, in rising order.
@@ -46,6 +70,7 @@ fn send_pieces<D: Disk>(disk: &mut D, cache: &WriteCache) -> Result<(), Failed>
         (IsPartlySent cache.now) }
     ensures order { OnOk result (HasSentRuns cache.now (D.sent disk.old) (D.sent disk.new)) }
     ensures part { OnErr result (HasSentSomeRuns cache.now (D.sent disk.old) (D.sent disk.new)) }
+    ensures reads { D.reads disk.new ≡ D.reads disk.old }
 {
     for (at, bytes) in cache.pieces() {
         send_piece(disk, at, bytes)?;
@@ -55,29 +80,30 @@ fn send_pieces<D: Disk>(disk: &mut D, cache: &WriteCache) -> Result<(), Failed>
 
 /// Sends out what waits: first all bytes outside the superblock place in rising order, which are then
 /// flushed, and where what waits meets the superblock place, then the whole place in one call, flushed too.
-/// It takes no memory. Where a call fails, what waits is on the disk whole, or in part outside the place.
+/// `superblock` has the bytes of the place. It takes no memory and reads nothing. Where a call fails, what waits
+/// is on the disk whole, or in part outside the place.
 #[tactic(auto, unfolding(crate::specs::Order::HasSentPart))]
-pub fn let_through<D: Disk>(disk: &mut D, cache: &WriteCache) -> Result<(), Failed>
+pub fn let_through<D: Disk>(
+    disk: &mut D,
+    cache: &WriteCache,
+    superblock: &[u8; 4096],
+) -> Result<(), Failed>
     requires place { 69632 ≤ D.len disk.old }
     requires small { D.len disk.old < 2 ^ 64 }
     requires inside { IsBelow (D.len disk.old) cache.now }
-    ensures device { Sends D.Disk disk.old disk.new result
-        (λ image. overlaid cache.now 0 image)
-        (IsAllOrPart cache.now) }
-    ensures order { OnOk result (IfSome (D.bytes disk.old) (λ image.
+    ensures device { LetsThrough D.Disk disk.old disk.new cache.now superblock.now result }
+    ensures order { OnOk result (IfSome (D.bytes disk.old)
+        (λ image. IsPlaceOf cache.now superblock.now image →
         HasSentOut cache.now (overlaid cache.now 0 image) (D.sent disk.old) (D.sent disk.new))) }
-    ensures part { OnErr result
-        (HasSentPart cache.now (D.bytes disk.old) (D.sent disk.old) (D.sent disk.new)) }
+    ensures part { OnErr result (HasSentPart (IsPlaceOf cache.now superblock.now)
+        cache.now (D.bytes disk.old) (D.sent disk.old) (D.sent disk.new)) }
 {
-    if !cache.touches(SUPERBLOCK_AT, SUPERBLOCK_SIZE) {
-        send_pieces(disk, cache)?;
-        return disk.flush();
-    }
-    let mut place = [0u8; SUPERBLOCK_SIZE as usize];
-    disk.read(SUPERBLOCK_AT, &mut place)?;
-    cache.overlay(SUPERBLOCK_AT, &mut place);
+    let commit = cache.touches(SUPERBLOCK_AT, SUPERBLOCK_SIZE);
     send_pieces(disk, cache)?;
     disk.flush()?;
-    disk.write(SUPERBLOCK_AT, &place)?;
+    if !commit {
+        return Ok(());
+    }
+    disk.write(SUPERBLOCK_AT, superblock)?;
     disk.flush()
 }

@@ -18,6 +18,7 @@ loop-at-init g c = record {
   order = subst (λ p. RunsLeft c.args.cache.now (g.D.Disk.sent c.args.disk.now) (g.D.Disk.sent c.args.disk.now) (pieces_left p)) (sym c.into_iter-at-iterator.ensures.into_iter_gives)
       (runs_begin c.args.cache.now (g.D.Disk.sent c.args.disk.now) (pieces_left c.pieces-at-items.result) c.pieces-at-items.ensures);
   faults = refl;
+  reads = refl;
 }
 
 pub send_piece-requires-clause-inside : goal.send_piece-requires-clause-inside
@@ -41,6 +42,7 @@ loop-at-preserved g c = record {
   order = runs_more c.args.cache.now (g.D.Disk.sent c.args.disk.now) (g.D.Disk.sent c.loop-at.disk) (g.D.Disk.sent c.send_piece.new.disk) (piece_lent (c.in-Some.at, c.in-Some.bytes)) (pieces_left c.next.new.self)
       (subst (RunsLeft c.args.cache.now (g.D.Disk.sent c.args.disk.now) (g.D.Disk.sent c.loop-at.disk)) c.in-Some.ensures.steps c.loop-at.invariant.order) c.in_ok-send_piece.ensures.order;
   faults = c.in_ok-send_piece.ensures.device.cause.fine ∙ c.loop-at.invariant.faults;
+  reads = c.send_piece.ensures.reads ∙ c.loop-at.invariant.reads;
 }
 
 pub returns-in_err-send_piece-clause-device : goal.returns-in_err-send_piece-clause-device

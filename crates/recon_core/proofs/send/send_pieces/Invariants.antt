@@ -13,4 +13,5 @@ invariant-loop-at g l =
       so : IsSending l.cache (disk.bytes l.fn.disk) (disk.bytes l.disk) (pieces_left l.at-iterator);
       order : RunsLeft l.cache (disk.sent l.fn.disk) (disk.sent l.disk) (pieces_left l.at-iterator);
       faults : disk.faults l.disk ≡ disk.faults l.fn.disk;
+      reads : disk.reads l.disk ≡ disk.reads l.fn.disk;
     }

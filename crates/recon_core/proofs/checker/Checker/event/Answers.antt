@@ -1,11 +1,12 @@
 use Rattle.std.proofs.Common.{◌≡◌, true, false, length, sym, arith, ap, ◌∙◌, subst}
 use Rattle.std.proofs.Common.{IsSomeAnd}
+use Rattle.std.proofs.lemmas.Result.{on_err_weaker, on_ok_weaker}
 use Rattle.verdict.specs.Events.{begin_of, length_of, meets_superblock}
 use Rattle.verdict.specs.declared.machine.Stop.TheVariants.{DiskFault}
 use Rattle.recon_core.specs.Machine.{machine_step}
 use Rattle.recon_core.specs.Standing.{Takes}
 use Rattle.recon_core.specs.Stops.{IsStopImage}
-use Rattle.recon_core.proofs.Steps.{at_err, below_after, below_held, takes_commit, stop_commit, takes_settle, stop_settle, takes_held, takes_fetch, with_ok, weaker}
+use Rattle.recon_core.proofs.Steps.{at_err, below_after, below_held, takes_commit, stop_commit, takes_settle, stop_settle, takes_held, takes_fetch, with_ok, weaker, each_ok, reads_held, reads_judged}
 use Rattle.recon_core.proofs.checker.Checker.event.Goals as goal
 
 pub returns-then-meets_superblock-clause-step : goal.returns-then-meets_superblock-clause-step
@@ -65,7 +66,10 @@ returns-in-Settle-clause-stop g c state stands told fault =
     (stop_settle c.args.self.now state (g.D.Disk.bytes c.args.disk.now) (g.D.Disk.bytes c.settle.new.disk) stands told (at_err c.settle.result DiskFault fault c.settle.ensures.judged.left))
 
 pub returns-in-Settle-clause-inside : goal.returns-in-Settle-clause-inside
-returns-in-Settle-clause-inside g c = below_after c.args.self.now.length c.settle.result c.args.self.now c.settle.new.self c.requires.below c.settle.ensures.ok c.settle.ensures.err
+returns-in-Settle-clause-inside g c =
+    below_after c.args.self.now.length c.settle.result c.args.self.now.cache c.settle.new.self.cache c.requires.below
+    (on_ok_weaker c.settle.result (λ new. ap (λ k. k.cache) new) c.settle.ensures.ok)
+    (on_err_weaker c.settle.result (λ new. ap (λ k. k.cache) new) c.settle.ensures.err)
 
 pub returns-in-Fetch-clause-step : goal.returns-in-Fetch-clause-step
 returns-in-Fetch-clause-step g c state stands told none =
@@ -73,3 +77,20 @@ returns-in-Fetch-clause-step g c state stands told none =
     subst (λ e. Takes (machine_step state e) answer c.fetch.new.self (g.D.Disk.bytes c.fetch.new.disk)) (sym c.in-Fetch.is)
     (takes_fetch c.args.self.now c.fetch.new.self state c.in-Fetch.at c.in-Fetch.len answer (g.D.Disk.bytes c.args.disk.now) (g.D.Disk.bytes c.fetch.new.disk) stands told c.fetch.ensures.kept.bytes new says))
     c.fetch.ensures.bytes c.fetch.ensures.ok
+
+pub returns-then-meets_superblock-clause-reads : goal.returns-then-meets_superblock-clause-reads
+returns-then-meets_superblock-clause-reads g c state stands told =
+    each_ok c.commit.result (λ answer reads. reads_judged c.args.self.now state answer (g.D.Disk.bytes c.args.disk.now) (g.D.Disk.reads c.args.disk.now) (g.D.Disk.reads c.commit.new.disk) stands told reads)
+    c.commit.ensures.judged.reads
+
+pub returns-else-meets_superblock-clause-reads : goal.returns-else-meets_superblock-clause-reads
+returns-else-meets_superblock-clause-reads g c state stands told =
+    each_ok c.hold.result (λ answer is. reads_held answer (g.D.Disk.reads c.args.disk.now) is) c.hold.ensures.answer
+
+pub returns-in-Settle-clause-reads : goal.returns-in-Settle-clause-reads
+returns-in-Settle-clause-reads g c state stands told =
+    each_ok c.settle.result (λ answer reads. reads_judged c.args.self.now state answer (g.D.Disk.bytes c.args.disk.now) (g.D.Disk.reads c.args.disk.now) (g.D.Disk.reads c.settle.new.disk) stands told reads)
+    c.settle.ensures.judged.reads
+
+pub returns-in-Fetch-clause-reads : goal.returns-in-Fetch-clause-reads
+returns-in-Fetch-clause-reads g c state stands told = c.fetch.ensures.reads
