@@ -62,7 +62,7 @@ one_inside : (runs : List Run) (spans : List Span) (span : Span) → AreInside r
 one_inside runs spans span inside has one address is sector =
     elim (Contains-push_cases [] span one is) [
       inl never ↦ absurd (contains_none one never)
-    | inr same ↦ inside one address (subst (Contains spans) (sym same) has) sector
+    | inr same ↦ inside one address (subst (Contains spans) same has) sector
     ]
 
 module _ (k : Known) (c : Commit) (gone came : List Span) (runs : List Run) (found : List Span)
