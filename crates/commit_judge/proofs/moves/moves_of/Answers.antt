@@ -2,7 +2,7 @@ use Rattle.std.proofs.Common.{sym, ◌∙◌, subst}
 use Rattle.std.specs.List.{Contains}
 use Rattle.change_laws.specs.Commit.{context_by}
 use Rattle.change_laws.specs.Paired.{came_items, gone_items}
-use Rattle.change_laws.specs.Steps.{step_posts}
+use Rattle.change_laws.specs.Steps.{change_records, step_posts}
 use Rattle.commit_judge.specs.Index.{known}
 use Rattle.commit_judge.specs.Moves.{context_after}
 use Rattle.commit_judge.specs.Plan.{commit_in}
@@ -20,7 +20,9 @@ returns g c =
       came =
           posts_by (context_after k d) c.args.plan.now.sup came_items c.in_ok-came.came _ _ _ _ _ _ _ _ c.as_slice-2.ensures.value
           c.as_slice-new.ensures.value c.as_slice-changes.ensures.value c.as_slice-refs.ensures.value
-          (c.in_ok-came.ensures ∙ (λ i. step_posts (c.after-after.ensures i) _ _));
+          (c.in_ok-came.ensures ∙ (λ i. step_posts (c.after-after.ensures i)
+          (change_records c.args.plan.now.sup c.as_slice-2.result.now (came_items c.as_slice-new.result.now c.as_slice-changes.result.now))
+          c.as_slice-refs.result.now));
       spans =
           spans_moved k d c.in_ok-gone_spans.gone_spans.items c.in_ok-came_spans.came_spans.items c.in_ok-runs.runs.items c.in_ok-found.found.items
           (spans_by k.sup.nodesize k.sup d.change.old_blocks.items gone_items c.in_ok-gone_spans.gone_spans.items _ _ _ _ c.as_slice-old.ensures.value
