@@ -1,0 +1,5 @@
+pub mod CFilling
+pub mod CTables
+pub mod COpened
+pub mod CAscend
+pub mod CReady

@@ -9,3 +9,4 @@ pub mod Posting
 pub mod Moves
 pub mod Tables
 pub mod Start
+pub mod Filling
