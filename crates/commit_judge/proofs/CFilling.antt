@@ -1,5 +1,5 @@
 -- What is made of all records, one after the other.
-use Rattle.std.proofs.Common.{◌≡◌, ℕ, ◌+◌, ◌==◌, ◌&&◌, Bool, true, false, cond, List, [], ◌∷◌, ◌++◌, refl, ap, sym, ◌∙◌, subst, arith}
+use Rattle.std.proofs.Common.{◌≡◌, ℕ, ◌+◌, ◌==◌, ◌&&◌, ◌||◌, Bool, true, false, cond, List, [], ◌∷◌, ◌++◌, refl, ap, sym, ◌∙◌, subst, arith}
 use Rattle.std.specs.Prelude.{Option, Some, None}
 use Rattle.std.specs.BTreeSet as set
 use Rattle.std.specs.BTreeMap.{is_at}
@@ -122,11 +122,11 @@ tied_inode k tree ino =
     ∙ ap (λ (b : Bool). b && is_eq (nat_cmp k.ino ino)) (unsigned_tied k.tree tree)
     ∙ ap (λ (b : Bool). (k.tree == tree) && b) (unsigned_tied k.ino ino)
 
-either : (a b : Bool) → cond a true b ≡ cond b true a
-either true true = refl
-either true false = refl
-either false true = refl
-either false false = refl
+swapped : (a b : Bool) → cond b true a ≡ (a || b)
+swapped true true = refl
+swapped true false = refl
+swapped false true = refl
+swapped false false = refl
 
 -- an inode is put into a set
 pub inode_put : (old new : set.BTreeSet Inode) (tree ino : ℕ) → set.Updates inode_cmp old new (record { tree = tree; ino = ino }) true
@@ -134,4 +134,4 @@ pub inode_put : (old new : set.BTreeSet Inode) (tree ino : ℕ) → set.Updates 
 inode_put old new tree ino updates = fun_ext (λ t. fun_ext (λ i.
     updates.0 (record { tree = t; ino = i })
     ∙ ap (λ (b : Bool). cond b true (free_in old t i)) (tied_inode (record { tree = tree; ino = ino }) t i)
-    ∙ either (tree == t && ino == i) (free_in old t i)))
+    ∙ swapped (free_in old t i) (tree == t && ino == i)))

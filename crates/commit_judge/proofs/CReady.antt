@@ -1,5 +1,6 @@
 -- An index stands for an image that the full check accepts.
 use Rattle.std.proofs.Common.{◌≡◌, ℕ, ◌+◌, ◌*◌, ◌≤◌, List, [], ◌∷◌, ◌++◌, length, map, Option, Some, None, Result, Ok, Err, IfSome, IfOk, refl, ap, sym, ◌∙◌, subst, arith}
+use Rattle.std.specs.BTreeSet as set
 use Rattle.std.specs.Ordering.{nat_cmp}
 use Rattle.std.specs.FinMap.{FinMap, empty}
 use Rattle.std.proofs.lemmas.List.Sums.{sum_by-append}
@@ -20,11 +21,14 @@ use Rattle.block_source.specs.Gives.{Gives}
 use Rattle.block_source.specs.declared.halt.Halt.{Halt}
 use Rattle.block_source.specs.declared.halt.Halt.TheVariants.{Found, Disk, NoMemory}
 use Rattle.change_records.specs.Affected.{context_with}
+use Rattle.change_records.specs.declared.kept.Inode.{Inode}
 use Rattle.chunk_map.specs.Roots.{KeysAscend}
 use Rattle.ledger_index.specs.Ledger.{IsTidy, sums_of}
+use Rattle.ledger_index.specs.declared.ledger.LedgerIndex.{LedgerIndex}
 use Rattle.ledger_index.proofs.LedgerLaws.{is_tidy}
 use Rattle.live_index.specs.Pairs.{Pairs}
 use Rattle.live_index.specs.Table.{pairs_of}
+use Rattle.live_index.specs.declared.kept.LiveIndex.{LiveIndex}
 use Rattle.plain_check.specs.Accounts.{accounts_in}
 use Rattle.plain_check.specs.Opened.{Opened, block_count, is_block, named_records, opened}
 use Rattle.plain_check.specs.OpeningLaw.{contents_of, contents_with}
@@ -40,6 +44,7 @@ use Rattle.shared_trees.specs.LivePairs.{live_in, table_of, walked}
 use Rattle.recon_disk.specs.declared.disk.Disk.{Ghosts}
 use Rattle.span_index.specs.Sectors.{times_of_span}
 use Rattle.span_index.specs.Table.{times_of}
+use Rattle.span_index.specs.declared.kept.SpanIndex.{SpanIndex}
 use Rattle.span_index.specs.declared.span.Span.{Span}
 use Rattle.super_reader.specs.declared.Super.{Super}
 use Rattle.touched_accounts.specs.Sums.{with_all}
@@ -123,16 +128,16 @@ unfolding with_all
 sums_from_none ps account field = nothing_more (total_of ps account field)
 
 -- This is an index of what is known of an image, with these tables.
-pub record IsMade {L : Type 0} (o : Opened) (tables : Tables L) (roots : List RootAt) (index : Index L) : Type 0 where
-  pub raw : index.raw ≡ o.raw
-  pub sup : index.sup ≡ o.sup
-  pub map : index.map ≡ o.chunks
-  pub named : roots ≡ map root_at o.roots
-  pub roots : KeysAscend roots → index.roots.items ≡ roots
-  pub sum_free : index.sum_free ≡ tables.free
-  pub live : index.live ≡ tables.live
-  pub totals : index.totals ≡ tables.totals
-  pub spans : index.spans ≡ tables.spans
+pub record IsMade {L : Type 0} (o : Opened) (tables : Tables L) (named : List RootAt) (index : Index L) : Type 0 where
+  pub raw_is : index.raw ≡ o.raw
+  pub sup_is : index.sup ≡ o.sup
+  pub map_is : index.map ≡ o.chunks
+  pub named_are : named ≡ map root_at o.roots
+  pub roots_are : KeysAscend named → index.roots.items ≡ named
+  pub free_is : index.sum_free ≡ tables.free
+  pub live_is : index.live ≡ tables.live
+  pub totals_are : index.totals ≡ tables.totals
+  pub spans_are : index.spans ≡ tables.spans
 
 module _ {L : Type 0} (image : List ℕ) (o : Opened) (tables : Tables L) (named : List RootAt) (index : Index L)
     (is : opened image ≡ Ok o) (accounts : accounts_in o image ≡ Ok (tt {0})) (filled : AreTablesOf o image tables) (made : IsMade o tables named index) where
@@ -143,12 +148,12 @@ module _ {L : Type 0} (image : List ℕ) (o : Opened) (tables : Tables L) (named
   walks = walks_are image o filled.0 is filled.1
 
   accepted : full_check image ≡ Accept index.sup.generation
-  accepted = ap verdict_of (after_accounts image o (Ok (tt {0})) is accounts) ∙ ap (λ (sup : Super). Accept sup.generation) (sym made.sup)
+  accepted = ap verdict_of (after_accounts image o (Ok (tt {0})) is accounts) ∙ ap (λ (sup : Super). Accept sup.generation) (sym made.sup_is)
 
   roots_are : AscendLaw → index.roots.items ≡ map root_at o.roots
   roots_are law =
       let ascend : KeysAscend (map root_at o.roots) = law image (walked_with o filled.0) o.roots walks (opened_is image o is).roots in
-      made.roots (subst KeysAscend (sym made.named) ascend) ∙ made.named
+      made.roots_are (subst KeysAscend (sym made.named_are) ascend) ∙ made.named_are
 
   bases : AscendLaw → BasesStand image index.sup index.map index.roots.items (free_in index.sum_free) (pairs_of index.live)
   bases law = record {
@@ -156,13 +161,13 @@ module _ {L : Type 0} (image : List ℕ) (o : Opened) (tables : Tables L) (named
     accepted = accepted;
     held = contents_with o filled.0;
     holds = held_is image o filled.0 is filled.1;
-    super_is = made.sup;
-    chunks_are = made.map;
+    super_is = made.sup_is;
+    chunks_are = made.map_is;
     roots_are = roots_are law;
-    free_are = λ tree ino. ap (λ set. free_in set tree ino) made.sum_free ∙ ap (λ (free : Frees). free tree ino) filled.2.free;
+    free_are = λ tree ino. ap (λ (free : set.BTreeSet Inode). free_in free tree ino) made.free_is ∙ ap (λ (free : Frees). free tree ino) filled.2.free;
     trees = walked_with o filled.0;
     walks = walks;
-    pairs_are = λ tree address. ap (λ table. pairs_of table tree address) made.live ∙ ap (λ (pairs : Pairs). pairs tree address) filled.2.live;
+    pairs_are = λ tree address. ap (λ (live : LiveIndex L). pairs_of live tree address) made.live_is ∙ ap (λ (pairs : Pairs). pairs tree address) filled.2.live;
   }
 
   sums_are : (account : Account) (field : ℕ) → sums_of index.totals account field ≡ total_of (all_posts (context_by (known index)) records) account field
@@ -170,23 +175,23 @@ module _ {L : Type 0} (image : List ℕ) (o : Opened) (tables : Tables L) (named
       let free = free_in index.sum_free in
       let posts : all_posts (context_with o.chunks o.sup.nodesize none_free) records ≡ all_posts (context_with index.map index.sup.nodesize free) records =
       all_alike o.chunks o.sup.nodesize none_free free records
-      ∙ ap (λ (chunks : List Chunk). all_posts (context_with chunks o.sup.nodesize free) records) (sym made.map)
-      ∙ ap (λ (sup : Super). all_posts (context_with index.map sup.nodesize free) records) (sym made.sup) in
-      ap (λ ledger. sums_of ledger account field) made.totals
+      ∙ ap (λ (chunks : List Chunk). all_posts (context_with chunks o.sup.nodesize free) records) (sym made.map_is)
+      ∙ ap (λ (sup : Super). all_posts (context_with index.map sup.nodesize free) records) (sym made.sup_is) in
+      ap (λ (totals : LedgerIndex L). sums_of totals account field) made.totals_are
       ∙ ap (λ (sums : Sums). sums account field) filled.2.sums
       ∙ sums_from_none (all_posts (context_with o.chunks o.sup.nodesize none_free) records) account field
       ∙ ap (λ (ps : List Posting). total_of ps account field) posts
 
   spans_are : (span : Span) → times_of index.spans span ≡ times_of_span (spans_of index.sup.nodesize records) span
   spans_are span =
-      ap (λ table. times_of table span) made.spans
+      ap (λ (spans : SpanIndex L). times_of spans span) made.spans_are
       ∙ filled.2.spans span
-      ∙ ap (λ (sup : Super). times_of_span (spans_of sup.nodesize records) span) (sym made.sup)
+      ∙ ap (λ (sup : Super). times_of_span (spans_of sup.nodesize records) span) (sym made.sup_is)
 
   stands : AscendLaw → IndexStands image index
   stands law = record {
     known = record { bases = bases law; sums = sums_are; spans = spans_are };
-    raw = made.raw ∙ (opened_is image o is).raw;
+    raw = made.raw_is ∙ (opened_is image o is).raw;
     entries = is_tidy index.totals;
   }
 

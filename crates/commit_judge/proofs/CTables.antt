@@ -4,24 +4,27 @@ use Rattle.std.specs.Ordering.{nat_cmp}
 use Rattle.std.specs.FinMap.{FinMap}
 use Rattle.std.specs.List.{filter_map, fold}
 use Rattle.std.proofs.Math.Path.{fun_ext}
-use Rattle.verdict.specs.Rules.{finding_or}
+use Rattle.verdict.specs.Rules.{and_then, finding_or}
 use Rattle.verdict.specs.declared.finding.Finding.{Finding}
 use Rattle.account_sums.specs.Sums.{Summed, context_with as context_of_sums, none_free, of_none as none_summed, with_record as with_summed}
 use Rattle.account_sums.proofs.Taken.{first_free}
 use Rattle.accounts.specs.Tally.{no_sums}
-use Rattle.change_laws.specs.Steps.{all_posts, spans_of}
+use Rattle.block_source.specs.Gives.{Gives}
+use Rattle.block_source.specs.declared.halt.Halt.{Halt}
+use Rattle.block_source.specs.declared.halt.Halt.TheVariants.{Found, Disk, NoMemory}
 use Rattle.change_records.specs.Affected.{context_with}
 use Rattle.ledger_index.specs.Ledger.{sums_of}
 use Rattle.live_index.specs.Table.{pairs_of}
 use Rattle.live_index.specs.declared.live.Live.{Live}
 use Rattle.live_maker.specs.Opened.{finished, no_lives, with_record as with_live}
 use Rattle.live_maker.proofs.Made.{lives_made}
-use Rattle.plain_check.specs.Accounts.{accounts_in}
+use Rattle.plain_check.specs.Accounts.{accounts_in, accounts_of}
 use Rattle.plain_check.specs.Opened.{Opened, named_records, volume_records}
 use Rattle.plain_check.specs.OpeningLaw.{contents_with}
 use Rattle.plain_check.proofs.Keeping.{first_told}
 use Rattle.plain_check.proofs.Sums.{told_decided}
-use Rattle.records.specs.Contents.{super_record}
+use Rattle.recon_disk.specs.declared.disk.Disk.{Ghosts}
+use Rattle.records.specs.Contents.{Contents, super_record}
 use Rattle.records.specs.Context.{has_sum_free}
 use Rattle.records.specs.Part.{Located}
 use Rattle.records.specs.Postings.{account_fault}
@@ -68,6 +71,32 @@ pub accounts_told : (told : Option (List ℕ)) (m : FinMap nat_cmp ℕ) (o : Ope
 accounts_told told m o start final before after found other begins taken is same =
     told_decided told m o start final found other begins
     (first_told told m (with_accounted with_summed) with_rest start before (volume_records o) (Ok (final, after)) taken) is same
+
+unread_case : (o : Opened) (records : Records) (start : Summed × Rest) (finding : Finding)
+    → held_after with_three start (behind (ItemSeen (super_record o.sup) ∷ o.seen) records) ≡ Err finding
+    → and_then {A = Contents} {B = Unit {0}} (and_then {A = List Seen} {B = Contents} records (λ more. Ok (contents_with o more))) accounts_of ≡ Err finding
+unfolding behind
+unread_case o (Err other) start finding is = cc (is)
+unread_case o (Ok more) start finding is = absurd (cc is)
+
+unread : (told : Option (List ℕ)) (m : FinMap nat_cmp ℕ) (o : Opened) (start : Summed × Rest) (finding : Finding)
+    → IfSome told (λ image. held_after with_three start (volume_records o (overlaid m 0 image)) ≡ Err finding)
+    → IfSome told (λ image. accounts_in o (overlaid m 0 image) ≡ Err finding)
+unfolding accounts_in
+unread None m o start finding is = tt
+unread (Some image) m o start finding is = unread_case o (named_records o (overlaid m 0 image)) start finding is
+
+no_memory : (told : Option (List ℕ)) → IfSome told (λ _. Unit {0})
+no_memory None = tt
+no_memory (Some image) = tt
+
+-- the trees that root items name were not read to their end
+pub halted_reading : {D : Type 0} (disk : Ghosts D) (at : D) (m : FinMap nat_cmp ℕ) (o : Opened) (start : Summed × Rest) (halt : Halt)
+    → Gives {A = Summed × Rest} disk at m (Err halt) (λ image. held_after with_three start (volume_records o image))
+    → Gives {A = Unit {0}} disk at m (Err halt) (λ image. accounts_in o image)
+halted_reading disk at m o start Disk gives = tt
+halted_reading disk at m o start NoMemory gives = no_memory (disk.bytes at)
+halted_reading disk at m o start (Found finding) gives = unread (disk.bytes at) m o start finding gives
 
 -- ---- the tables
 

@@ -157,9 +157,9 @@ impl<'a, L> Filling<'a, L> {
     fn finish(self, lives: Lives) -> Result<Tables<L>, NoMemory>
         ensures live { IfOk result (λ tables.
             pairs_of tables.live ≡ table_of (finished (held_in lives))) }
-        ensures sums { IfOk result (λ tables. sums_of tables.totals ≡ (filled_in self).sums) }
-        ensures spans { IfOk result (λ tables. times_of tables.spans ≡ (filled_in self).spans) }
-        ensures free { IfOk result (λ tables. free_in tables.free ≡ (filled_in self).free) }
+        ensures sums { IfOk result (λ tables. sums_of tables.totals ≡ (filled_in self.entry).sums) }
+        ensures spans { IfOk result (λ tables. times_of tables.spans ≡ (filled_in self.entry).spans) }
+        ensures free { IfOk result (λ tables. free_in tables.free ≡ (filled_in self.entry).free) }
     {
         let Filling {
             alloc,
