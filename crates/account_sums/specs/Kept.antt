@@ -1,4 +1,4 @@
--- These words serve private functions alone: what is kept of sectors, and of which data has no checksums.
+-- What is kept of sectors, and of which data has no checksums. But for `chosen` these words serve private functions alone.
 use Rattle.std.specs.Prelude.{◌≡◌, ℕ, ◌+◌, ◌==◌, nat_lt, true, false, List, [], ◌∷◌, ◌++◌, Option, Some, None, if◌then◌else◌}
 use Rattle.std.specs.List.{list_any}
 use Rattle.accounts.specs.declared.account.Account.{Account}

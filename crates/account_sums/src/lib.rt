@@ -6,4 +6,4 @@ mod inode_posts;
 mod shown;
 mod summing;
 
-pub use summing::Accounts;
+pub use summing::{Accounts, least_finding};

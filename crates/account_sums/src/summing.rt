@@ -64,7 +64,7 @@ impl<'a> Accounts<'a> {
         self.tally.add_all(&mut self.waiting)?;
         let sector = self.sectors.least_broken()?;
         self.tally.settle()?;
-        Ok(first_of(self.alloc, sector, self.tally.least_broken()))
+        Ok(least_finding(self.alloc, sector, self.tally.least_broken()))
     }
 
     // Adds what a record posts.
@@ -80,8 +80,13 @@ impl<'a> Accounts<'a> {
     }
 }
 
-// The finding of the lesser of a sector and an account of another kind: sectors stand between the kinds 4 and 6.
-fn first_of(alloc: Global, sector: Option<u64>, account: Option<&Account>) -> Option<Finding>
+/// The finding of the lesser of a sector, by its logical address in bytes, and an account of another kind, `None` exactly where there is
+/// neither: sectors stand between the kinds 4 and 6. The account of the sector takes its memory from this allocator.
+pub fn least_finding(
+    alloc: Global,
+    sector: Option<u64>,
+    account: Option<&Account>,
+) -> Option<Finding>
     ensures { result ≡ option_map broken_finding (chosen sector (option_copied account.entry)) }
 {
     let Some(address) = sector else {

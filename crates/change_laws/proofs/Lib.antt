@@ -39,3 +39,6 @@ pub mod WCommit
 pub mod WNamed
 pub mod WSpans
 pub mod WStep
+pub mod XAscend
+pub mod XSound
+pub mod XWhole

@@ -239,11 +239,11 @@ module _ (laws : Laws) (image : List ℕ) (pending : FinMap nat_cmp ℕ) (old ne
 
 -- ---- what is known and what changes, by the walks
 
-ok_same : {X E : Type 0} (x : Result X E) (a b : X) → x ≡ Ok a → x ≡ Ok b → a ≡ b
+pub ok_same : {X E : Type 0} (x : Result X E) (a b : X) → x ≡ Ok a → x ≡ Ok b → a ≡ b
 ok_same x a b first second = cc
 
 -- what is known of an image is what its walks come to
-known_same : (image : List ℕ) (k : Known) (old : Walked) (held : Contents) → IsKnown image k → walked image ≡ Ok old → contents image ≡ Ok held
+pub known_same : (image : List ℕ) (k : Known) (old : Walked) (held : Contents) → IsKnown image k → walked image ≡ Ok old → contents image ≡ Ok held
     → HoldsWalked image old held → k ≡ known_at old held.roots
 known_same image k old held known was holds is =
     let bases = known.bases in

@@ -124,7 +124,7 @@ unfolding total_of
 total_by [] account n = refl
 total_by (p ∷ ps) account n = ap (λ k. added p account n + k) (total_by ps account n) ∙ sym (sum_by-cons (λ (q : Posting). added q account n) p ps)
 
-total_permuted : (ps qs : List Posting) (account : Account) (n : ℕ) → IsPermutation ps qs → total_of ps account n ≡ total_of qs account n
+pub total_permuted : (ps qs : List Posting) (account : Account) (n : ℕ) → IsPermutation ps qs → total_of ps account n ≡ total_of qs account n
 total_permuted ps qs account n is =
     total_by ps account n ∙ sym (sum_by-IsPermutation (λ (p : Posting). added p account n) ps qs is) ∙ sym (total_by qs account n)
 

@@ -8,6 +8,7 @@ mod items;
 mod paired;
 mod same;
 mod sectors;
+mod sound;
 mod steps;
 
 pub use commit::commit_law;
@@ -16,4 +17,5 @@ pub use items::{blocks_law, items_law};
 pub use paired::{all_changes_law, found_law, paired_law};
 pub use same::{held_law, records_law};
 pub use sectors::{judged_law, runs_law, sectors_law};
+pub use sound::{ascend_law, known_spans_law, sound_law};
 pub use steps::{posts_law, spans_law, step_law, whole_step_law};

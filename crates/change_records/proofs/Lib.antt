@@ -1,6 +1,7 @@
 pub mod Order
 pub mod Merge
 pub mod MadeLaws
+pub mod TurnLaws
 pub mod HomeLaws
 pub mod PostingLaws
 pub mod SearchLaws

@@ -44,7 +44,7 @@ tied_ref k q =
     (then_tied (nat_cmp k.key.kind q.key.kind) (nat_cmp k.key.offset q.key.offset)
     ∙ both _ _ _ _ (unsigned_tied k.key.kind q.key.kind) (unsigned_tied k.key.offset q.key.offset)))
 
-tied_inode : (k q : Inode) → is_at (inode_cmp k) q ≡ (k.tree == q.tree && k.ino == q.ino)
+pub tied_inode : (k q : Inode) → is_at (inode_cmp k) q ≡ (k.tree == q.tree && k.ino == q.ino)
 tied_inode k q = then_tied (nat_cmp k.tree q.tree) (nat_cmp k.ino q.ino) ∙ both _ _ _ _ (unsigned_tied k.tree q.tree) (unsigned_tied k.ino q.ino)
 
 either : (a b : Bool) → cond a true b ≡ (a || b)
@@ -98,7 +98,7 @@ half_cons olds news all left change made more applied half = record {
   flags = λ tree ino free. ap (sum_free_after olds news tree ino left) (applied.flags tree ino free) ∙ half.flags tree ino free;
 }
 
-next_place : (i : ℕ) → suc i ≡ i + 1
+pub next_place : (i : ℕ) → suc i ≡ i + 1
 next_place i = omega arith
 
 pub half_more : (olds news : List ItemAt) (all : List ItemChange) (i : ℕ) (d : ItemChange) (made more : Made) → i < length all
@@ -143,7 +143,7 @@ listed_none m inodes none inode is missing =
 pub listed_more : (m : map.BTreeMap Inode Bool) (inodes : List Inode) (inode : Inode) → AreListed m inodes → AreListed m (inodes ++ inode ∷ [])
 listed_more m inodes inode listed k is missing = listed k is (λ there. missing (Contains-append_left inodes (inode ∷ []) k there))
 
-same_inode : (k q : Inode) → is_at (inode_cmp k) q ≡ true → k ≡ q
+pub same_inode : (k q : Inode) → is_at (inode_cmp k) q ≡ true → k ≡ q
 same_inode k q is =
     let both = and_parts (k.tree == q.tree) (k.ino == q.ino) (sym (tied_inode k q) ∙ is) in
     let e1 : k.tree ≡ q.tree = eqb-true _ _ both.0 in

@@ -2,7 +2,7 @@
 
 ghost use Rattle.std.specs.Prelude.{◌≡◌, ℕ, Bool, false, ◌&&◌, ◌||◌, ◌==◌, IfOk, OnOk, Some, option_map, slice_get, if◌then◌else◌};
 ghost use Rattle.std.specs.List.{Contains};
-ghost use Rattle.std.specs.BTreeSet.{contains};
+ghost use Rattle.std.specs.BTreeSet.{Updates, contains};
 ghost use Rattle.change_records.specs.Listed.{inode_cmp};
 ghost use Rattle.change_records.specs.Made.{IsApplied, IsMade, IsPut, IsTaken, flag_by, has_name};
 ghost use Rattle.change_records.specs.Refs.{stands_at};
@@ -166,7 +166,25 @@ impl Made {
             contains inode_cmp set.new (record { tree = tree; ino = ino })
             ≡ flag_by self.now tree ino (contains inode_cmp set.old (record { tree = tree; ino = ino }))) }
     {
-        Err(NoMemory)
+        for inode in &self.inodes {
+            let free = self.flag(inode.tree, inode.ino, set.contains(inode));
+            keep(set, *inode, free)?;
+        }
+        Ok(())
+    }
+}
+
+// Puts an inode in a set, or takes it out.
+fn keep(set: &mut BTreeSet<Inode>, inode: Inode, there: bool) -> Result<(), NoMemory>
+    ensures { OnOk result (Updates inode_cmp set.old set.new inode there) }
+{
+    if !there {
+        set.remove(&inode);
+        return Ok(());
+    }
+    match set.insert(inode) {
+        Ok(_) => Ok(()),
+        Err(_) => Err(NoMemory),
     }
 }
 

@@ -8,7 +8,7 @@ use Rattle.account_sums.proofs.summing.Accounts.finding.Goals as goal
 
 pub returns : goal.returns
 returns c = λ chunks nodesize records taken.
-    c.first_of.ensures
+    c.least_finding.ensures
     ∙ decided chunks nodesize records (summed_in c.args.self.now) (option_copied c.least_broken-2.result) c.in_ok-sector.sector
     taken
     (λ ps is. settled_least (sums_held c.add_all.new.self) (sums_in c.settle.new.self.rest) (option_copied c.least_broken-2.result) ps
