@@ -1,5 +1,5 @@
 -- What a commit takes away and brings is sound, and what it takes away is among what stands.
-use Rattle.std.proofs.Common.{◌≡◌, ℕ, ◌+◌, List, ◌++◌, cond, ap, sym, ◌∙◌, subst, arith}
+use Rattle.std.proofs.Common.{◌≡◌, ℕ, ◌+◌, List, ◌++◌, cond, sym, ◌∙◌, subst, arith}
 use Rattle.std.specs.Prelude.{◌≤◌}
 use Rattle.std.specs.List.{sum_by}
 use Rattle.std.specs.List.Sorted.{IsPermutation}

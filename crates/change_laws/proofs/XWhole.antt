@@ -1,13 +1,12 @@
 -- The spans of an accepted image are lawful and whole.
 use Rattle.std.proofs.Common.{◌≡◌, ℕ, ◌+◌, ◌*◌, ◌/◌, ◌^◌, ◌<◌, ◌==◌, Bool, true, false, not, List, cond, refl, subst, sym, arith}
-use Rattle.std.specs.Prelude.{Option, Some, None}
+use Rattle.std.specs.Prelude.{Some, None}
 use Rattle.std.specs.List.{All}
 use Rattle.std.proofs.lemmas.Nat.{div-add-mod'}
 use Rattle.std.proofs.lemmas.Bool.{and_parts, eqb-true}
 use Rattle.std.proofs.lemmas.List.Elements.{All-contains}
-use Rattle.change_records.specs.Spans.{AreItemsOf, IsLawfulIn, IsLawfulRange, extent_bytes, extent_span, is_written, shown_span, span_in, span_of, sums_span}
+use Rattle.change_records.specs.Spans.{AreItemsOf, IsLawfulIn, extent_bytes, extent_span, is_written, shown_span, span_in, sums_span}
 use Rattle.change_records.proofs.ItemLaws.{are_alone, are_lawful, item_of, lawful_of, one_span}
-use Rattle.extent_items.specs.ExtentRow.{ExtentFields}
 use Rattle.fs_items.specs.SumsRow.{SumFields}
 use Rattle.fs_items.specs.declared.file_extent.FileExtent.{FileExtent}
 use Rattle.records.specs.Part.{AreSectors, IsLawful, Located, Part}

@@ -17,8 +17,8 @@ use Rattle.commit_judge.specs.declared.judge.Judged.TheVariants.{Passed, Rejecte
 pub record IsPassed {L : Type 0} (image : List ℕ) (pending : FinMap nat_cmp ℕ) (index : Index L) (before after generation blocks hot : ℕ) : Type 0 where
   pub accepted : full_check (overlaid pending 0 image) ≡ Accept generation
   pub stands : IndexStands (overlaid pending 0 image) index
-  pub blocks : blocks ≡ blocks_between image pending
-  pub hot : hot ≡ hot_between image pending
+  pub blocks_are : blocks ≡ blocks_between image pending
+  pub hot_are : hot ≡ hot_between image pending
   pub reads : after ≤ before + 2 * blocks
 
 -- the judged image has this finding, and the index stands for the image as before
