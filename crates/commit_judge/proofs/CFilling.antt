@@ -4,17 +4,17 @@ use Rattle.std.specs.Prelude.{Option, Some, None}
 use Rattle.std.specs.BTreeSet as set
 use Rattle.std.specs.BTreeMap.{is_at}
 use Rattle.std.specs.Cmp.{unsigned_tied}
-use Rattle.std.specs.List.{cons_option, filter_map, fold}
+use Rattle.std.specs.List.{cons_option, filter_map, fold, list_any}
 use Rattle.std.specs.Ordering.{is_eq, nat_cmp, ordering_then}
 use Rattle.std.specs.declared.cmp.Ordering.{Ordering}
 use Rattle.std.specs.declared.cmp.Ordering.TheVariants.{Less, Equal, Greater}
 use Rattle.std.proofs.Math.Path.{fun_ext}
 use Rattle.std.proofs.lemmas.List.Sums.{sum_by-cons}
 use Rattle.verdict.specs.declared.place.Chunk.{Chunk}
-use Rattle.account_sums.specs.Sums.{Frees, or_free}
+use Rattle.account_sums.specs.Sums.{Frees, none_free, or_free}
 use Rattle.account_sums.proofs.Taken.{or_all}
 use Rattle.accounts.specs.Sums.{total_of}
-use Rattle.accounts.specs.Tally.{Sums}
+use Rattle.accounts.specs.Tally.{Sums, no_sums}
 use Rattle.accounts.specs.declared.postings.Posting.{Posting}
 use Rattle.accounts.proofs.Kept.{total_joined}
 use Rattle.change_laws.specs.Steps.{all_posts, posts_of, spans_of}
@@ -30,12 +30,12 @@ use Rattle.records.specs.Part.{Located}
 use Rattle.records.proofs.SectorSums.{rest_alike}
 use Rattle.span_index.specs.Order.{is_same}
 use Rattle.span_index.specs.Sectors.{times_of_span}
-use Rattle.span_index.specs.Spans.{Table}
+use Rattle.span_index.specs.Spans.{Table, no_spans}
 use Rattle.span_index.specs.declared.span.Span.{Span}
 use Rattle.span_index.proofs.TableLaws.{same_is, same_itself}
 use Rattle.touched_accounts.specs.Sums.{with_all}
 use Rattle.touched_accounts.proofs.Changed.{with_none}
-use Rattle.commit_judge.specs.Filling.{Filled, with_located, with_option}
+use Rattle.commit_judge.specs.Filling.{Filled, of_none, with_located, with_option}
 use Rattle.commit_judge.specs.Flags.{free_in}
 
 -- ---- sums
@@ -135,3 +135,36 @@ inode_put old new tree ino updates = fun_ext (λ t. fun_ext (λ i.
     updates.0 (record { tree = t; ino = i })
     ∙ ap (λ (b : Bool). cond b true (free_in old t i)) (tied_inode (record { tree = tree; ino = ino }) t i)
     ∙ swapped (free_in old t i) (tree == t && ino == i)))
+
+no_inodes : (free : set.BTreeSet Inode) → free.keys ≡ [] → free_in free ≡ none_free
+no_inodes free none = fun_ext (λ tree. fun_ext (λ ino. ap (list_any (is_at (inode_cmp (record { tree = tree; ino = ino })))) none))
+
+-- ---- all together
+
+-- nothing is made of no records
+pub none_filled : (chunks : List Chunk) (nodesize : ℕ) (sums : Sums) (posts : List Posting) (spans : Table) (free : set.BTreeSet Inode)
+    → sums ≡ no_sums → posts ≡ [] → spans ≡ no_spans → free.keys ≡ []
+    → ◌≡◌ {A = Filled} (record { chunks = chunks; nodesize = nodesize; sums = with_all sums posts; spans = spans; free = free_in free }) (of_none chunks nodesize)
+none_filled chunks nodesize sums posts spans free no_sum no_post no_span no_inode =
+    let sums_are : with_all sums posts ≡ no_sums = ap (with_all sums) no_post ∙ with_none sums ∙ no_sum in
+    let free_is = no_inodes free no_inode in
+    λ i. record { chunks = chunks; nodesize = nodesize; sums = sums_are i; spans = no_span i; free = free_is i }
+
+-- a record more is taken
+pub one_filled : (held : Filled) (one : Located) (before after : Sums) (waiting posts left : List Posting) (spans : Table) (free : Frees)
+    → held.sums ≡ with_all before waiting
+    → posts ≡ waiting ++ posts_of (context_with held.chunks held.nodesize held.free) one
+    → after ≡ with_all before posts → left ≡ []
+    → spans ≡ with_option held.spans (span_of held.nodesize one)
+    → free ≡ or_free held.free (sum_free_inode one)
+    → ◌≡◌ {A = Filled} (record { chunks = held.chunks; nodesize = held.nodesize; sums = with_all after left; spans = spans; free = free }) (with_located held one)
+one_filled held one before after waiting posts left spans free begin posted added none spans_are free_is =
+    let new = posts_of (context_with held.chunks held.nodesize held.free) one in
+    let sums_are : with_all after left ≡ with_all held.sums new =
+    ap (with_all after) none
+    ∙ with_none after
+    ∙ added
+    ∙ ap (with_all before) posted
+    ∙ sym (with_both before waiting new)
+    ∙ ap (λ (sums : Sums). with_all sums new) (sym begin) in
+    λ i. record { chunks = held.chunks; nodesize = held.nodesize; sums = sums_are i; spans = spans_are i; free = free_is i }

@@ -15,11 +15,12 @@ use Rattle.accounts.specs.Tally.{Sums, no_sums}
 use Rattle.accounts.specs.declared.account.Account.{Account}
 use Rattle.accounts.specs.declared.postings.Posting.{Posting}
 use Rattle.change_laws.specs.Commit.{IsKnown, context_by}
-use Rattle.change_laws.specs.Sound.{AscendLaw}
 use Rattle.change_laws.specs.Steps.{all_posts, posts_of, spans_of}
 use Rattle.block_source.specs.Gives.{Gives}
 use Rattle.block_source.specs.declared.halt.Halt.{Halt}
 use Rattle.block_source.specs.declared.halt.Halt.TheVariants.{Found, Disk, NoMemory}
+use Rattle.change_laws.proofs.IItems.{items_stand}
+use Rattle.change_laws.proofs.XAscend.{ascend}
 use Rattle.change_records.specs.Affected.{context_with}
 use Rattle.change_records.specs.declared.kept.Inode.{Inode}
 use Rattle.chunk_map.specs.Roots.{KeysAscend}
@@ -128,19 +129,18 @@ unfolding with_all
 sums_from_none ps account field = nothing_more (total_of ps account field)
 
 -- This is an index of what is known of an image, with these tables.
-pub record IsMade {L : Type 0} (o : Opened) (tables : Tables L) (named : List RootAt) (index : Index L) : Type 0 where
+pub record IsMade {L : Type 0} (o : Opened) (tables : Tables L) (index : Index L) : Type 0 where
   pub raw_is : index.raw ≡ o.raw
   pub sup_is : index.sup ≡ o.sup
   pub map_is : index.map ≡ o.chunks
-  pub named_are : named ≡ map root_at o.roots
-  pub roots_are : KeysAscend named → index.roots.items ≡ named
+  pub roots_are : KeysAscend (map root_at o.roots) → index.roots.items ≡ map root_at o.roots
   pub free_is : index.sum_free ≡ tables.free
   pub live_is : index.live ≡ tables.live
   pub totals_are : index.totals ≡ tables.totals
   pub spans_are : index.spans ≡ tables.spans
 
-module _ {L : Type 0} (image : List ℕ) (o : Opened) (tables : Tables L) (named : List RootAt) (index : Index L)
-    (is : opened image ≡ Ok o) (accounts : accounts_in o image ≡ Ok (tt {0})) (filled : AreTablesOf o image tables) (made : IsMade o tables named index) where
+module _ {L : Type 0} (image : List ℕ) (o : Opened) (tables : Tables L) (index : Index L)
+    (is : opened image ≡ Ok o) (accounts : accounts_in o image ≡ Ok (tt {0})) (filled : AreTablesOf o image tables) (made : IsMade o tables index) where
   abbrev records : List Located
   records = (contents_with o filled.0).records
 
@@ -150,20 +150,15 @@ module _ {L : Type 0} (image : List ℕ) (o : Opened) (tables : Tables L) (named
   accepted : full_check image ≡ Accept index.sup.generation
   accepted = ap verdict_of (after_accounts image o (Ok (tt {0})) is accounts) ∙ ap (λ (sup : Super). Accept sup.generation) (sym made.sup_is)
 
-  roots_are : AscendLaw → index.roots.items ≡ map root_at o.roots
-  roots_are law =
-      let ascend : KeysAscend (map root_at o.roots) = law image (walked_with o filled.0) o.roots walks (opened_is image o is).roots in
-      made.roots_are (subst KeysAscend (sym made.named_are) ascend) ∙ made.named_are
-
-  bases : AscendLaw → BasesStand image index.sup index.map index.roots.items (free_in index.sum_free) (pairs_of index.live)
-  bases law = record {
+  bases : BasesStand image index.sup index.map index.roots.items (free_in index.sum_free) (pairs_of index.live)
+  bases = record {
     generation = index.sup.generation;
     accepted = accepted;
     held = contents_with o filled.0;
     holds = held_is image o filled.0 is filled.1;
     super_is = made.sup_is;
     chunks_are = made.map_is;
-    roots_are = roots_are law;
+    roots_are = made.roots_are (ascend items_stand image (walked_with o filled.0) o.roots walks (opened_is image o is).roots);
     free_are = λ tree ino. ap (λ (free : set.BTreeSet Inode). free_in free tree ino) made.free_is ∙ ap (λ (free : Frees). free tree ino) filled.2.free;
     trees = walked_with o filled.0;
     walks = walks;
@@ -188,19 +183,19 @@ module _ {L : Type 0} (image : List ℕ) (o : Opened) (tables : Tables L) (named
       ∙ filled.2.spans span
       ∙ ap (λ (sup : Super). times_of_span (spans_of sup.nodesize records) span) (sym made.sup_is)
 
-  stands : AscendLaw → IndexStands image index
-  stands law = record {
-    known = record { bases = bases law; sums = sums_are; spans = spans_are };
+  stands : IndexStands image index
+  stands = record {
+    known = record { bases = bases; sums = sums_are; spans = spans_are };
     raw = made.raw_is ∙ (opened_is image o is).raw;
     entries = is_tidy index.totals;
   }
 
-  pub ready : (before between after : ℕ) → AscendLaw → between ≤ before + 1 + 2 * block_count o.seen
+  pub ready : (before between after : ℕ) → between ≤ before + 1 + 2 * block_count o.seen
       → IfOk (named_records o image) (λ found. after ≤ between + 2 * block_count found)
       → IsReady image before after index
-  ready before between after law first second = record {
+  ready before between after first second = record {
     accepted = accepted;
-    stands = stands law;
+    stands = stands;
     trees = walked_with o filled.0;
     walks = walks;
     reads = few_reads o filled.0 before between after first (subst (λ (r : Records). IfOk r (λ found. after ≤ between + 2 * block_count found)) filled.1 second);
@@ -212,19 +207,19 @@ module _ {L : Type 0} (image : List ℕ) (o : Opened) (tables : Tables L) (named
 plain : (m : FinMap nat_cmp ℕ) (image : List ℕ) → m ≡ empty → overlaid m 0 image ≡ image
 plain m image none = ap (λ (k : FinMap nat_cmp ℕ). overlaid k 0 image) none ∙ overlaid-empty 0 image
 
-pub ready_told : {L : Type 0} (told : Option (List ℕ)) (m : FinMap nat_cmp ℕ) (o : Opened) (tables : Tables L) (named : List RootAt) (index : Index L)
-    (before between after : ℕ) → m ≡ empty → AscendLaw
+pub ready_told : {L : Type 0} (told : Option (List ℕ)) (m : FinMap nat_cmp ℕ) (o : Opened) (tables : Tables L) (index : Index L)
+    (before between after : ℕ) → m ≡ empty
     → IfSome told (λ image. opened (overlaid m 0 image) ≡ Ok o)
     → IfSome told (λ image. accounts_in o (overlaid m 0 image) ≡ Ok (tt {0}))
     → IfSome told (λ image. AreTablesOf o (overlaid m 0 image) tables)
-    → IsMade o tables named index
+    → IsMade o tables index
     → IfSome told (λ _. between ≤ before + 1 + 2 * block_count o.seen)
     → IfSome told (λ image. IfOk (named_records o (overlaid m 0 image)) (λ found. after ≤ between + 2 * block_count found))
     → IfSome told (λ image. IsReady image before after index)
-ready_told None m o tables named index before between after none law is accounts filled made first second = tt
-ready_told (Some image) m o tables named index before between after none law is accounts filled made first second =
+ready_told None m o tables index before between after none is accounts filled made first second = tt
+ready_told (Some image) m o tables index before between after none is accounts filled made first second =
     subst (λ (x : List ℕ). IsReady x before after index) (plain m image none)
-    (ready (overlaid m 0 image) o tables named index is accounts filled made before between after law first second)
+    (ready (overlaid m 0 image) o tables index is accounts filled made before between after first second)
 
 no_memory : (told : Option (List ℕ)) → IfSome told (λ _. Unit {0})
 no_memory None = tt

@@ -1,5 +1,4 @@
 pub mod CFilling
 pub mod CTables
 pub mod COpened
-pub mod CAscend
 pub mod CReady

@@ -1,8 +1,10 @@
 //! The start of an index.
 
-ghost use Rattle.std.specs.Prelude.{◌≡◌, ◌≤◌, IfOk, IfSome, OnOk};
+ghost use Rattle.std.specs.Prelude.{◌≡◌, ◌≤◌, map, IfOk, IfSome, OnOk};
 ghost use Rattle.recon_disk.specs.Keeping.{Kept};
 ghost use Rattle.block_source.specs.Gives.{is_disk_fault, is_disk_halt};
+ghost use Rattle.chunk_map.specs.Roots.{KeysAscend};
+ghost use Rattle.tree_change.specs.Merging.{root_at};
 ghost use Rattle.commit_judge.specs.Filling.{IsIndexed};
 ghost use Rattle.commit_judge.specs.Start.{HasRoom, IsBuilt};
 
@@ -13,7 +15,8 @@ use block_source::{Fault, Halt, told};
 use plain_check::Volume;
 use recon_disk::{Disk, Steps};
 use std::alloc::Global;
-use verdict::Finding;
+use verdict::{Finding, NoMemory};
+use volume_items::{RootAt, RootItem};
 use write_cache::WriteCache;
 
 /// What the start of an index gives.
@@ -79,8 +82,7 @@ fn index_of<D: Disk, L>(
     let cache = WriteCache::new(alloc);
     let volume = Volume::open(alloc, disk, &cache, end)?;
     let tables = tables_of(alloc, disk, &cache, &volume, steps)?;
-    let roots = roots_of(alloc, &volume.roots)?;
-    let roots = ascending(alloc, &roots)?;
+    let roots = named_roots(alloc, &volume.roots)?;
     Ok(Index {
         raw: volume.raw,
         sup: volume.sup,
@@ -91,4 +93,14 @@ fn index_of<D: Disk, L>(
         totals: tables.totals,
         spans: tables.spans,
     })
+}
+
+// Where trees begin by the root items of an accepted image, whose keys ascend.
+fn named_roots(alloc: Global, items: &[RootItem]) -> Result<Vec<RootAt>, NoMemory>
+    ensures ascend { IfOk result (λ list. KeysAscend list.items) }
+    ensures same { KeysAscend (map root_at items.now) → IfOk result
+        (λ list. list.items ≡ map root_at items.now) }
+{
+    let roots = roots_of(alloc, items)?;
+    ascending(alloc, &roots)
 }

@@ -84,23 +84,27 @@ pub(crate) fn tables_of<D: Disk, L>(
         },
     };
     volume.read_all(alloc, disk, cache, &mut all)?;
-    if let Some(found) = all.first.finding()? {
-        return Err(Halt::Found(found));
-    }
     let Both {
-        first: lives,
-        second: filling,
-    } = all.second;
-    Ok(filling.finish(lives)?)
+        first: mut accounts,
+        second:
+            Both {
+                first: lives,
+                second: filling,
+            },
+    } = all;
+    match accounts.finding()? {
+        Some(found) => Err(Halt::Found(found)),
+        None => Ok(filling.finish(lives)?),
+    }
 }
 
 /// The sums of what records post but to sectors, the spans that they have, and the inodes whose data has no checksums. All go into the
 /// tables of an index, each by looks that are counted.
 #[derive(Drop)]
-pub(crate) struct Filling<'a, L> {
+pub(crate) struct Filling<'m, 's, L> {
     alloc: Global,
     // The chunks of the image.
-    map: &'a ChunkMap,
+    map: &'m ChunkMap,
     // Its size of a tree block in bytes.
     nodesize: u32,
     // The sums, but for what is not yet added to them.
@@ -111,17 +115,17 @@ pub(crate) struct Filling<'a, L> {
     // The inodes.
     free: BTreeSet<Inode>,
     // The looks.
-    steps: &'a mut Steps<L>,
+    steps: &'s mut Steps<L>,
 }
 
-impl<'a, L> Filling<'a, L> {
+impl<'m, 's, L> Filling<'m, 's, L> {
     // What is made of no records, of an image with these chunks and this size of a tree block in bytes.
     fn new(
         alloc: Global,
-        map: &'a ChunkMap,
+        map: &'m ChunkMap,
         nodesize: u32,
-        steps: &'a mut Steps<L>,
-    ) -> Filling<'a, L>
+        steps: &'s mut Steps<L>,
+    ) -> Filling<'m, 's, L>
         ensures { filled_in result ≡ of_none map.now nodesize }
     {
         Filling {
@@ -182,7 +186,7 @@ impl<'a, L> Filling<'a, L> {
     }
 }
 
-impl<'a, L> Taker for Filling<'a, L> {
+impl<'m, 's, L> Taker for Filling<'m, 's, L> {
     ghost use Rattle.commit_judge.specs.Filling.{Filled};
 
     ghost Held = { Filled };

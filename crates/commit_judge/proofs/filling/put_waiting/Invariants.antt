@@ -3,4 +3,4 @@ use Rattle.commit_judge.proofs.filling.put_waiting.Given as goal
 
 -- each posting is taken once
 abbrev pub decreases-loop-posting : goal.decreases-loop-posting
-decreases-loop-posting l = length l.posts
+decreases-loop-posting g l = length l.posts
