@@ -207,7 +207,7 @@ module _ {L : Type 0} (image : List ℕ) (o : Opened) (tables : Tables L) (index
 plain : (m : FinMap nat_cmp ℕ) (image : List ℕ) → m ≡ empty → overlaid m 0 image ≡ image
 plain m image none = ap (λ (k : FinMap nat_cmp ℕ). overlaid k 0 image) none ∙ overlaid-empty 0 image
 
-pub ready_told : {L : Type 0} (told : Option (List ℕ)) (m : FinMap nat_cmp ℕ) (o : Opened) (tables : Tables L) (index : Index L)
+told_ready : {L : Type 0} (told : Option (List ℕ)) (m : FinMap nat_cmp ℕ) (o : Opened) (tables : Tables L) (index : Index L)
     (before between after : ℕ) → m ≡ empty
     → IfSome told (λ image. opened (overlaid m 0 image) ≡ Ok o)
     → IfSome told (λ image. accounts_in o (overlaid m 0 image) ≡ Ok (tt {0}))
@@ -216,10 +216,23 @@ pub ready_told : {L : Type 0} (told : Option (List ℕ)) (m : FinMap nat_cmp ℕ
     → IfSome told (λ _. between ≤ before + 1 + 2 * block_count o.seen)
     → IfSome told (λ image. IfOk (named_records o (overlaid m 0 image)) (λ found. after ≤ between + 2 * block_count found))
     → IfSome told (λ image. IsReady image before after index)
-ready_told None m o tables index before between after none is accounts filled made first second = tt
-ready_told (Some image) m o tables index before between after none is accounts filled made first second =
+told_ready None m o tables index before between after none is accounts filled made first second = tt
+told_ready (Some image) m o tables index before between after none is accounts filled made first second =
     subst (λ (x : List ℕ). IsReady x before after index) (plain m image none)
     (ready (overlaid m 0 image) o tables index is accounts filled made before between after first second)
+
+-- the same where the disk tells the same bytes once the image is open
+pub ready_told : {L : Type 0} (told now : Option (List ℕ)) (m : FinMap nat_cmp ℕ) (o : Opened) (tables : Tables L) (index : Index L)
+    (before between after : ℕ) → now ≡ told → m ≡ empty
+    → IfSome told (λ image. opened (overlaid m 0 image) ≡ Ok o)
+    → IfSome now (λ image. accounts_in o (overlaid m 0 image) ≡ Ok (tt {0}))
+    → IfSome now (λ image. AreTablesOf o (overlaid m 0 image) tables)
+    → IsMade o tables index
+    → IfSome told (λ _. between ≤ before + 1 + 2 * block_count o.seen)
+    → IfSome now (λ image. IfOk (named_records o (overlaid m 0 image)) (λ found. after ≤ between + 2 * block_count found))
+    → IfSome told (λ image. IsReady image before after index)
+ready_told told now m o tables index before between after same none is accounts filled made first second =
+    told_ready told m o tables index before between after none is (rw same at accounts) (rw same at filled) made first (rw same at second)
 
 no_memory : (told : Option (List ℕ)) → IfSome told (λ _. Unit {0})
 no_memory None = tt
@@ -251,14 +264,15 @@ halted_open disk at m (Found finding) before after none gives =
     refused_told (disk.bytes at) m finding none (unopened_told (disk.bytes at) m finding gives)
 
 -- they stopped there, or at the accounts
-pub halted_tables : {D L : Type 0} (disk : Ghosts D) (at : D) (m : FinMap nat_cmp ℕ) (o : Opened) (halt : Halt) (before after : ℕ) → m ≡ empty
+pub halted_tables : {D L : Type 0} (disk : Ghosts D) (at later : D) (m : FinMap nat_cmp ℕ) (o : Opened) (halt : Halt) (before after : ℕ)
+    → disk.bytes later ≡ disk.bytes at → m ≡ empty
     → IfSome (disk.bytes at) (λ image. opened (overlaid m 0 image) ≡ Ok o)
-    → Gives {A = Unit {0}} disk at m (Err halt) (λ image. accounts_in o image)
+    → Gives {A = Unit {0}} disk later m (Err halt) (λ image. accounts_in o image)
     → IfSome (disk.bytes at) (λ image. IsIndexed {L} image before after (Err halt))
-halted_tables disk at m o Disk before after none is gives = no_memory (disk.bytes at)
-halted_tables disk at m o NoMemory before after none is gives = no_memory (disk.bytes at)
-halted_tables disk at m o (Found finding) before after none is gives =
-    refused_told (disk.bytes at) m finding none (unpassed_told (disk.bytes at) m o finding is gives)
+halted_tables disk at later m o Disk before after same none is gives = no_memory (disk.bytes at)
+halted_tables disk at later m o NoMemory before after same none is gives = no_memory (disk.bytes at)
+halted_tables disk at later m o (Found finding) before after same none is gives =
+    refused_told (disk.bytes at) m finding none (unpassed_told (disk.bytes at) m o finding is (rw same at gives))
 
 -- memory was wanting
 pub halted_memory : {L : Type 0} (told : Option (List ℕ)) (before after : ℕ) → IfSome told (λ image. IsIndexed {L} image before after (Err NoMemory))

@@ -1,5 +1,5 @@
 -- What three make of all records of an image: its accounts, its live pairs, and what fills the other tables of its index.
-use Rattle.std.proofs.Common.{◌≡◌, ℕ, List, [], ◌∷◌, ◌++◌, Option, Some, None, Result, Ok, Err, IfSome, refl, ap, sym, ◌∙◌}
+use Rattle.std.proofs.Common.{◌≡◌, ℕ, ◌+◌, List, [], ◌∷◌, ◌++◌, Option, Some, None, Result, Ok, Err, IfSome, refl, ap, sym, ◌∙◌, arith}
 use Rattle.std.specs.Ordering.{nat_cmp}
 use Rattle.std.specs.FinMap.{FinMap}
 use Rattle.std.specs.List.{filter_map, fold}
@@ -127,6 +127,9 @@ rest_made o more start final lives lives' filled filled' is =
       sym (accounted_fold with_located filled all) ∙ ap (λ (both : Rest). both.1) two,
     )
 
+nothing_more : (n : ℕ) → 0 + n ≡ n
+nothing_more n = omega arith
+
 -- what was made, put into the tables
 pub record IsPut {L : Type 0} (lives : List Live) (filled : Filled) (tables : Tables L) : Type 0 where
   pub live : pairs_of tables.live ≡ table_of (finished lives)
@@ -155,7 +158,7 @@ tables_made o (Ok more) start final lives lives' filled filled' tables none empt
       record {
         live = put.live ∙ ap (λ (l : List Live). table_of (finished l)) (sym of_lives) ∙ ap table_of (lives_made all);
         sums = put.sums ∙ ap (λ (f : Filled). f.sums) (sym of_filled) ∙ sums_after held nothing none_free;
-        spans = λ span. ap (λ (t : Span → ℕ). t span) put.spans ∙ ap (λ (f : Filled). f.spans span) (sym of_filled) ∙ spans_after held nothing span;
+        spans = λ span. ap (λ (t : Span → ℕ). t span) put.spans ∙ ap (λ (f : Filled). f.spans span) (sym of_filled) ∙ spans_after held nothing span ∙ nothing_more _;
         free = put.free ∙ ap (λ (f : Filled). f.free) (sym of_filled) ∙ free_after held nothing ∙ first_free held;
       },
     )
