@@ -47,7 +47,7 @@ range_whole one range span true written is sectors =
 sums_whole : (item : SumFields) → IsLawful (SumsPart item) → IsWhole (sums_span item)
 sums_whole item sound = let fits = sound.1 in (eqb-true _ _ sound.0, omega (arith, fits))
 
-span_whole : (n : ℕ) (one : Located) (part : Part) (span : Span) → span_in n one.tree part ≡ Some span → IsLawfulIn n one part → IsLawful part
+pub span_whole : (n : ℕ) (one : Located) (part : Part) (span : Span) → span_in n one.tree part ≡ Some span → IsLawfulIn n one part → IsLawful part
     → IsWhole span
 span_whole n one (ExtentPart item) span is lawful sound =
     subst IsWhole (one_span (extent_span n item) span is)

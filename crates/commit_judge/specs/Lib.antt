@@ -2,11 +2,13 @@ pub mod Ascending
 pub mod Flags
 pub mod Index
 pub mod Counts
+pub mod Decided
 pub mod Fresh
 pub mod Judged
 pub mod Plan
 pub mod Posting
 pub mod Moves
+pub mod Judging
 pub mod Tables
 pub mod Start
 pub mod Filling

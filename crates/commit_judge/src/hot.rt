@@ -3,10 +3,11 @@
 ghost use Rattle.std.specs.Prelude.{◌≡◌, ◌||◌, not};
 ghost use Rattle.std.specs.List.{count_by};
 ghost use Rattle.live_index.specs.declared.live.Live.{Live as ALive};
-ghost use Rattle.touched_pairs.specs.Touched.{stays_in_place, touches_block, written_in};
+ghost use Rattle.touched_pairs.specs.Touched.{any_written, copy_written, same_place, stays_in_place, touches_block, written_in};
 
 use chunk_map::ChunkMap;
 use live_index::Live;
+use verdict::Place;
 use write_cache::WriteCache;
 
 /// Of how many live pairs of the old image a pending write touches a byte of a copy, or the new chunks have no place or another. The device
@@ -44,7 +45,35 @@ fn is_hot(
     ensures { result ≡ (touches_block (written_in cache.now) old.now nodesize end address
         || not (stays_in_place old.now new.now nodesize end address)) }
 {
-    let place = old.place(address, u64::from(nodesize), end);
-    is_written(cache, &place, nodesize)
-        || place != new.place(address, u64::from(nodesize), end)
+    let size = u64::from(nodesize);
+    let was = old.place(address, size, end);
+    let is = new.place(address, size, end);
+    is_written(cache, &was, nodesize) || !are_same(&was, &is)
+}
+
+// Whether two places are the same.
+fn are_same(one: &Place, other: &Place) -> bool
+    ensures { result ≡ same_place one.now other.now }
+{
+    one == other
+}
+
+// Whether a pending write touches a byte of a copy of the block, of `nodesize` bytes, that stands at a place.
+fn is_written(cache: &WriteCache, place: &Place, nodesize: u32) -> bool
+    ensures { result ≡ copy_written (written_in cache.now) nodesize place.now }
+{
+    match *place {
+        Place::Nowhere => false,
+        Place::One(first) => touches(cache, first, nodesize),
+        Place::Two(first, second) => {
+            touches(cache, first, nodesize) || touches(cache, second, nodesize)
+        }
+    }
+}
+
+// Whether a pending write has one of so many bytes from an offset on.
+fn touches(cache: &WriteCache, at: u64, nodesize: u32) -> bool
+    ensures { result ≡ any_written (written_in cache.now) at nodesize }
+{
+    cache.touches(at, u64::from(nodesize))
 }

@@ -1,7 +1,6 @@
 //! The index of an accepted image.
 
 ghost use Rattle.std.specs.Prelude.{◌≡◌};
-ghost use Rattle.volume_items.specs.declared.root_at.RootAt.{RootAt as ARoot};
 ghost use Rattle.chunk_map.specs.Roots.{KeysAscend};
 ghost use Rattle.commit_judge.specs.Ascending.{KeysAscend-prop};
 

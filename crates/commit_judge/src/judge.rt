@@ -1,16 +1,40 @@
 //! The judge of a commit.
 
-ghost use Rattle.std.specs.Prelude.{◌≡◌, IfOk, IfSome};
+ghost use Rattle.std.specs.Prelude.{ℕ, ◌≡◌, ◌+◌, ◌≤◌, List, length, map, IfOk, IfSome, OnOk};
+ghost use Rattle.std.specs.List.{count_by};
 ghost use Rattle.recon_disk.specs.Keeping.{Kept};
-ghost use Rattle.block_source.specs.Gives.{is_disk_fault};
-ghost use Rattle.commit_judge.specs.Index.{IndexStands};
+ghost use Rattle.block_source.specs.Gives.{is_disk_fault, is_disk_halt};
+ghost use Rattle.change_records.specs.Made.{IsMade};
+ghost use Rattle.chunk_map.specs.Roots.{KeysAscend};
+ghost use Rattle.ledger_index.specs.Ledger.{sums_of};
+ghost use Rattle.span_index.specs.Sectors.{AreRunsFrom};
+ghost use Rattle.span_index.specs.Table.{times_of};
+ghost use Rattle.tree_change.specs.Gathered.{located_item};
+ghost use Rattle.tree_change.specs.Merging.{IsSortedOf, named_before, roots_left};
+ghost use Rattle.commit_judge.specs.Index.{IndexStands, known};
 ghost use Rattle.commit_judge.specs.Judged.{HasRoom, IsJudgement};
+ghost use Rattle.commit_judge.specs.Judging.{IsLeastOf, is_hot_by, next_of};
+ghost use Rattle.commit_judge.specs.Decided.{IsDecided};
+ghost use Rattle.commit_judge.specs.Moves.{context_after};
+ghost use Rattle.commit_judge.specs.Plan.{IsPlanOf, IsPlanned, commit_in};
 
+use crate::apply::{apply, undo};
+use crate::hot::count_hot;
 use crate::index::Index;
-use block_source::Fault;
+use crate::laws::{counts_law, tried_law};
+use crate::moves::{Moves, after, moves_of};
+use crate::plan::{Plan, plan_of};
+use crate::roots::ascending;
+use account_sums::least_finding;
+use block_source::{Fault, Halt, told};
+use change_records::Made;
+use live_maker::{put_pairs, take_pairs};
 use recon_disk::{Disk, Steps};
 use std::alloc::Global;
-use verdict::Finding;
+use touched_accounts::judge_touched;
+use tree_change::{Change, merge_roots};
+use verdict::{Family, Finding, NoMemory, SUPERBLOCK_AT, SUPERBLOCK_SIZE};
+use volume_items::RootAt;
 use write_cache::WriteCache;
 
 /// The judgement of a commit.
@@ -66,5 +90,187 @@ pub fn judge_within<D: Disk, L>(
     ensures room { IfOk result (HasRoom (D.len disk.old)) }
     ensures kept { Kept D.Disk disk.old disk.new (is_disk_fault result) }
 {
-    Err(Fault::NoMemory)
+    match told(judge_blocks(alloc, disk, cache, end, index, steps))? {
+        Ok(judged) => Ok(judged),
+        Err(finding) => Ok(Judged::Rejected(finding)),
+    }
+}
+
+// The judgement by the accounts, or the first finding of what the judged image holds.
+fn judge_blocks<D: Disk, L>(
+    alloc: Global,
+    disk: &mut D,
+    cache: &WriteCache,
+    end: u64,
+    index: &mut Index<L>,
+    steps: &mut Steps<L>,
+) -> Result<Judged, Halt>
+    requires { end ≡ D.len disk.old }
+    ensures told { IfSome (D.bytes disk.old) (λ image. IndexStands image index.old →
+        IsDecided image cache.now index.old index.new (D.reads disk.old) (D.reads disk.new) result) }
+    ensures room { OnOk result (69632 ≤ end) }
+    ensures kept { Kept D.Disk disk.old disk.new (is_disk_halt result) }
+{
+    let plan = plan_within(alloc, disk, cache, end, index, steps)?;
+    Ok(judge_plan(alloc, cache, end, index, plan, steps)?)
+}
+
+// What the pending writes change, where the superblock lies on a device of `end` bytes.
+fn plan_within<D: Disk, L>(
+    alloc: Global,
+    disk: &mut D,
+    cache: &WriteCache,
+    end: u64,
+    index: &Index<L>,
+    steps: &mut Steps<L>,
+) -> Result<Plan, Halt>
+    requires { end ≡ D.len disk.old }
+    ensures told { IfSome (D.bytes disk.old) (λ image. IndexStands image index.now →
+        IsPlanned image cache.now (known index.now) (D.reads disk.old) (D.reads disk.new) result) }
+    ensures room { OnOk result (69632 ≤ end) }
+    ensures kept { Kept D.Disk disk.old disk.new (is_disk_halt result) }
+{
+    if end < SUPERBLOCK_AT + SUPERBLOCK_SIZE {
+        return Err(Halt::Found(Finding::of_image(Family::S, 1, end)));
+    }
+    plan_of(alloc, disk, cache, index, steps)
+}
+
+// The judgement of what a plan changes, on a device of `end` bytes. Out of memory, the index is spent.
+fn judge_plan<L>(
+    alloc: Global,
+    cache: &WriteCache,
+    end: u64,
+    index: &mut Index<L>,
+    plan: Plan,
+    steps: &mut Steps<L>,
+) -> Result<Judged, NoMemory>
+    ensures { IfOk result (λ judged. (image : List ℕ) (before after : ℕ) →
+        IndexStands image index.old → length image ≡ end →
+        IsPlanOf image cache.now (known index.old) before after plan →
+        IsJudgement image cache.now index.new before after judged) }
+{
+    let made = made_by(alloc, &plan)?;
+    let roots = roots_after(alloc, index, &plan)?;
+    let moves = moves_of(alloc, index, &plan, &made, steps)?;
+    apply(&mut index.totals, &mut index.spans, &moves, steps)?;
+    tried_law();
+    if let Some(finding) = finding_by(alloc, index, &plan, &made, &moves, steps) {
+        undo(&mut index.totals, &mut index.spans, &moves, steps)?;
+        return Ok(Judged::Rejected(finding));
+    }
+    counts_law();
+    let hot = hot_in(cache, index, &plan, end);
+    let blocks = blocks_in(&plan.change);
+    let generation = plan.sup.generation;
+    pass(alloc, index, plan, &made, &roots, steps)?;
+    Ok(Judged::Passed {
+        generation,
+        blocks,
+        hot,
+    })
+}
+
+// What the changes of a plan make of the flags of inodes.
+fn made_by(alloc: Global, plan: &Plan) -> Result<Made, NoMemory>
+    ensures { IfOk result (λ made. IsMade plan.now.change.old_items.items plan.now.change.new_items.items plan.now.changes.items made) }
+{
+    let change = &plan.change;
+    Made::of(
+        alloc,
+        plan.changes.as_slice(),
+        change.old_items.as_slice(),
+        change.new_items.as_slice(),
+    )
+}
+
+// The root items of the judged image.
+fn roots_after<L>(alloc: Global, index: &Index<L>, plan: &Plan) -> Result<Vec<RootAt>, NoMemory>
+    ensures { IfOk result (λ roots. IsSortedOf named_before
+        (roots_left index.now.roots.items
+        (map located_item plan.now.change.old_items.items) (map located_item plan.now.change.new_items.items)) roots.items) }
+{
+    let change = &plan.change;
+    merge_roots(
+        alloc,
+        index.roots.as_slice(),
+        change.old_items.as_slice(),
+        change.new_items.as_slice(),
+    )
+}
+
+// The finding of the least account that is broken behind the moves, where one is: of those to which they post, and of the sectors in their
+// runs.
+fn finding_by<L>(
+    alloc: Global,
+    index: &Index<L>,
+    plan: &Plan,
+    made: &Made,
+    moves: &Moves,
+    steps: &mut Steps<L>,
+) -> Option<Finding>
+    requires made { IsMade plan.now.change.old_items.items plan.now.change.new_items.items plan.now.changes.items made.now }
+    requires runs { AreRunsFrom 0 moves.now.runs.items }
+    ensures { IsLeastOf (sums_of index.now.totals) (times_of index.now.spans)
+        (context_after (known index.now) (commit_in plan.now)) moves.now result }
+{
+    let after = after(index, plan, made);
+    let bad = index.spans.first_bad(&after, moves.runs.as_slice(), steps);
+    let least = judge_touched(&index.totals, &moves.gone, &moves.came, steps);
+    least_finding(alloc, bad, least)
+}
+
+// How many old blocks a stop may harm.
+fn hot_in<L>(cache: &WriteCache, index: &Index<L>, plan: &Plan, end: u64) -> u64
+    ensures { result ≡ count_by (is_hot_by (known index.now) (commit_in plan.now) cache.now end)
+        plan.now.change.old_blocks.items }
+{
+    count_hot(
+        cache,
+        &index.map,
+        &plan.change.map,
+        index.sup.nodesize,
+        end,
+        plan.change.old_blocks.as_slice(),
+    )
+}
+
+// How many live pairs of both images are not shared.
+fn blocks_in(change: &Change) -> u64
+    ensures { result ≡ length change.now.old_blocks.items + length change.now.new_blocks.items }
+{
+    change.old_blocks.len() as u64 + change.new_blocks.len() as u64
+}
+
+// Makes the index that of the judged image, once the moves are applied. Out of memory, a part of it is done.
+fn pass<L>(
+    alloc: Global,
+    index: &mut Index<L>,
+    plan: Plan,
+    made: &Made,
+    roots: &[RootAt],
+    steps: &mut Steps<L>,
+) -> Result<(), NoMemory>
+    requires { IsMade plan.change.old_items.items plan.change.new_items.items plan.changes.items made.now }
+    ensures known { KeysAscend roots.now → OnOk result (known index.new ≡
+        next_of (known index.old) (commit_in plan) roots.now
+        (sums_of index.old.totals) (times_of index.old.spans)) }
+    ensures raw { OnOk result (index.new.raw ≡ plan.raw) }
+    ensures totals { OnOk result (index.new.totals ≡ index.old.totals) }
+{
+    let Plan {
+        raw,
+        sup,
+        change,
+        ..
+    } = plan;
+    take_pairs(&mut index.live, change.old_blocks.as_slice(), steps);
+    put_pairs(&mut index.live, change.new_blocks.as_slice(), steps)?;
+    put_pairs(&mut index.live, change.moved.as_slice(), steps)?;
+    made.turn(&mut index.sum_free)?;
+    index.roots = ascending(alloc, roots)?;
+    index.raw = raw;
+    index.sup = sup;
+    index.map = change.map;
+    Ok(())
 }

@@ -1,6 +1,7 @@
 //! The judge of a commit: from the blocks that the accepted image and the judged one do not share, and from an index of the accepted image.
 #![tactic(auto)]
 
+mod apply;
 mod build;
 mod context;
 mod filling;
@@ -8,6 +9,7 @@ mod fresh;
 mod hot;
 mod index;
 mod judge;
+mod laws;
 mod moves;
 mod plan;
 mod posts;

@@ -1,6 +1,9 @@
 //! Where trees begin, in the order of the keys of their root items.
 
-ghost use Rattle.std.specs.Prelude.{◌≡◌, map, IfOk};
+ghost use Rattle.std.specs.Prelude.{◌≡◌, ◌∷◌, ◌++◌, [], ◌↔◌, map, true, IfOk, IsTrue, OnOk};
+ghost use Rattle.std.specs.List.{AllByRecursion};
+ghost use Rattle.verdict.specs.OnDisk.{key_below};
+ghost use Rattle.volume_items.specs.declared.root_at.RootAt.{RootAt as ARoot};
 ghost use Rattle.chunk_map.specs.Roots.{KeysAscend};
 ghost use Rattle.tree_change.specs.Merging.{root_at};
 
@@ -12,7 +15,23 @@ use volume_items::{RootAt, RootItem};
 pub(crate) fn roots_of(alloc: Global, items: &[RootItem]) -> Result<Vec<RootAt>, NoMemory>
     ensures { IfOk result (λ roots. roots.items ≡ map root_at items.now) }
 {
-    Err(NoMemory)
+    let mut roots = Vec::new(alloc);
+    for item in items {
+        put(&mut roots, root_at(item))?;
+    }
+    Ok(roots)
+}
+
+// Where the tree of a root item begins.
+fn root_at(item: &RootItem) -> RootAt
+    ensures { result ≡ root_at item.now }
+{
+    RootAt {
+        key: item.key,
+        address: item.bytenr,
+        generation: item.generation,
+        level: item.level,
+    }
 }
 
 /// The same list, where its keys ascend. Of another list, which no accepted image has, those that have no greater key than one before
@@ -21,5 +40,32 @@ pub(crate) fn ascending(alloc: Global, roots: &[RootAt]) -> Result<Vec<RootAt>, 
     ensures ascend { IfOk result (λ list. KeysAscend list.items) }
     ensures same { KeysAscend roots.now → IfOk result (λ list. list.items ≡ roots.now) }
 {
-    Err(NoMemory)
+    let mut list = Vec::new(alloc);
+    for root in roots {
+        if stands_behind(&list, root) {
+            put(&mut list, *root)?;
+        }
+    }
+    Ok(list)
+}
+
+// Whether the key of a root item is greater than all of some that ascend: than the last of these.
+fn stands_behind(list: &[RootAt], root: &RootAt) -> bool
+    requires { KeysAscend list.now }
+    ensures { IsTrue result ↔ AllByRecursion (λ (one : ARoot). key_below one.key (root.now).key ≡ true) list.now }
+{
+    match list.last() {
+        Some(last) => last.key.is_below(&root.key),
+        None => true,
+    }
+}
+
+// Puts where a tree begins behind others.
+fn put(list: &mut Vec<RootAt>, root: RootAt) -> Result<(), NoMemory>
+    ensures { OnOk result (list.new.items ≡ list.old.items ++ root ∷ []) }
+{
+    match list.push(root) {
+        Ok(()) => Ok(()),
+        Err(_) => Err(NoMemory),
+    }
 }

@@ -167,8 +167,8 @@ fn check_readable(sup: &Super) -> Result<(), Halt>
     Ok(())
 }
 
-// Whether blocks are read alike by both superblocks.
-fn are_read_alike(a: &Super, b: &Super) -> bool
+/// Whether blocks are read alike by both superblocks.
+pub fn are_read_alike(a: &Super, b: &Super) -> bool
     ensures { result ≡ are_read_alike a.now b.now }
 {
     a.fsid == b.fsid

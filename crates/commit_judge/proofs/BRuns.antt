@@ -1,0 +1,219 @@
+-- The runs of spans, and runs that are one where they meet or touch.
+use Rattle.std.proofs.Common.{◌≡◌, ℕ, suc, ◌+◌, ◌%◌, ◌<◌, ◌≤◌, ◌⊎◌, max, Bool, true, false, ◌&&◌, ◌||◌, List, [], ◌∷◌, ◌++◌, length, take, get_or, inl, inr, refl, ap, sym, ◌∙◌, subst, arith}
+use Rattle.std.specs.Prelude.{Option, Some, None, IfSome, Result, Ok, Err, IfOk, nat_le, nat_lt, option_to_list}
+use Rattle.std.specs.List.{All, Contains}
+use Rattle.std.specs.List.Sorted.{IsNonDecreasingBy, IsPermutation}
+use Rattle.std.proofs.lemmas.Bool.{and_from, and_parts, leb-true, le-leb, lt-ltb, ltb-true, or_cases, or_left, or_right}
+use Rattle.std.proofs.lemmas.List.{get_or_default, take_more}
+use Rattle.std.proofs.lemmas.List.Elements.{All-append, All-head, All-nil, All-push, All-tail, Contains-push_cases}
+use Rattle.std.proofs.lemmas.List.Folds.{list_any-append}
+use Rattle.std.proofs.lemmas.List.Sorted.{list_any-IsPermutation}
+use Rattle.span_index.specs.Sectors.{AreRunsFrom, IsRun, has_sector, is_inside}
+use Rattle.span_index.specs.declared.span.Run.{Run}
+use Rattle.span_index.specs.declared.span.Span.{Span}
+use Rattle.change_laws.specs.Sectors.{AreInside}
+use Rattle.change_laws.specs.Sound.{IsWhole}
+
+-- ---- addresses inside runs
+
+abbrev covers : ℕ → Run → Bool
+covers address run = nat_le run.from address && nat_lt address run.until
+
+inside_left : (xs ys : List Run) (address : ℕ) → is_inside xs address ≡ true → is_inside (xs ++ ys) address ≡ true
+inside_left xs ys address is = list_any-append (covers address) xs ys ∙ or_left _ _ is
+
+inside_right : (xs ys : List Run) (address : ℕ) → is_inside ys address ≡ true → is_inside (xs ++ ys) address ≡ true
+inside_right xs ys address is = list_any-append (covers address) xs ys ∙ or_right _ _ is
+
+inside_parts : (xs ys : List Run) (address : ℕ) → is_inside (xs ++ ys) address ≡ true → (is_inside xs address ≡ true) ⊎ (is_inside ys address ≡ true)
+inside_parts xs ys address is = or_cases _ _ (sym (list_any-append (covers address) xs ys) ∙ is)
+
+or_false : (b : Bool) → (b || false) ≡ true → b ≡ true
+or_false true is = refl
+or_false false is = is
+
+inside_is : (run : Run) (address : ℕ) → is_inside (run ∷ []) address ≡ true → (run.from ≤ address) × (address < run.until)
+inside_is run address is =
+    let both = and_parts (nat_le run.from address) (nat_lt address run.until) (or_false _ is) in
+    (leb-true run.from address both.0, ltb-true address run.until both.1)
+
+is_in : (run : Run) (address : ℕ) → run.from ≤ address → address < run.until → is_inside (run ∷ []) address ≡ true
+is_in run address from until = or_left _ false (and_from _ _ (le-leb run.from address from) (lt-ltb address run.until until))
+
+-- ---- the runs of all spans
+
+-- the addresses inside runs are inside others
+abbrev pub StayInside : List Run → List Run → Type 0
+StayInside runs others = (address : ℕ) → is_inside runs address ≡ true → is_inside others address ≡ true
+
+pub inside_stays : (runs others : List Run) (spans : List Span) → StayInside runs others → AreInside runs spans → AreInside others spans
+inside_stays runs others spans stay are span address among has = stay address (are span address among has)
+
+pub runs_more : (now new : List Run) (some : Option Run) → All IsRun now → IfSome some IsRun → new ≡ now ++ option_to_list some → All IsRun new
+runs_more now new some are is more = subst (λ l. All IsRun l) (sym more) (by some is)
+  where
+    by : (some : Option Run) → IfSome some IsRun → All IsRun (now ++ option_to_list some)
+    by None is = All-append IsRun now [] are (All-nil IsRun)
+    by (Some run) is = All-push IsRun now run are is
+
+pub stay_more : (old now new : List Run) (some : Option Run) → StayInside old now → new ≡ now ++ option_to_list some → StayInside old new
+stay_more old now new some stay more address is =
+    subst (λ l. is_inside l address ≡ true) (sym more) (inside_left now (option_to_list some) address (stay address is))
+
+pub inside_more : (spans : List Span) (i : ℕ) (d : Span) (now new : List Run) (some : Option Run) → i < length spans
+    → (All IsWhole spans → AreInside now (take i spans))
+    → (IsWhole (get_or spans i d) → (address : ℕ) → has_sector (get_or spans i d) address ≡ true → is_inside (option_to_list some) address ≡ true)
+    → new ≡ now ++ option_to_list some → All IsWhole spans → AreInside new (take (i + 1) spans)
+inside_more spans i d now new some inside so is more whole span address among has =
+    subst (λ l. is_inside l address ≡ true) (sym more)
+    (by (Contains-push_cases (take i spans) (get_or spans i d) span (subst (λ l. Contains l span) (take_more spans i d inside) among)))
+  where
+    by : Contains (take i spans) span ⊎ (get_or spans i d ≡ span) → is_inside (now ++ option_to_list some) address ≡ true
+    by (inl early) = inside_left now (option_to_list some) address (so whole span address early has)
+    by (inr here) =
+        inside_right now (option_to_list some) address
+        (is (whole i d inside) address (subst (λ s. has_sector s address ≡ true) (sym here) has))
+
+-- ---- runs that are one
+
+-- of runs in order the last may end later, or another may follow
+last_swapped : (start : ℕ) (runs : List Run) (run other : Run) → AreRunsFrom start (runs ++ run ∷ []) → run.from ≡ other.from → IsRun other
+    → AreRunsFrom start (runs ++ other ∷ [])
+last_swapped start [] run other are same is = (subst (λ n. start ≤ n) same are.0, is, tt)
+last_swapped start (first ∷ runs) run other are same is = (are.0, are.1, last_swapped first.until runs run other are.2 same is)
+
+last_followed : (start : ℕ) (runs : List Run) (run other : Run) → AreRunsFrom start (runs ++ run ∷ []) → run.until ≤ other.from → IsRun other
+    → AreRunsFrom start ((runs ++ run ∷ []) ++ other ∷ [])
+last_followed start [] run other are behind is = (are.0, are.1, (behind, is, tt))
+last_followed start (first ∷ runs) run other are behind is = (are.0, are.1, last_followed first.until runs run other are.2 behind is)
+
+last_is : (start : ℕ) (runs : List Run) (run : Run) → AreRunsFrom start (runs ++ run ∷ []) → IsRun run
+last_is start [] run are = are.1
+last_is start (first ∷ runs) run are = last_is first.until runs run are.2
+
+-- a run that ends where the later of two does
+abbrev pub joined : Run → Run → Run
+joined run other = record { from = run.from; until = max run.until other.until }
+
+joined_is : (run other : Run) → IsRun run → IsRun other → IsRun (joined run other)
+joined_is run other is its =
+    let low : run.from < run.until = is.2 in
+    (is.0, whole (max_is run.until other.until), omega arith)
+  where
+    max_is : (a b : ℕ) → (max a b ≡ a) ⊎ (max a b ≡ b)
+    max_is a b = grind arith
+
+    whole : (max run.until other.until ≡ run.until) ⊎ (max run.until other.until ≡ other.until) → max run.until other.until % 4096 ≡ 0
+    whole (inl same) = ap (λ n. n % 4096) same ∙ is.1
+    whole (inr same) = ap (λ n. n % 4096) same ∙ its.1
+
+-- Of runs by where they begin, the first and so many of the rest are merged into some and the last, which may still grow.
+pub record AreMerged (runs rest : List Run) (i : ℕ) (some : List Run) (last : Run) : Type 0 where
+  pub first : Run
+  pub parts : runs ≡ first ∷ rest
+  pub ascend : AreRunsFrom 0 (some ++ last ∷ [])
+  pub behind : (k : ℕ) (d : Run) → i ≤ k → k < length rest → last.from ≤ (get_or rest k d).from
+  pub inside : StayInside (first ∷ take i rest) (some ++ last ∷ [])
+
+-- where a run begins
+abbrev begin : Run → ℕ
+begin run = run.from
+
+pub merged_first : (runs rest some : List Run) (first : Run) → runs ≡ first ∷ rest → All IsRun runs → IsNonDecreasingBy (λ (run : Run). run.from) runs
+    → some ≡ [] → AreMerged runs rest 0 some first
+merged_first runs rest some first parts are up none = record {
+  first = first;
+  parts = parts;
+  ascend = subst (λ l. AreRunsFrom 0 (l ++ first ∷ [])) (sym none)
+      (omega arith, All-head IsRun first rest (subst (λ l. All IsRun l) parts are), tt);
+  behind = λ k d low inside. subst (λ l. IsNonDecreasingBy begin l) parts up 0 (suc k) d (omega arith) (omega arith);
+  inside = λ address is. subst (λ l. is_inside (l ++ first ∷ []) address ≡ true) (sym none) is;
+}
+
+split_inside : (first : Run) (rest : List Run) (i : ℕ) (d : Run) (address : ℕ) → i < length rest
+    → is_inside (first ∷ take (i + 1) rest) address ≡ true
+    → (is_inside (first ∷ take i rest) address ≡ true) ⊎ (is_inside (get_or rest i d ∷ []) address ≡ true)
+split_inside first rest i d address inside is =
+    inside_parts (first ∷ take i rest) (get_or rest i d ∷ []) address
+    (subst (λ l. is_inside (first ∷ l) address ≡ true) (take_more rest i d inside) is)
+
+rest_is : (runs rest : List Run) (first : Run) (i : ℕ) (d : Run) → runs ≡ first ∷ rest → All IsRun runs → i < length rest → IsRun (get_or rest i d)
+rest_is runs rest first i d parts are inside = All-tail IsRun first rest (subst (λ l. All IsRun l) parts are) i d inside
+
+-- the next run meets or touches the last
+pub merged_joined : (runs rest : List Run) (i : ℕ) (d : Run) (some : List Run) (last : Run) (until : ℕ) → i < length rest → All IsRun runs
+    → until ≡ max last.until (get_or rest i d).until → AreMerged runs rest i some last
+    → AreMerged runs rest (i + 1) some (record { from = last.from; until = until })
+merged_joined runs rest i d some last until inside are is so =
+    subst (λ n. AreMerged runs rest (i + 1) some (record { from = last.from; until = n })) (sym is) all
+  where
+    begins : last.from ≤ (get_or rest i d).from
+    begins = so.behind i d (omega arith) inside
+
+    here : (address : ℕ) → is_inside (last ∷ []) address ≡ true → is_inside (joined last (get_or rest i d) ∷ []) address ≡ true
+    here address has =
+        let at = inside_is last address has in
+        let high : address < last.until = at.1 in
+        is_in (joined last (get_or rest i d)) address at.0 (omega arith)
+
+    there : (address : ℕ) → is_inside (get_or rest i d ∷ []) address ≡ true → is_inside (joined last (get_or rest i d) ∷ []) address ≡ true
+    there address has =
+        let at = inside_is (get_or rest i d) address has in
+        let low : (get_or rest i d).from ≤ address = at.0 in
+        let high : address < (get_or rest i d).until = at.1 in
+        is_in (joined last (get_or rest i d)) address (omega arith) (omega arith)
+
+    by : (address : ℕ) → (is_inside (so.first ∷ take i rest) address ≡ true) ⊎ (is_inside (get_or rest i d ∷ []) address ≡ true)
+        → is_inside (some ++ joined last (get_or rest i d) ∷ []) address ≡ true
+    by address (inl early) = elim (inside_parts some (last ∷ []) address (so.inside address early)) [
+      | inl old ↦ inside_left some (joined last (get_or rest i d) ∷ []) address old
+      | inr new ↦ inside_right some (joined last (get_or rest i d) ∷ []) address (here address new)
+    ]
+    by address (inr later) = inside_right some (joined last (get_or rest i d) ∷ []) address (there address later)
+
+    all : AreMerged runs rest (i + 1) some (joined last (get_or rest i d))
+    all = record {
+      first = so.first;
+      parts = so.parts;
+      ascend = last_swapped 0 some last (joined last (get_or rest i d)) so.ascend refl
+          (joined_is last (get_or rest i d) (last_is 0 some last so.ascend) (rest_is runs rest so.first i d so.parts are inside));
+      behind = λ k e low up. so.behind k e (omega arith) up;
+      inside = λ address has. by address (split_inside so.first rest i d address inside has);
+    }
+
+-- the next run begins behind the last
+pub merged_apart : (runs rest : List Run) (i : ℕ) (d : Run) (some new : List Run) (last : Run) → i < length rest → All IsRun runs
+    → IsNonDecreasingBy (λ (run : Run). run.from) runs → last.until < (get_or rest i d).from → new ≡ some ++ last ∷ []
+    → AreMerged runs rest i some last → AreMerged runs rest (i + 1) new (get_or rest i d)
+merged_apart runs rest i d some new last inside are up behind more so =
+    subst (λ l. AreMerged runs rest (i + 1) l (get_or rest i d)) (sym more) all
+  where
+    above : (k : ℕ) (e : Run) → i + 1 ≤ k → k < length rest → (get_or rest i d).from ≤ (get_or rest k e).from
+    above k e low high =
+        subst (λ (r : Run). r.from ≤ (get_or rest k e).from) (get_or_default rest i e d inside)
+        (subst (λ l. IsNonDecreasingBy begin l) so.parts up (suc i) (suc k) e (omega arith) (omega arith))
+
+    by : (address : ℕ) → (is_inside (so.first ∷ take i rest) address ≡ true) ⊎ (is_inside (get_or rest i d ∷ []) address ≡ true)
+        → is_inside ((some ++ last ∷ []) ++ get_or rest i d ∷ []) address ≡ true
+    by address (inl early) = inside_left (some ++ last ∷ []) (get_or rest i d ∷ []) address (so.inside address early)
+    by address (inr later) = inside_right (some ++ last ∷ []) (get_or rest i d ∷ []) address later
+
+    all : AreMerged runs rest (i + 1) (some ++ last ∷ []) (get_or rest i d)
+    all = record {
+      first = so.first;
+      parts = so.parts;
+      ascend = last_followed 0 some last (get_or rest i d) so.ascend (omega (arith, behind)) (rest_is runs rest so.first i d so.parts are inside);
+      behind = above;
+      inside = λ address has. by address (split_inside so.first rest i d address inside has);
+    }
+
+-- ---- all of it
+
+-- what is inside runs is inside those that they are merged into, in their order
+pub merged_spans : {V E : Type 0} (result : Result V E) (items : V → List Run) (runs sorted lent : List Run) (spans : List Span)
+    → IsPermutation runs sorted → lent ≡ sorted → IfOk result (λ some. StayInside lent (items some)) → AreInside runs spans
+    → IfOk result (λ some. AreInside (items some) spans)
+merged_spans (Ok some) items runs sorted lent spans same lends stay are = λ span address among has.
+    stay address (subst (λ l. is_inside l address ≡ true) (sym lends)
+    (sym (list_any-IsPermutation (covers address) runs sorted same) ∙ are span address among has))
+merged_spans (Err e) items runs sorted lent spans same lends stay are = tt

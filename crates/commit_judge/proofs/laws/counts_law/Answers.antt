@@ -1,0 +1,5 @@
+use Rattle.commit_judge.proofs.JCounts.{counts}
+use Rattle.commit_judge.proofs.laws.counts_law.Goals as goal
+
+pub returns : goal.returns
+returns c = counts c.held_law.ensures c.hot_law.ensures

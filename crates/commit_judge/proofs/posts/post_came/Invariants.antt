@@ -1,0 +1,9 @@
+use Rattle.std.proofs.Common.{◌≡◌, take}
+use Rattle.change_laws.specs.Paired.{came_items}
+use Rattle.change_laws.specs.Steps.{all_posts, change_records}
+use Rattle.commit_judge.proofs.posts.post_came.Given as goal
+
+-- the superblock, the blocks and what the changes so far bring have posted
+abbrev pub invariant-loop-change : goal.invariant-loop-change
+invariant-loop-change g l =
+    l.into ≡ all_posts (g.C.Ctx.context l.ctx) (change_records l.sup l.blocks (came_items l.items (take l.change-index l.changes)))

@@ -1,0 +1,8 @@
+use Rattle.std.proofs.Common.{rules}
+use Rattle.std.proofs.lemmas.List.Sorted.{IsNonDecreasingBy-from_sort_by_key}
+use Rattle.span_index.specs.declared.span.Run.{Run}
+use Rattle.commit_judge.proofs.runs.sort_runs.Goals as goal
+
+pub returns-clause-ascend : goal.returns-clause-ascend
+returns-clause-ascend c =
+    IsNonDecreasingBy-from_sort_by_key (λ (run : Run). run.from) _ c.sort_unstable_by_key.ensures.sorted (λ a r q k. search rules)

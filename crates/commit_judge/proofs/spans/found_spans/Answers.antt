@@ -1,0 +1,18 @@
+use Rattle.std.proofs.Common.{subst, sym, take_all}
+use Rattle.std.specs.List.{Contains}
+use Rattle.span_index.specs.Table.{times_of}
+use Rattle.commit_judge.proofs.BFound.{found_more, stand_more}
+use Rattle.commit_judge.proofs.spans.found_spans.Goals as goal
+
+pub loop-at-preserved : goal.loop-at-preserved
+loop-at-preserved g c = record {
+  found = found_more c.args.nodesize (times_of c.args.table.now) c.args.refs.now c.loop-at.at-index _ c.loop-at.found.items c.push_some.new.into.items
+      c.named_span.result c.loop-at-test.true c.loop-at.invariant.found c.named_span.ensures.found c.in_ok-push_some.ensures;
+  stand = stand_more (times_of c.args.table.now) c.loop-at.found.items c.push_some.new.into.items c.named_span.result c.loop-at.invariant.stand
+      c.named_span.ensures.stands c.in_ok-push_some.ensures;
+}
+
+pub returns-clause-found : goal.returns-clause-found
+returns-clause-found g c = λ lawful alone pairs span at stands names among.
+    c.loop-at.invariant.found lawful alone pairs span at stands names
+    (subst (λ l. Contains l at) (sym (take_all c.loop-at.at-index c.args.refs.now c.loop-at-test.false)) among)
