@@ -1,4 +1,16 @@
 pub mod APosts
+pub mod CFilling
+pub mod CTables
+pub mod COpened
+pub mod CReady
+pub mod JCounts
+pub mod JPassed
+pub mod JShort
+pub mod JTried
+pub mod EHot
+pub mod EFresh
+pub mod ERoots
+pub mod EPlan
 pub mod BFound
 pub mod BItems
 pub mod BRuns

@@ -11,3 +11,4 @@ pub mod Moves
 pub mod Judging
 pub mod Tables
 pub mod Start
+pub mod Filling

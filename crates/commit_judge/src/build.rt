@@ -1,15 +1,23 @@
 //! The start of an index.
 
-ghost use Rattle.std.specs.Prelude.{◌≡◌, IfOk, IfSome};
+ghost use Rattle.std.specs.Prelude.{◌≡◌, ◌≤◌, map, IfOk, IfSome, OnOk};
 ghost use Rattle.recon_disk.specs.Keeping.{Kept};
-ghost use Rattle.block_source.specs.Gives.{is_disk_fault};
+ghost use Rattle.block_source.specs.Gives.{is_disk_fault, is_disk_halt};
+ghost use Rattle.chunk_map.specs.Roots.{KeysAscend};
+ghost use Rattle.tree_change.specs.Merging.{root_at};
+ghost use Rattle.commit_judge.specs.Filling.{IsIndexed};
 ghost use Rattle.commit_judge.specs.Start.{HasRoom, IsBuilt};
 
+use crate::filling::tables_of;
 use crate::index::Index;
-use block_source::Fault;
+use crate::roots::{ascending, roots_of};
+use block_source::{Fault, Halt, told};
+use plain_check::Volume;
 use recon_disk::{Disk, Steps};
 use std::alloc::Global;
-use verdict::Finding;
+use verdict::{Finding, NoMemory};
+use volume_items::{RootAt, RootItem};
+use write_cache::WriteCache;
 
 /// What the start of an index gives.
 #[derive(Drop)]
@@ -51,6 +59,48 @@ impl<L> Index<L> {
         ensures room { IfOk result (HasRoom (D.len disk.old)) }
         ensures kept { Kept D.Disk disk.old disk.new (is_disk_fault result) }
     {
-        Err(Fault::NoMemory)
+        match told(index_of(alloc, disk, end, steps))? {
+            Ok(index) => Ok(Built::Ready(index)),
+            Err(finding) => Ok(Built::Refused(finding)),
+        }
     }
+}
+
+// The index of the disk's image, where the full check accepts it, or the finding.
+fn index_of<D: Disk, L>(
+    alloc: Global,
+    disk: &mut D,
+    end: u64,
+    steps: &mut Steps<L>,
+) -> Result<Index<L>, Halt>
+    requires { end ≡ D.len disk.old }
+    ensures told { IfSome (D.bytes disk.old)
+        (λ image. IsIndexed image (D.reads disk.old) (D.reads disk.new) result) }
+    ensures room { OnOk result (69632 ≤ D.len disk.old) }
+    ensures kept { Kept D.Disk disk.old disk.new (is_disk_halt result) }
+{
+    let cache = WriteCache::new(alloc);
+    let volume = Volume::open(alloc, disk, &cache, end)?;
+    let tables = tables_of(alloc, disk, &cache, &volume, steps)?;
+    let roots = named_roots(alloc, &volume.roots)?;
+    Ok(Index {
+        raw: volume.raw,
+        sup: volume.sup,
+        map: volume.map,
+        roots,
+        sum_free: tables.free,
+        live: tables.live,
+        totals: tables.totals,
+        spans: tables.spans,
+    })
+}
+
+// Where trees begin by the root items of an accepted image, whose keys ascend.
+fn named_roots(alloc: Global, items: &[RootItem]) -> Result<Vec<RootAt>, NoMemory>
+    ensures ascend { IfOk result (λ list. KeysAscend list.items) }
+    ensures same { KeysAscend (map root_at items.now) → IfOk result
+        (λ list. list.items ≡ map root_at items.now) }
+{
+    let roots = roots_of(alloc, items)?;
+    ascending(alloc, &roots)
 }

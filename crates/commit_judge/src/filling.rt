@@ -1,1 +1,251 @@
 //! What makes the tables of an index of the records of an image.
+
+ghost use Rattle.std.specs.Prelude.{◌≡◌, [], IfOk, IfSome, OnOk, true};
+ghost use Rattle.verdict.specs.Trees.{is_node_size};
+ghost use Rattle.recon_disk.specs.Keeping.{Kept};
+ghost use Rattle.write_cache.specs.Cache.{overlaid};
+ghost use Rattle.records.specs.Part.{IsLawful, located, part_of};
+ghost use Rattle.records.specs.Takes.{with_accounted};
+ghost use Rattle.block_source.specs.Gives.{Gives, is_disk_halt};
+ghost use Rattle.block_source.specs.Takes.{handing};
+ghost use Rattle.plain_check.specs.Accounts.{accounts_in};
+ghost use Rattle.plain_check.specs.Opened.{ReadsOnce, known, named_records};
+ghost use Rattle.change_laws.specs.Steps.{posts_of};
+ghost use Rattle.change_records.specs.Spans.{span_of as span_of_record};
+ghost use Rattle.ledger_index.specs.Ledger.{sums_of};
+ghost use Rattle.live_index.specs.Table.{pairs_of};
+ghost use Rattle.live_maker.specs.Opened.{finished, held_in};
+ghost use Rattle.records.specs.Context.{sum_free_inode};
+ghost use Rattle.shared_trees.specs.LivePairs.{table_of};
+ghost use Rattle.span_index.specs.Table.{times_of};
+ghost use Rattle.touched_accounts.specs.Sums.{with_all};
+ghost use Rattle.account_sums.specs.Sums.{or_free};
+ghost use Rattle.commit_judge.specs.Filling.{AreTablesOf, filled_in, of_none, with_located, with_option};
+ghost use Rattle.commit_judge.specs.Flags.{free_in};
+
+use crate::context::Before;
+use crate::posts::post_record;
+use crate::spans::span_of;
+use account_sums::Accounts;
+use accounts::Postings;
+use block_source::Halt;
+use change_records::Inode;
+use chunk_map::ChunkMap;
+use ledger_index::LedgerIndex;
+use live_index::LiveIndex;
+use live_maker::Lives;
+use plain_check::Volume;
+use recon_disk::{Disk, Steps};
+use records::{Both, RecAt, Record, Taker};
+use span_index::SpanIndex;
+use std::alloc::Global;
+use std::collections::BTreeSet;
+use touched_accounts::put_all;
+use verdict::NoMemory;
+use write_cache::WriteCache;
+
+/// The tables of an index.
+#[derive(Drop)]
+pub(crate) struct Tables<L> {
+    // The live pairs.
+    pub(crate) live: LiveIndex<L>,
+    // The sums of all accounts but sectors.
+    pub(crate) totals: LedgerIndex<L>,
+    // The sectors that extents own, that checksums cover and that files show.
+    pub(crate) spans: SpanIndex<L>,
+    // The inodes whose data has no checksums.
+    pub(crate) free: BTreeSet<Inode>,
+}
+
+/// The tables of an open image, where the accounts of all that it says keep their rules, or their finding. Each block of the trees that
+/// root items name is at most two reads, one for each of its copies.
+pub(crate) fn tables_of<D: Disk, L>(
+    alloc: Global,
+    disk: &mut D,
+    cache: &WriteCache,
+    volume: &Volume,
+    steps: &mut Steps<L>,
+) -> Result<Tables<L>, Halt>
+    requires size { is_node_size volume.now.sup.nodesize ≡ true }
+    requires end { volume.now.end ≡ D.len disk.old }
+    ensures gives { Gives D.Disk disk.old cache.now (handing (λ _. tt {0}) result)
+        (λ image. accounts_in (known volume.now) image) }
+    ensures tables { IfOk result (λ tables. IfSome (D.bytes disk.old)
+        (λ image. AreTablesOf (known volume.now) (overlaid cache.now 0 image) tables)) }
+    ensures reads { ReadsOnce D.Disk disk.old disk.new cache.now result
+        (λ image. named_records (known volume.now) image) }
+    ensures kept { Kept D.Disk disk.old disk.new (is_disk_halt result) }
+{
+    let mut all = Both {
+        first: Accounts::new(alloc, &volume.map, volume.sup.nodesize),
+        second: Both {
+            first: Lives::new(alloc),
+            second: Filling::new(alloc, &volume.map, volume.sup.nodesize, steps),
+        },
+    };
+    volume.read_all(alloc, disk, cache, &mut all)?;
+    let Both {
+        first: mut accounts,
+        second:
+            Both {
+                first: lives,
+                second: filling,
+            },
+    } = all;
+    match accounts.finding()? {
+        Some(found) => Err(Halt::Found(found)),
+        None => Ok(filling.finish(lives)?),
+    }
+}
+
+/// The sums of what records post but to sectors, the spans that they have, and the inodes whose data has no checksums. All go into the
+/// tables of an index, each by looks that are counted.
+#[derive(Drop)]
+pub(crate) struct Filling<'m, 's, L> {
+    alloc: Global,
+    // The chunks of the image.
+    map: &'m ChunkMap,
+    // Its size of a tree block in bytes.
+    nodesize: u32,
+    // The sums, but for what is not yet added to them.
+    totals: LedgerIndex<L>,
+    posts: Postings,
+    // The spans.
+    spans: SpanIndex<L>,
+    // The inodes.
+    free: BTreeSet<Inode>,
+    // The looks.
+    steps: &'s mut Steps<L>,
+}
+
+impl<'m, 's, L> Filling<'m, 's, L> {
+    // What is made of no records, of an image with these chunks and this size of a tree block in bytes.
+    fn new(
+        alloc: Global,
+        map: &'m ChunkMap,
+        nodesize: u32,
+        steps: &'s mut Steps<L>,
+    ) -> Filling<'m, 's, L>
+        ensures { filled_in result ≡ of_none map.now nodesize }
+    {
+        Filling {
+            alloc,
+            map,
+            nodesize,
+            totals: LedgerIndex::new(alloc),
+            posts: Postings::new(alloc),
+            spans: SpanIndex::new(alloc),
+            free: BTreeSet::new(alloc),
+            steps,
+        }
+    }
+
+    // Adds what a record says.
+    fn add(&mut self, one: &RecAt<'_>) -> Result<(), NoMemory>
+        requires { IsLawful (part_of one.now.part) }
+        ensures { OnOk result
+            (filled_in self.new ≡ with_located (filled_in self.old) (located one.now)) }
+    {
+        let context = Before {
+            map: self.map,
+            free: &self.free,
+            nodesize: self.nodesize,
+        };
+        post_record(self.alloc, &context, one.tree, &one.part, &mut self.posts)?;
+        put_waiting(&mut self.totals, &mut self.posts, self.steps)?;
+        put_span(&mut self.spans, self.nodesize, one, self.steps)?;
+        put_inode(&mut self.free, one)
+    }
+
+    // The tables, with that of the live pairs of the same records.
+    fn finish(self, lives: Lives) -> Result<Tables<L>, NoMemory>
+        ensures live { IfOk result (λ tables.
+            pairs_of tables.live ≡ table_of (finished (held_in lives))) }
+        ensures sums { IfOk result (λ tables. sums_of tables.totals ≡ (filled_in self.entry).sums) }
+        ensures spans { IfOk result (λ tables. times_of tables.spans ≡ (filled_in self.entry).spans) }
+        ensures free { IfOk result (λ tables. free_in tables.free ≡ (filled_in self.entry).free) }
+    {
+        let Filling {
+            alloc,
+            map: _,
+            nodesize: _,
+            mut totals,
+            mut posts,
+            spans,
+            free,
+            steps,
+        } = self;
+        put_waiting(&mut totals, &mut posts, steps)?;
+        let live = lives.finish(alloc, steps)?;
+        Ok(Tables {
+            live,
+            totals,
+            spans,
+            free,
+        })
+    }
+}
+
+impl<'m, 's, L> Taker for Filling<'m, 's, L> {
+    ghost use Rattle.commit_judge.specs.Filling.{Filled};
+
+    ghost Held = { Filled };
+
+    ghost held = { filled_in };
+
+    ghost with = { with_accounted with_located };
+
+    fn take(&mut self, one: &Record<'_>) -> Result<(), NoMemory> {
+        match one {
+            Record::Block(block) => self.add(&block.record()),
+            Record::Item(one) => self.add(one),
+            Record::Pointer(_) => Ok(()),
+        }
+    }
+}
+
+// Adds all of a list of postings to a ledger. The list is empty then.
+fn put_waiting<L>(
+    totals: &mut LedgerIndex<L>,
+    posts: &mut Postings,
+    steps: &mut Steps<L>,
+) -> Result<(), NoMemory>
+    ensures sums { OnOk result
+        (sums_of totals.new ≡ with_all (sums_of totals.old) posts.old) }
+    ensures none { OnOk result (posts.new ≡ []) }
+{
+    put_all(totals, posts, steps)?;
+    while let Some(_posting) = posts.pop() {}
+    Ok(())
+}
+
+// Puts the span of a record into a table, where it has one.
+fn put_span<L>(
+    spans: &mut SpanIndex<L>,
+    nodesize: u32,
+    one: &RecAt<'_>,
+    steps: &mut Steps<L>,
+) -> Result<(), NoMemory>
+    requires { IsLawful (part_of one.now.part) }
+    ensures { OnOk result (times_of spans.new ≡
+        with_option (times_of spans.old) (span_of_record nodesize (located one.now))) }
+{
+    match span_of(nodesize, one.tree, &one.part) {
+        Some(span) => spans.insert(span, steps),
+        None => Ok(()),
+    }
+}
+
+// Puts the inode of a record into a set, where the record is the item of an inode whose data has no checksums.
+fn put_inode(free: &mut BTreeSet<Inode>, one: &RecAt<'_>) -> Result<(), NoMemory>
+    ensures { OnOk result
+        (free_in free.new ≡ or_free (free_in free.old) (sum_free_inode (located one.now))) }
+{
+    let Some((tree, ino)) = one.sum_free() else {
+        return Ok(());
+    };
+    match free.insert(Inode { tree, ino }) {
+        Ok(_) => Ok(()),
+        Err(_) => Err(NoMemory),
+    }
+}

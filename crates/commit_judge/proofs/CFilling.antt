@@ -1,0 +1,170 @@
+-- What is made of all records, one after the other.
+use Rattle.std.proofs.Common.{◌≡◌, ℕ, ◌+◌, ◌==◌, ◌&&◌, ◌||◌, Bool, true, false, cond, List, [], ◌∷◌, ◌++◌, refl, ap, sym, ◌∙◌, subst, arith}
+use Rattle.std.specs.Prelude.{Option, Some, None}
+use Rattle.std.specs.BTreeSet as set
+use Rattle.std.specs.BTreeMap.{is_at}
+use Rattle.std.specs.Cmp.{unsigned_tied}
+use Rattle.std.specs.List.{cons_option, filter_map, fold, list_any}
+use Rattle.std.specs.Ordering.{is_eq, nat_cmp, ordering_then}
+use Rattle.std.specs.declared.cmp.Ordering.{Ordering}
+use Rattle.std.specs.declared.cmp.Ordering.TheVariants.{Less, Equal, Greater}
+use Rattle.std.proofs.Math.Path.{fun_ext}
+use Rattle.std.proofs.lemmas.List.Sums.{sum_by-cons}
+use Rattle.verdict.specs.declared.place.Chunk.{Chunk}
+use Rattle.account_sums.specs.Sums.{Frees, none_free, or_free}
+use Rattle.account_sums.proofs.Taken.{or_all}
+use Rattle.accounts.specs.Sums.{total_of}
+use Rattle.accounts.specs.Tally.{Sums, no_sums}
+use Rattle.accounts.specs.declared.postings.Posting.{Posting}
+use Rattle.accounts.proofs.Kept.{total_joined}
+use Rattle.change_laws.specs.Steps.{all_posts, posts_of, spans_of}
+use Rattle.change_records.specs.Affected.{context_with}
+use Rattle.change_records.specs.Listed.{inode_cmp}
+use Rattle.change_records.specs.Spans.{span_of}
+use Rattle.change_records.specs.declared.kept.Inode.{Inode}
+use Rattle.records.specs.Context.{sum_free_inode}
+use Rattle.records.specs.DirPostings.{dir_postings}
+use Rattle.records.specs.ExtentPostings.{extent_postings}
+use Rattle.records.specs.InodePostings.{inode_postings}
+use Rattle.records.specs.Part.{Located}
+use Rattle.records.proofs.SectorSums.{rest_alike}
+use Rattle.span_index.specs.Order.{is_same}
+use Rattle.span_index.specs.Sectors.{times_of_span}
+use Rattle.span_index.specs.Spans.{Table, no_spans}
+use Rattle.span_index.specs.declared.span.Span.{Span}
+use Rattle.span_index.proofs.TableLaws.{same_is, same_itself}
+use Rattle.touched_accounts.specs.Sums.{with_all}
+use Rattle.touched_accounts.proofs.Changed.{with_none}
+use Rattle.commit_judge.specs.Filling.{Filled, of_none, with_located, with_option}
+use Rattle.commit_judge.specs.Flags.{free_in}
+
+-- ---- sums
+
+both_added : (s x y both : ℕ) → both ≡ x + y → (s + x) + y ≡ s + both
+both_added s x y both is = omega arith
+
+-- postings are added after others
+pub with_both : (sums : Sums) (ps qs : List Posting) → with_all (with_all sums ps) qs ≡ with_all sums (ps ++ qs)
+unfolding with_all
+with_both sums ps qs = fun_ext (λ account. fun_ext (λ n.
+    both_added (sums account n) (total_of ps account n) (total_of qs account n) (total_of (ps ++ qs) account n) (total_joined ps qs account n)))
+
+-- what a record posts but to sectors does not rest on which data has checksums
+pub posts_alike : (chunks : List Chunk) (nodesize : ℕ) (free other : Frees) (one : Located)
+    → posts_of (context_with chunks nodesize free) one ≡ posts_of (context_with chunks nodesize other) one
+posts_alike chunks nodesize free other one =
+    ap (λ (ps : List Posting). extent_postings one.tree one.part ++ (inode_postings one.tree one.part ++ (dir_postings one.tree one.part ++ ps)))
+    (rest_alike (context_with chunks nodesize free) (context_with chunks nodesize other) one.tree one.part refl refl)
+
+pub sums_after : (records : List Located) (held : Filled) (free : Frees)
+    → (fold with_located held records).sums ≡ with_all held.sums (all_posts (context_with held.chunks held.nodesize free) records)
+unfolding all_posts
+sums_after [] held free = sym (with_none held.sums)
+sums_after (one ∷ more) held free =
+    let later = all_posts (context_with held.chunks held.nodesize free) more in
+    sums_after more (with_located held one) free
+    ∙ with_both held.sums (posts_of (context_with held.chunks held.nodesize held.free) one) later
+    ∙ ap (λ (ps : List Posting). with_all held.sums (ps ++ later)) (posts_alike held.chunks held.nodesize held.free free one)
+
+-- ---- spans
+
+same_turned : (x y : Span) → is_same x y ≡ is_same y x
+same_turned x y = by (is_same x y) (is_same y x) refl refl
+  where
+    by : (a b : Bool) → is_same x y ≡ a → is_same y x ≡ b → a ≡ b
+    by true true is turned = refl
+    by false false is turned = refl
+    by true false is turned = let same : is_same y x ≡ true = subst (λ (z : Span). is_same z x ≡ true) (same_is x y is) (same_itself x) in absurd (cc (same, turned))
+    by false true is turned = let same : is_same x y ≡ true = subst (λ (z : Span). is_same z y ≡ true) (same_is y x turned) (same_itself y) in absurd (cc (same, is))
+
+times_more : (more : Span) (spans : List Span) (span : Span) → times_of_span (more ∷ spans) span ≡ cond (is_same span more) 1 0 + times_of_span spans span
+unfolding times_of_span
+times_more more spans span = sum_by-cons (λ (x : Span). cond (is_same span x) 1 0) more spans
+
+one_more : (b : Bool) (n later : ℕ) → cond b (n + 1) n + later ≡ n + (cond b 1 0 + later)
+one_more true n later = omega arith
+one_more false n later = omega arith
+
+one_span : (table : Table) (found : Option Span) (spans : List Span) (span : Span)
+    → with_option table found span + times_of_span spans span ≡ table span + times_of_span (cons_option found spans) span
+one_span table None spans span = refl
+one_span table (Some more) spans span =
+    one_more (is_same more span) (table span) (times_of_span spans span)
+    ∙ ap (λ (b : Bool). table span + (cond b 1 0 + times_of_span spans span)) (same_turned more span)
+    ∙ ap (λ (n : ℕ). table span + n) (sym (times_more more spans span))
+
+no_span : (span : Span) → times_of_span [] span ≡ 0
+unfolding times_of_span
+no_span span = refl
+
+pub spans_after : (records : List Located) (held : Filled) (span : Span)
+    → (fold with_located held records).spans span ≡ held.spans span + times_of_span (spans_of held.nodesize records) span
+unfolding spans_of
+spans_after [] held span = let none = no_span span in omega (arith, none)
+spans_after (one ∷ more) held span =
+    spans_after more (with_located held one) span
+    ∙ one_span held.spans (span_of held.nodesize one) (filter_map (span_of held.nodesize) more) span
+
+-- ---- inodes
+
+pub free_after : (records : List Located) (held : Filled) → (fold with_located held records).free ≡ or_all held.free records
+free_after [] held = refl
+free_after (one ∷ more) held = free_after more (with_located held one)
+
+then_tied : (o p : Ordering) → is_eq (ordering_then o p) ≡ (is_eq o && is_eq p)
+then_tied Less p = refl
+then_tied Equal p = refl
+then_tied Greater p = refl
+
+tied_inode : (k : Inode) (tree ino : ℕ) → is_at (inode_cmp k) (record { tree = tree; ino = ino }) ≡ (k.tree == tree && k.ino == ino)
+tied_inode k tree ino =
+    then_tied (nat_cmp k.tree tree) (nat_cmp k.ino ino)
+    ∙ ap (λ (b : Bool). b && is_eq (nat_cmp k.ino ino)) (unsigned_tied k.tree tree)
+    ∙ ap (λ (b : Bool). (k.tree == tree) && b) (unsigned_tied k.ino ino)
+
+swapped : (a b : Bool) → cond b true a ≡ (a || b)
+swapped true true = refl
+swapped true false = refl
+swapped false true = refl
+swapped false false = refl
+
+-- an inode is put into a set
+pub inode_put : (old new : set.BTreeSet Inode) (tree ino : ℕ) → set.Updates inode_cmp old new (record { tree = tree; ino = ino }) true
+    → free_in new ≡ or_free (free_in old) (Some (tree, ino))
+inode_put old new tree ino updates = fun_ext (λ t. fun_ext (λ i.
+    updates.0 (record { tree = t; ino = i })
+    ∙ ap (λ (b : Bool). cond b true (free_in old t i)) (tied_inode (record { tree = tree; ino = ino }) t i)
+    ∙ swapped (free_in old t i) (tree == t && ino == i)))
+
+no_inodes : (free : set.BTreeSet Inode) → free.keys ≡ [] → free_in free ≡ none_free
+no_inodes free none = fun_ext (λ tree. fun_ext (λ ino. ap (list_any (is_at (inode_cmp (record { tree = tree; ino = ino })))) none))
+
+-- ---- all together
+
+-- nothing is made of no records
+pub none_filled : (chunks : List Chunk) (nodesize : ℕ) (sums : Sums) (posts : List Posting) (spans : Table) (free : set.BTreeSet Inode)
+    → sums ≡ no_sums → posts ≡ [] → spans ≡ no_spans → free.keys ≡ []
+    → ◌≡◌ {A = Filled} (record { chunks = chunks; nodesize = nodesize; sums = with_all sums posts; spans = spans; free = free_in free }) (of_none chunks nodesize)
+none_filled chunks nodesize sums posts spans free no_sum no_post no_span no_inode =
+    let sums_are : with_all sums posts ≡ no_sums = ap (with_all sums) no_post ∙ with_none sums ∙ no_sum in
+    let free_is = no_inodes free no_inode in
+    λ i. record { chunks = chunks; nodesize = nodesize; sums = sums_are i; spans = no_span i; free = free_is i }
+
+-- a record more is taken
+pub one_filled : (held : Filled) (one : Located) (before after : Sums) (waiting posts left : List Posting) (spans : Table) (free : Frees)
+    → held.sums ≡ with_all before waiting
+    → posts ≡ waiting ++ posts_of (context_with held.chunks held.nodesize held.free) one
+    → after ≡ with_all before posts → left ≡ []
+    → spans ≡ with_option held.spans (span_of held.nodesize one)
+    → free ≡ or_free held.free (sum_free_inode one)
+    → ◌≡◌ {A = Filled} (record { chunks = held.chunks; nodesize = held.nodesize; sums = with_all after left; spans = spans; free = free }) (with_located held one)
+one_filled held one before after waiting posts left spans free begin posted added none spans_are free_is =
+    let new = posts_of (context_with held.chunks held.nodesize held.free) one in
+    let sums_are : with_all after left ≡ with_all held.sums new =
+    ap (with_all after) none
+    ∙ with_none after
+    ∙ added
+    ∙ ap (with_all before) posted
+    ∙ sym (with_both before waiting new)
+    ∙ ap (λ (sums : Sums). with_all sums new) (sym begin) in
+    λ i. record { chunks = held.chunks; nodesize = held.nodesize; sums = sums_are i; spans = spans_are i; free = free_is i }

@@ -1,0 +1,174 @@
+-- What three make of all records of an image: its accounts, its live pairs, and what fills the other tables of its index.
+use Rattle.std.proofs.Common.{◌≡◌, ℕ, ◌+◌, List, [], ◌∷◌, ◌++◌, Option, Some, None, Result, Ok, Err, IfSome, refl, ap, sym, ◌∙◌, arith}
+use Rattle.std.specs.Ordering.{nat_cmp}
+use Rattle.std.specs.FinMap.{FinMap}
+use Rattle.std.specs.List.{filter_map, fold}
+use Rattle.std.proofs.Math.Path.{fun_ext}
+use Rattle.verdict.specs.Rules.{and_then, finding_or}
+use Rattle.verdict.specs.declared.finding.Finding.{Finding}
+use Rattle.account_sums.specs.Sums.{Summed, context_with as context_of_sums, none_free, of_none as none_summed, with_record as with_summed}
+use Rattle.account_sums.proofs.Taken.{first_free}
+use Rattle.accounts.specs.Tally.{no_sums}
+use Rattle.block_source.specs.Gives.{Gives}
+use Rattle.block_source.specs.declared.halt.Halt.{Halt}
+use Rattle.block_source.specs.declared.halt.Halt.TheVariants.{Found, Disk, NoMemory}
+use Rattle.change_records.specs.Affected.{context_with}
+use Rattle.ledger_index.specs.Ledger.{sums_of}
+use Rattle.live_index.specs.Table.{pairs_of}
+use Rattle.live_index.specs.declared.live.Live.{Live}
+use Rattle.live_maker.specs.Opened.{finished, no_lives, with_record as with_live}
+use Rattle.live_maker.proofs.Made.{lives_made}
+use Rattle.plain_check.specs.Accounts.{accounts_in, accounts_of}
+use Rattle.plain_check.specs.Opened.{Opened, named_records, volume_records}
+use Rattle.plain_check.specs.OpeningLaw.{contents_with}
+use Rattle.plain_check.proofs.Keeping.{first_told}
+use Rattle.plain_check.proofs.Sums.{told_decided}
+use Rattle.recon_disk.specs.declared.disk.Disk.{Ghosts}
+use Rattle.records.specs.Contents.{Contents, super_record}
+use Rattle.records.specs.Context.{has_sum_free}
+use Rattle.records.specs.Part.{Located}
+use Rattle.records.specs.Postings.{account_fault}
+use Rattle.records.specs.Seen.{Seen, accounted}
+use Rattle.records.specs.Seen.Seen.{BlockSeen, PointerSeen, ItemSeen}
+use Rattle.records.specs.Takes.{held_after, with_accounted, with_both}
+use Rattle.records.specs.Walk.{Records, behind}
+use Rattle.shared_trees.specs.LivePairs.{live_in, table_of}
+use Rattle.span_index.specs.Sectors.{times_of_span}
+use Rattle.span_index.specs.Table.{times_of}
+use Rattle.span_index.specs.declared.span.Span.{Span}
+use Rattle.touched_accounts.specs.Sums.{with_all}
+use Rattle.write_cache.specs.Cache.{overlaid}
+use Rattle.commit_judge.specs.Filling.{AreTablesOf, AreTablesWith, Filled, of_none, with_located}
+use Rattle.commit_judge.specs.Flags.{free_in}
+use Rattle.commit_judge.specs.declared.filling.Tables.{Tables}
+use Rattle.commit_judge.proofs.CFilling.{free_after, spans_after, sums_after}
+
+-- the live pairs and what fills the other tables
+abbrev pub Rest : Type 0
+Rest = List Live × Filled
+
+abbrev pub with_rest : Rest → Seen → Rest
+with_rest = with_both with_live (with_accounted with_located)
+
+-- all three
+abbrev pub with_three : Summed × Rest → Seen → Summed × Rest
+with_three = with_both (with_accounted with_summed) with_rest
+
+-- what the three made of all records of an image of which this is known, where the disk tells it
+abbrev pub AreTaken : Option (List ℕ) → FinMap nat_cmp ℕ → Opened → Summed × Rest → Summed × Rest → Type 0
+AreTaken told m o start all =
+    IfSome told (λ image. held_after with_three start (volume_records o (overlaid m 0 image)) ≡ Ok all)
+
+-- ---- the accounts
+
+pub accounts_told : (told : Option (List ℕ)) (m : FinMap nat_cmp ℕ) (o : Opened) (start final : Summed) (before after : Rest) (found other : Option Finding)
+    → start ≡ none_summed o.chunks o.sup.nodesize
+    → AreTaken told m o (start, before) (final, after)
+    → ((taken : List Located) → fold with_summed (none_summed o.chunks o.sup.nodesize) taken ≡ final
+        → found ≡ account_fault (context_of_sums o.chunks o.sup.nodesize (has_sum_free taken)) taken)
+    → found ≡ other
+    → IfSome told (λ image. accounts_in o (overlaid m 0 image) ≡ finding_or other (tt {0}))
+accounts_told told m o start final before after found other begins taken is same =
+    told_decided told m o start final found other begins
+    (first_told told m (with_accounted with_summed) with_rest start before (volume_records o) (Ok (final, after)) taken) is same
+
+unread_case : (o : Opened) (records : Records) (start : Summed × Rest) (finding : Finding)
+    → held_after with_three start (behind (ItemSeen (super_record o.sup) ∷ o.seen) records) ≡ Err finding
+    → and_then {A = Contents} {B = Unit {0}} (and_then {A = List Seen} {B = Contents} records (λ more. Ok (contents_with o more))) accounts_of ≡ Err finding
+unfolding behind
+unread_case o (Err other) start finding is = cc (is)
+unread_case o (Ok more) start finding is = absurd (cc is)
+
+unread : (told : Option (List ℕ)) (m : FinMap nat_cmp ℕ) (o : Opened) (start : Summed × Rest) (finding : Finding)
+    → IfSome told (λ image. held_after with_three start (volume_records o (overlaid m 0 image)) ≡ Err finding)
+    → IfSome told (λ image. accounts_in o (overlaid m 0 image) ≡ Err finding)
+unfolding accounts_in
+unread None m o start finding is = tt
+unread (Some image) m o start finding is = unread_case o (named_records o (overlaid m 0 image)) start finding is
+
+no_memory : (told : Option (List ℕ)) → IfSome told (λ _. Unit {0})
+no_memory None = tt
+no_memory (Some image) = tt
+
+-- the trees that root items name were not read to their end
+pub halted_reading : {D : Type 0} (disk : Ghosts D) (at : D) (m : FinMap nat_cmp ℕ) (o : Opened) (start : Summed × Rest) (halt : Halt)
+    → Gives {A = Summed × Rest} disk at m (Err halt) (λ image. held_after with_three start (volume_records o image))
+    → Gives {A = Unit {0}} disk at m (Err halt) (λ image. accounts_in o image)
+halted_reading disk at m o start Disk gives = tt
+halted_reading disk at m o start NoMemory gives = no_memory (disk.bytes at)
+halted_reading disk at m o start (Found finding) gives = unread (disk.bytes at) m o start finding gives
+
+-- ---- the tables
+
+both_fold : {A B : Type 0} (first : A → Seen → A) (second : B → Seen → B) (a : A) (b : B) (records : List Seen)
+    → fold (with_both first second) (a, b) records ≡ (fold first a records, fold second b records)
+both_fold first second a b [] = refl
+both_fold first second a b (one ∷ records) = both_fold first second (first a one) (second b one) records
+
+accounted_fold : {H : Type 0} (with : H → Located → H) (held : H) (records : List Seen)
+    → fold (with_accounted with) held records ≡ fold with held (filter_map accounted records)
+accounted_fold with held [] = refl
+accounted_fold with held (BlockSeen block ∷ records) = accounted_fold with _ records
+accounted_fold with held (PointerSeen pointer ∷ records) = accounted_fold with held records
+accounted_fold with held (ItemSeen one ∷ records) = accounted_fold with (with held one) records
+
+-- what the second and the third made
+rest_made : (o : Opened) (more : List Seen) (start final : Summed) (lives lives' : List Live) (filled filled' : Filled)
+    → fold with_three (start, (lives, filled)) (ItemSeen (super_record o.sup) ∷ (o.seen ++ more)) ≡ (final, (lives', filled'))
+    → (fold with_live lives (ItemSeen (super_record o.sup) ∷ (o.seen ++ more)) ≡ lives')
+    × (fold with_located filled (super_record o.sup ∷ filter_map accounted (o.seen ++ more)) ≡ filled')
+rest_made o more start final lives lives' filled filled' is =
+    let all = ItemSeen (super_record o.sup) ∷ (o.seen ++ more) in
+    let rest : fold with_rest (lives, filled) all ≡ (lives', filled') =
+    ap (λ (both : Summed × Rest). both.1) (sym (both_fold (with_accounted with_summed) with_rest start (lives, filled) all) ∙ is) in
+    let two : (fold with_live lives all, fold (with_accounted with_located) filled all) ≡ (lives', filled') =
+    sym (both_fold with_live (with_accounted with_located) lives filled all) ∙ rest in (
+      ap (λ (both : Rest). both.0) two,
+      sym (accounted_fold with_located filled all) ∙ ap (λ (both : Rest). both.1) two,
+    )
+
+nothing_more : (n : ℕ) → 0 + n ≡ n
+nothing_more n = omega arith
+
+-- what was made, put into the tables
+pub record IsPut {L : Type 0} (lives : List Live) (filled : Filled) (tables : Tables L) : Type 0 where
+  pub live : pairs_of tables.live ≡ table_of (finished lives)
+  pub sums : sums_of tables.totals ≡ filled.sums
+  pub spans : times_of tables.spans ≡ filled.spans
+  pub free : free_in tables.free ≡ filled.free
+
+tables_made : {L : Type 0} (o : Opened) (records : Records) (start final : Summed) (lives lives' : List Live) (filled filled' : Filled) (tables : Tables L)
+    → lives ≡ no_lives → filled ≡ of_none o.chunks o.sup.nodesize
+    → held_after with_three (start, (lives, filled)) (behind (ItemSeen (super_record o.sup) ∷ o.seen) records) ≡ Ok (final, (lives', filled'))
+    → IsPut lives' filled' tables
+    → (more : List Seen) × (records ≡ Ok more) × AreTablesWith o more tables
+unfolding behind
+tables_made o (Err finding) start final lives lives' filled filled' tables none empty taken put = absurd (cc taken)
+tables_made o (Ok more) start final lives lives' filled filled' tables none empty taken put =
+    let made = rest_made o more start final lives lives' filled filled' (cc (taken)) in
+    let all = o.seen ++ more in
+    let held = (contents_with o more).records in
+    let nothing = of_none o.chunks o.sup.nodesize in
+    let of_lives : fold with_live no_lives all ≡ lives' =
+    ap (λ (l : List Live). fold with_live l (ItemSeen (super_record o.sup) ∷ all)) (sym none) ∙ made.0 in
+    let of_filled : fold with_located nothing held ≡ filled' =
+    ap (λ (f : Filled). fold with_located f held) (sym empty) ∙ made.1 in (
+      more,
+      refl,
+      record {
+        live = put.live ∙ ap (λ (l : List Live). table_of (finished l)) (sym of_lives) ∙ ap table_of (lives_made all);
+        sums = put.sums ∙ ap (λ (f : Filled). f.sums) (sym of_filled) ∙ sums_after held nothing none_free;
+        spans = λ span. ap (λ (t : Span → ℕ). t span) put.spans ∙ ap (λ (f : Filled). f.spans span) (sym of_filled) ∙ spans_after held nothing span ∙ nothing_more _;
+        free = put.free ∙ ap (λ (f : Filled). f.free) (sym of_filled) ∙ free_after held nothing ∙ first_free held;
+      },
+    )
+
+pub tables_told : {L : Type 0} (told : Option (List ℕ)) (m : FinMap nat_cmp ℕ) (o : Opened) (start final : Summed) (lives lives' : List Live)
+    (filled filled' : Filled) (tables : Tables L)
+    → lives ≡ no_lives → filled ≡ of_none o.chunks o.sup.nodesize
+    → AreTaken told m o (start, (lives, filled)) (final, (lives', filled'))
+    → IsPut lives' filled' tables
+    → IfSome told (λ image. AreTablesOf o (overlaid m 0 image) tables)
+tables_told None m o start final lives lives' filled filled' tables none empty taken put = tt
+tables_told (Some image) m o start final lives lives' filled filled' tables none empty taken put =
+    tables_made o (named_records o (overlaid m 0 image)) start final lives lives' filled filled' tables none empty taken put

@@ -1,0 +1,17 @@
+use Rattle.std.proofs.Common.{refl}
+use Rattle.account_sums.proofs.ShownSums.{on_ok}
+use Rattle.ledger_index.specs.Ledger.{sums_of}
+use Rattle.records.specs.Part.{located}
+use Rattle.span_index.specs.Table.{times_of}
+use Rattle.commit_judge.specs.Filling.{filled_in}
+use Rattle.commit_judge.specs.Flags.{free_in}
+use Rattle.commit_judge.proofs.CFilling.{one_filled}
+use Rattle.commit_judge.proofs.filling.Filling.add.Goals as goal
+
+pub returns : goal.returns
+returns g c =
+    let old = c.args.self.now in
+    on_ok c.put_inode.result c.put_inode.ensures (λ noted.
+    one_filled (filled_in old) (located c.args.one.now) (sums_of old.totals) (sums_of c.put_waiting.new.totals) old.posts c.post_record.new.into
+    c.put_waiting.new.posts (times_of c.put_span.new.spans) (free_in c.put_inode.new.free)
+    refl c.in_ok-post_record.ensures c.in_ok-put_waiting.ensures.sums c.in_ok-put_waiting.ensures.none c.in_ok-put_span.ensures noted)

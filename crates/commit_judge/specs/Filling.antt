@@ -1,0 +1,88 @@
+-- These words serve private functions alone: what is made of the records of an image by one that fills the tables of its index.
+use Rattle.std.specs.Prelude.{◌≡◌, ℕ, List, ◌∷◌, ◌++◌, Option, Some, None, Result, Ok, Err}
+use Rattle.std.specs.List.{filter_map}
+use Rattle.verdict.specs.declared.finding.Verdict.TheVariants.{Found as Refusal}
+use Rattle.verdict.specs.declared.place.Chunk.{Chunk}
+use Rattle.account_sums.specs.Sums.{Frees, none_free, or_free}
+use Rattle.accounts.specs.Tally.{Sums, no_sums}
+use Rattle.block_source.specs.declared.halt.Halt.{Halt}
+use Rattle.block_source.specs.declared.halt.Halt.TheVariants.{Found, Disk, NoMemory}
+use Rattle.change_laws.specs.Steps.{all_posts, posts_of, spans_of}
+use Rattle.change_records.specs.Affected.{context_with}
+use Rattle.change_records.specs.Spans.{span_of}
+use Rattle.ledger_index.specs.Ledger.{sums_of}
+use Rattle.live_index.specs.Table.{pairs_of}
+use Rattle.plain_check.specs.Opened.{Opened, named_records}
+use Rattle.plain_check.specs.OpeningLaw.{contents_with}
+use Rattle.records.specs.Contents.{super_record}
+use Rattle.records.specs.Context.{has_sum_free, sum_free_inode}
+use Rattle.records.specs.FullCheck.{full_check}
+use Rattle.records.specs.Part.{Located}
+use Rattle.records.specs.Seen.{Seen, accounted}
+use Rattle.shared_trees.specs.LivePairs.{live_in, table_of}
+use Rattle.span_index.specs.Sectors.{times_of_span}
+use Rattle.span_index.specs.Spans.{Table, no_spans, with_span}
+use Rattle.span_index.specs.Table.{times_of}
+use Rattle.span_index.specs.declared.span.Span.{Span}
+use Rattle.touched_accounts.specs.Sums.{with_all}
+use Rattle.commit_judge.specs.Flags.{free_in}
+use Rattle.commit_judge.specs.Start.{IsReady}
+use Rattle.commit_judge.specs.declared.filling.Filling.{Filling}
+use Rattle.commit_judge.specs.declared.filling.Tables.{Tables}
+use Rattle.commit_judge.specs.declared.index.Index.{Index}
+
+-- What is made of records, in an image with these chunks and this size of a tree block: the sums of all accounts but sectors, the spans,
+-- and the inodes whose data has no checksums.
+pub record Filled : Type 0 where
+  pub chunks : List Chunk
+  pub nodesize : ℕ
+  pub sums : Sums
+  pub spans : Table
+  pub free : Frees
+
+-- a table with a span once more, if there is one
+abbrev pub with_option : Table → Option Span → Table
+with_option table None = table
+with_option table (Some span) = with_span table span
+
+-- that, with a record more; what it posts but to sectors does not rest on which data has checksums
+abbrev pub with_located : Filled → Located → Filled
+with_located held one = record {
+  chunks = held.chunks;
+  nodesize = held.nodesize;
+  sums = with_all held.sums (posts_of (context_with held.chunks held.nodesize held.free) one);
+  spans = with_option held.spans (span_of held.nodesize one);
+  free = or_free held.free (sum_free_inode one);
+}
+
+-- what is made of no records
+abbrev pub of_none : List Chunk → ℕ → Filled
+of_none chunks nodesize = record { chunks = chunks; nodesize = nodesize; sums = no_sums; spans = no_spans; free = none_free }
+
+-- what is made of the records that were taken
+abbrev pub filled_in : {L : Type 0} → Filling L → Filled
+filled_in filling = record {
+  chunks = filling.map.now;
+  nodesize = filling.nodesize;
+  sums = with_all (sums_of filling.totals) filling.posts;
+  spans = times_of filling.spans;
+  free = free_in filling.free;
+}
+
+-- these are the tables of an image of which this is known, where the trees that root items name have these records
+pub record AreTablesWith {L : Type 0} (o : Opened) (more : List Seen) (tables : Tables L) : Type 0 where
+  pub live : pairs_of tables.live ≡ table_of (live_in (o.seen ++ more))
+  pub sums : sums_of tables.totals ≡ with_all no_sums (all_posts (context_with o.chunks o.sup.nodesize none_free) (contents_with o more).records)
+  pub spans : (span : Span) → times_of tables.spans span ≡ times_of_span (spans_of o.sup.nodesize (contents_with o more).records) span
+  pub free : free_in tables.free ≡ has_sum_free (contents_with o more).records
+
+-- these are the tables of an image of which this is known
+abbrev pub AreTablesOf : {L : Type 0} → Opened → List ℕ → Tables L → Type 0
+AreTablesOf o image tables = (more : List Seen) × (named_records o image ≡ Ok more) × AreTablesWith o more tables
+
+-- an image's index, or the finding of its full check
+abbrev pub IsIndexed : {L : Type 0} → List ℕ → ℕ → ℕ → Result (Index L) Halt → Type 0
+IsIndexed image before after (Ok index) = IsReady image before after index
+IsIndexed image before after (Err (Found finding)) = full_check image ≡ Refusal finding
+IsIndexed image before after (Err Disk) = Unit {0}
+IsIndexed image before after (Err NoMemory) = Unit {0}
