@@ -1,0 +1,110 @@
+#!/usr/bin/env bash
+# Measures what a commit costs beside the size of the volume, and what the index costs, by user time (the least of three runs each).
+# - A settle that rewrites one leaf of the file tree with its own bytes, on a volume of 2,000 small files and on one of 200,000: microseconds
+#   each, and the ratio.
+# - The start of a replay beside `recon check`: seconds, peak memory, and the ratio; the bytes of the index beside those of the metadata.
+# - A made workload of 200 commits, replayed, beside reading its trace and writing its bytes.
+# Usage: bench/commits.sh [FOLDER]    FOLDER has, or gets, the two volumes few.img and many.img. It wants btrfs-progs and python3.
+set -eu
+cd "$(dirname "$0")/.."
+scratch=$(mktemp -d)
+trap 'rm -rf "$scratch"' EXIT
+folder=${1:-$scratch}
+(cd crates/recon && rt run -- check data/short.img < /dev/null > /dev/null 2>&1) || true
+program=$PWD/crates/recon/out/recon
+if [ ! -e "$folder/few.img" ]; then
+  mkdir "$scratch/files"
+  for f in 0 1 2 3 4; do
+    mkdir "$scratch/files/folder-00$f"
+    for n in $(seq 100 499); do echo "$f $n $f $n $f $n" > "$scratch/files/folder-00$f/a-small-file-$n"; done
+  done
+  bench/volume.sh "$folder/few.img" "$scratch/files"
+fi
+[ -e "$folder/many.img" ] || bench/volume.sh "$folder/many.img"
+python3 - "$program" "$folder" "$scratch" <<'PYTHON'
+import os
+import struct
+import subprocess
+import sys
+
+program, folder, scratch = sys.argv[1:]
+HEADER = b'RECONTRC' + struct.pack('<II', 1, 0)
+BLOCK = 16384
+
+
+def run(words, trace=None):
+    """The least user seconds of three runs, the peak memory in bytes, and the lines."""
+    least = peak = lines = None
+    for _ in range(3):
+        with open(trace or os.devnull, 'rb') as given:
+            child = subprocess.Popen([program, *words], stdin=given, stdout=subprocess.PIPE)
+            lines = child.stdout.read().decode().splitlines()
+            used = os.wait4(child.pid, 0)[2]
+        least = used.ru_utime if least is None else min(least, used.ru_utime)
+        peak = max(peak or 0, used.ru_maxrss * 1024)
+    return least, peak, lines
+
+
+def write(at, data):
+    return b'\x01' + struct.pack('<HQI', 0, at, len(data)) + data
+
+
+def leaves(path):
+    """Where the leaves of the file tree may lie, and the bytes of all blocks with the volume's id."""
+    found, blocks = [], 0
+    with open(path, 'rb') as image:
+        image.seek(65536 + 32)
+        fsid = image.read(16)
+        at = 0
+        while True:
+            try:
+                at = os.lseek(image.fileno(), at, os.SEEK_DATA) // BLOCK * BLOCK
+            except OSError:
+                return found, blocks
+            image.seek(at)
+            data = image.read(BLOCK)
+            if data[32:48] == fsid and at != 65536 and at >> 16 != 1:
+                blocks += 1
+                if data[100] == 0 and struct.unpack_from('<Q', data, 88)[0] == 5:
+                    found.append((at, data))
+            at += BLOCK
+
+
+def settles(path, leaf, count):
+    trace = f'{scratch}/trace'
+    with open(trace, 'wb') as out:
+        out.write(HEADER + (write(*leaf) + b'\x02') * count + b'\xff')
+    return run(['replay', path], trace)
+
+
+each = {}
+for name in ('few', 'many'):
+    path = f'{folder}/{name}.img'
+    found, blocks = leaves(path)
+    check, check_peak, _ = run(['check', path])
+    leaf = found[len(found) // 2]
+    start, peak, lines = settles(path, leaf, 0)
+    many = 4000
+    some, _, lines = settles(path, leaf, many)
+    each[name] = (some - start) / many * 1e6
+    print(f'{name}: settle of one leaf {each[name]:.1f} us ({lines[1]}); start {start:.2f} s beside check {check:.2f} s: '
+          f'{start / max(check, 0.01):.2f} times; index {(peak - check_peak) / 2**20:.1f} MiB more than the check, metadata {blocks * BLOCK / 2**20:.1f} MiB', flush=True)
+print(f"a settle of one leaf: {each['many'] / each['few']:.2f} times on the larger volume")
+image, trace = f'{scratch}/made.img', f'{scratch}/made.trace'
+with open(image, 'wb') as out:
+    out.truncate(32 << 20)
+with open(trace, 'wb') as out:
+    subprocess.run([program, 'make', '7', '200', image], stdout=out, check=True)
+with open(image, 'rb') as given:
+    first = given.read()
+least = None
+for _ in range(3):
+    with open(image, 'wb') as out:
+        out.write(first)
+    with open(trace, 'rb') as given:
+        child = subprocess.Popen([program, 'replay', image], stdin=given, stdout=subprocess.DEVNULL)
+        used = os.wait4(child.pid, 0)[2]
+    spent = used.ru_utime + used.ru_stime
+    least = spent if least is None else min(least, spent)
+print(f'200 commits of a made workload: {least:.3f} s of processor time, trace of {os.path.getsize(trace) / 2**20:.1f} MiB')
+PYTHON
