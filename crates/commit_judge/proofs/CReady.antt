@@ -54,7 +54,7 @@ use Rattle.tree_change.specs.Merging.{root_at}
 use Rattle.volume_items.specs.declared.root_at.RootAt.{RootAt}
 use Rattle.write_cache.specs.Cache.{overlaid}
 use Rattle.write_cache.proofs.CacheLaws.{overlaid-empty}
-use Rattle.commit_judge.specs.Filling.{AreTablesOf, AreTablesWith, IsIndexed}
+use Rattle.commit_judge.specs.Filling.{AreTablesOf, AreTablesWith, IsRefusal}
 use Rattle.commit_judge.specs.Flags.{free_in}
 use Rattle.commit_judge.specs.Index.{IndexStands, known}
 use Rattle.commit_judge.specs.Start.{IsReady}
@@ -184,6 +184,7 @@ module _ {L : Type 0} (image : List ℕ) (o : Opened) (tables : Tables L) (index
       ∙ ap (λ (sup : Super). times_of_span (spans_of sup.nodesize records) span) (sym made.sup_is)
 
   stands : IndexStands image index
+  unfolding bases
   stands = record {
     known = record { bases = bases; sums = sums_are; spans = spans_are };
     raw = made.raw_is ∙ (opened_is image o is).raw;
@@ -255,25 +256,25 @@ unpassed_told None m o finding is accounts = tt
 unpassed_told (Some image) m o finding is accounts = not_passed (overlaid m 0 image) o finding is accounts
 
 -- the steps stopped before the trees that root items name
-pub halted_open : {D L : Type 0} (disk : Ghosts D) (at : D) (m : FinMap nat_cmp ℕ) (halt : Halt) (before after : ℕ) → m ≡ empty
+pub halted_open : {D : Type 0} (disk : Ghosts D) (at : D) (m : FinMap nat_cmp ℕ) (halt : Halt) → m ≡ empty
     → Gives {A = Opened} disk at m (Err halt) opened
-    → IfSome (disk.bytes at) (λ image. IsIndexed {L} image before after (Err halt))
-halted_open disk at m Disk before after none gives = no_memory (disk.bytes at)
-halted_open disk at m NoMemory before after none gives = no_memory (disk.bytes at)
-halted_open disk at m (Found finding) before after none gives =
+    → IfSome (disk.bytes at) (λ image. IsRefusal image halt)
+halted_open disk at m Disk none gives = no_memory (disk.bytes at)
+halted_open disk at m NoMemory none gives = no_memory (disk.bytes at)
+halted_open disk at m (Found finding) none gives =
     refused_told (disk.bytes at) m finding none (unopened_told (disk.bytes at) m finding gives)
 
 -- they stopped there, or at the accounts
-pub halted_tables : {D L : Type 0} (disk : Ghosts D) (at later : D) (m : FinMap nat_cmp ℕ) (o : Opened) (halt : Halt) (before after : ℕ)
+pub halted_tables : {D : Type 0} (disk : Ghosts D) (at later : D) (m : FinMap nat_cmp ℕ) (o : Opened) (halt : Halt)
     → disk.bytes later ≡ disk.bytes at → m ≡ empty
     → IfSome (disk.bytes at) (λ image. opened (overlaid m 0 image) ≡ Ok o)
     → Gives {A = Unit {0}} disk later m (Err halt) (λ image. accounts_in o image)
-    → IfSome (disk.bytes at) (λ image. IsIndexed {L} image before after (Err halt))
-halted_tables disk at later m o Disk before after same none is gives = no_memory (disk.bytes at)
-halted_tables disk at later m o NoMemory before after same none is gives = no_memory (disk.bytes at)
-halted_tables disk at later m o (Found finding) before after same none is gives =
+    → IfSome (disk.bytes at) (λ image. IsRefusal image halt)
+halted_tables disk at later m o Disk same none is gives = no_memory (disk.bytes at)
+halted_tables disk at later m o NoMemory same none is gives = no_memory (disk.bytes at)
+halted_tables disk at later m o (Found finding) same none is gives =
     refused_told (disk.bytes at) m finding none (unpassed_told (disk.bytes at) m o finding is (rw same at gives))
 
 -- memory was wanting
-pub halted_memory : {L : Type 0} (told : Option (List ℕ)) (before after : ℕ) → IfSome told (λ image. IsIndexed {L} image before after (Err NoMemory))
-halted_memory told before after = no_memory told
+pub halted_memory : (told : Option (List ℕ)) → IfSome told (λ image. IsRefusal image NoMemory)
+halted_memory told = no_memory told

@@ -65,7 +65,7 @@ pub accounts_told : (told : Option (List ℕ)) (m : FinMap nat_cmp ℕ) (o : Ope
     → start ≡ none_summed o.chunks o.sup.nodesize
     → AreTaken told m o (start, before) (final, after)
     → ((taken : List Located) → fold with_summed (none_summed o.chunks o.sup.nodesize) taken ≡ final
-        → found ≡ account_fault (context_of_sums o.chunks o.sup.nodesize (has_sum_free taken)) taken)
+    → found ≡ account_fault (context_of_sums o.chunks o.sup.nodesize (has_sum_free taken)) taken)
     → found ≡ other
     → IfSome told (λ image. accounts_in o (overlaid m 0 image) ≡ finding_or other (tt {0}))
 accounts_told told m o start final before after found other begins taken is same =

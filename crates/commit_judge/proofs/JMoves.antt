@@ -61,8 +61,8 @@ inside_by runs slice spans same is = subst (λ (s : List Span). All IsWhole s �
 one_inside : (runs : List Run) (spans : List Span) (span : Span) → AreInside runs spans → Contains spans span → AreInside runs (span ∷ [])
 one_inside runs spans span inside has one address is sector =
     elim (Contains-push_cases [] span one is) [
-      inl never ↦ absurd (contains_none one never)
-    | inr same ↦ inside one address (subst (Contains spans) same has) sector
+      | inl never ↦ absurd (contains_none one never)
+      | inr same ↦ inside one address (subst (Contains spans) same has) sector
     ]
 
 module _ (k : Known) (c : Commit) (gone came : List Span) (runs : List Run) (found : List Span)

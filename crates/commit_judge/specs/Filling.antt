@@ -80,9 +80,13 @@ pub record AreTablesWith {L : Type 0} (o : Opened) (more : List Seen) (tables : 
 abbrev pub AreTablesOf : {L : Type 0} → Opened → List ℕ → Tables L → Type 0
 AreTablesOf o image tables = (more : List Seen) × (named_records o image ≡ Ok more) × AreTablesWith o more tables
 
--- an image's index, or the finding of its full check
+-- why an image has no index: its full check has this finding, or a step had a fault
+abbrev pub IsRefusal : List ℕ → Halt → Type 0
+IsRefusal image (Found finding) = full_check image ≡ Refusal finding
+IsRefusal image Disk = Unit {0}
+IsRefusal image NoMemory = Unit {0}
+
+-- an image's index, or why it has none
 abbrev pub IsIndexed : {L : Type 0} → List ℕ → ℕ → ℕ → Result (Index L) Halt → Type 0
 IsIndexed image before after (Ok index) = IsReady image before after index
-IsIndexed image before after (Err (Found finding)) = full_check image ≡ Refusal finding
-IsIndexed image before after (Err Disk) = Unit {0}
-IsIndexed image before after (Err NoMemory) = Unit {0}
+IsIndexed image before after (Err halt) = IsRefusal image halt

@@ -86,11 +86,10 @@ pub(crate) fn tables_of<D: Disk, L>(
     volume.read_all(alloc, disk, cache, &mut all)?;
     let Both {
         first: mut accounts,
-        second:
-            Both {
-                first: lives,
-                second: filling,
-            },
+        second: Both {
+            first: lives,
+            second: filling,
+        },
     } = all;
     match accounts.finding()? {
         Some(found) => Err(Halt::Found(found)),

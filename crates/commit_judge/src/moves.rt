@@ -57,12 +57,33 @@ pub(crate) fn moves_of<L>(
     let after = after(index, plan, made);
     let old = change.old_items.as_slice();
     let new = change.new_items.as_slice();
-    let gone = post_gone(alloc, &before, was, change.old_blocks.as_slice(), old, changes, refs)?;
-    let came = post_came(alloc, &after, is, change.new_blocks.as_slice(), new, changes, refs)?;
+    let gone = post_gone(
+        alloc,
+        &before,
+        was,
+        change.old_blocks.as_slice(),
+        old,
+        changes,
+        refs,
+    )?;
+    let came = post_came(
+        alloc,
+        &after,
+        is,
+        change.new_blocks.as_slice(),
+        new,
+        changes,
+        refs,
+    )?;
     let gone_spans = gone_spans(alloc, was.nodesize, old, changes)?;
     let came_spans = came_spans(alloc, is.nodesize, new, changes)?;
     let found = found_spans(alloc, &index.spans, was.nodesize, refs, steps)?;
-    let runs = runs_of(alloc, gone_spans.as_slice(), came_spans.as_slice(), found.as_slice())?;
+    let runs = runs_of(
+        alloc,
+        gone_spans.as_slice(),
+        came_spans.as_slice(),
+        found.as_slice(),
+    )?;
     Ok(Moves {
         gone,
         came,

@@ -6,13 +6,13 @@ use Rattle.commit_judge.proofs.build.index_of.Goals as goal
 
 pub returns-in_err-volume-clause-told : goal.returns-in_err-volume-clause-told
 returns-in_err-volume-clause-told g c =
-    let stopped = halted_open g.D.Disk c.args.disk.now c.new-cache.result c.in_err-volume.field-0.0 _ _ c.new-cache.ensures c.in_err-volume.ensures.gives in
+    let stopped = halted_open g.D.Disk c.args.disk.now c.new-cache.result c.in_err-volume.field-0.0 c.new-cache.ensures c.in_err-volume.ensures.gives in
     let gone = err_from_is_err_and c.from_residual.result c.from_residual.ensures.1 in
     rw (gone.1, gone.2) stopped
 
 pub returns-in_err-tables-clause-told : goal.returns-in_err-tables-clause-told
 returns-in_err-tables-clause-told g c =
-    let stopped = halted_tables g.D.Disk c.args.disk.now c.open.new.disk c.new-cache.result (known c.in_ok-volume.volume) c.in_err-tables.field-0.0 _ _
+    let stopped = halted_tables g.D.Disk c.args.disk.now c.open.new.disk c.new-cache.result (known c.in_ok-volume.volume) c.in_err-tables.field-0.0
     c.in_ok-volume.ensures.kept.bytes c.new-cache.ensures c.in_ok-volume.ensures.gives c.in_err-tables.ensures.gives in
     let gone = err_from_is_err_and c.from_residual-in_err-tables.result c.from_residual-in_err-tables.ensures.1 in
     rw (gone.1, gone.2) stopped
@@ -20,7 +20,7 @@ returns-in_err-tables-clause-told g c =
 pub returns-in_err-roots-clause-told : goal.returns-in_err-roots-clause-told
 returns-in_err-roots-clause-told g c =
     let gone = err_from_is_err_and c.from_residual-in_err-roots.result c.from_residual-in_err-roots.ensures.1 in
-    rw (gone.1, gone.2) (halted_memory (g.D.Disk.bytes c.args.disk.now) _ _)
+    rw (gone.1, gone.2) (halted_memory (g.D.Disk.bytes c.args.disk.now))
 
 pub returns-clause-told : goal.returns-clause-told
 returns-clause-told g c =
