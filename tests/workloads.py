@@ -1,5 +1,6 @@
-"""Makes workloads by the built program and replays them: every commit passes with the next generation, no write is over
-a tree block or a data extent that is live before its commit, and data is written by submitter 1 alone.
+"""Makes workloads by the built program and replays them: every commit passes with the next generation and the count of the
+blocks that only one of both images has, no write is over a tree block or a data extent that is live before its commit, and
+data is written by submitter 1 alone.
 
 Usage: tests/workloads.py [PROGRAM [SEEDS [COMMITS]]], by default crates/recon/out/recon, the seeds 0 to 2, 200 commits.
 The seeds 0 to 199 take some minutes. Prints one line, and ends with 1 at the first seed that differs.
@@ -34,17 +35,17 @@ def blocks_of(image, logical):
 
 
 def live(image):
-    """The ranges of the device that live blocks and live extents have."""
+    """The live blocks as pairs of a tree and an address, and the ranges of the device that they and live extents have."""
     root, chunk_root = struct.unpack_from('<QQ', image, 65536 + 0x50)
     blocks, items = blocks_of(image, root)
-    blocks, extents = blocks + blocks_of(image, chunk_root)[0], []
-    for (_, kind, _), at in items:
+    pairs, extents = {(1, at) for at in blocks} | {(3, at) for at in blocks_of(image, chunk_root)[0]}, []
+    for (tree, kind, _), at in items:
         if kind == 132:
-            more, found = blocks_of(image, struct.unpack_from('<Q', image, at + 176)[0])
-            blocks += more
+            blocks, found = blocks_of(image, struct.unpack_from('<Q', image, at + 176)[0])
+            pairs |= {(tree, block) for block in blocks}
             extents += [(device(key[0]), key[2]) for key, _ in found if key[1] == 168]
-    copies = [(device(block), NODE) for block in blocks]
-    return copies + [(at + SECOND, NODE) for at, _ in copies if 5242880 <= at < 13631488] + extents
+    copies = [(device(block), NODE) for _, block in pairs]
+    return pairs, sorted(copies + [(at + SECOND, NODE) for at, _ in copies if 5242880 <= at < 13631488] + extents)
 
 
 def judge(seed, folder):
@@ -57,17 +58,14 @@ def judge(seed, folder):
     with open(trace_file, 'rb') as f:
         lines = subprocess.run([program, 'replay', image_file], stdin=f, stdout=subprocess.PIPE).stdout.decode().splitlines()
     wanted = ['image accepted generation 1']
-    wanted += [f'commit {k} passed generation {k + 1} blocks 0 hot 0' for k in range(1, commits + 1)]
-    wanted += [f'end passed {commits} rejected 0']
-    if lines != wanted:
-        return f'replay said {[line for line in lines if line not in wanted][:1]}'
-    at, taken = 16, sorted(live(image))
+    at, (pairs, taken) = 16, live(image)
     while trace[at] == 1:
         submitter, place, size = struct.unpack_from('<HQI', trace, at + 1)
         at += 15 + size
         image[place:place + size] = trace[at - size:at]
         if place == 65536:
-            taken = sorted(live(image))
+            before, (pairs, taken), count = pairs, live(image), len(wanted)
+            wanted.append(f'commit {count} passed generation {count + 1} blocks {len(before ^ pairs)} hot 0')
             continue
         if submitter != (place >= 22020096):
             return f'a write at {place} by submitter {submitter}'
@@ -75,7 +73,8 @@ def judge(seed, folder):
             return f'a write at {place} is over what is live'
     if trace[at] != 255 or image != open(image_file, 'rb').read():
         return 'the replay left another image than the writes do'
-    return None
+    wanted.append(f'end passed {commits} rejected 0')
+    return None if lines == wanted else f'replay said {[line for line in lines if line not in wanted][:1]}'
 
 
 with tempfile.TemporaryDirectory() as folder:

@@ -34,7 +34,7 @@ behind rs rest = cond rs.at_header (drop 16 rest) rest
 
 -- how far a replay has come: the state, what is left, what was printed, how many bytes behind the header
 -- are taken, and how it goes on
-pub record Going (w : Style) (first : MachineState) (bytes kept : List ℕ) (rs : ReaderState) (t : Counts) (checker : Checker) (disk left sink : Option (List ℕ)) : Type 0 where
+pub record Going {L : Type 0} (w : Style) (first : MachineState) (bytes kept : List ℕ) (rs : ReaderState) (t : Counts) (checker : Checker L) (disk left sink : Option (List ℕ)) : Type 0 where
   pub state : MachineState
   pub rest : List ℕ
   pub text : List ℕ
@@ -98,7 +98,7 @@ lawful_rest rs rest front after h parts =
     all_behind front after (all_behind (front_of rs) (front ++ after) (subst IsBytes parts h))
 
 -- before the first record
-pub going_start : (w : Style) (first : MachineState) (bytes kept : List ℕ) (checker : Checker) (disk left sink : Option (List ℕ)) → StandsFor checker first → disk ≡ Some first.image
+pub going_start : {L : Type 0} (w : Style) (first : MachineState) (bytes kept : List ℕ) (checker : Checker L) (disk left sink : Option (List ℕ)) → StandsFor checker first → disk ≡ Some first.image
     → IsBytes bytes → left ≡ Some bytes → sink ≡ Some kept → Going w first bytes kept (reader_start record_limit) no_counts checker disk left sink
 going_start w first bytes kept checker disk left sink stands image lawful left_is printed = record {
   state = first;
@@ -136,7 +136,7 @@ pub told_at : (rs new : ReaderState) (left after : Option (List ℕ)) (rest : Li
     → IfSome left (λ b. Tells rs b r new after) → Tells rs rest r new after
 told_at rs new left after rest r is told = subst (λ o. IfSome o (λ b. Tells rs b r new after)) is told
 
-pub going_event : (w : Style) (first : MachineState) (bytes kept : List ℕ) (rs new : ReaderState) (t t' : Counts) (checker checker' : Checker) (disk disk' left left' sink sink' : Option (List ℕ)) (e : Event)
+pub going_event : {L : Type 0} (w : Style) (first : MachineState) (bytes kept : List ℕ) (rs new : ReaderState) (t t' : Counts) (checker checker' : Checker L) (disk disk' left left' sink sink' : Option (List ℕ)) (e : Event)
     → (going : Going w first bytes kept rs t checker disk left sink)
     → IfSome left (λ b. Tells rs b (Ok (an_event e)) new left') → new ≡ after_event rs
     → GoesOn w going.state t e (kept ++ going.text) checker' t' disk' sink'
@@ -152,8 +152,8 @@ going_event w first bytes kept rs new t t' checker checker' disk disk' left left
       rest = takes.rest;
       text = going.text ++ words;
       n = going.n + size;
-      stands = turn.stands;
-      image = turn.image;
+      stands = turn.step.stands;
+      image = turn.step.image;
       left_is = takes.left;
       printed = turn.printed ∙ ap Some (append_assoc kept going.text words);
       lawful = lawful_rest rs going.rest (spelling_of e) takes.rest going.lawful takes.taken;
@@ -169,9 +169,9 @@ going_event w first bytes kept rs new t t' checker checker' disk disk' left left
             all.0,
             all.1,
             all.2
-                ∙ ap (after_text going.text going.n) (outcome_inside w s rs.whole t e events ending turn.inside)
+                ∙ ap (after_text going.text going.n) (outcome_inside w s rs.whole t e events ending turn.step.inside)
                 ∙ after_twice going.text words going.n size (outcome_from w (machine_step s e).after (rs.whole + 1) (counts_after t (machine_step s e).answer) events ending)
-                ∙ ap (λ u. after_text (going.text ++ words) (going.n + size) (outcome_from w (machine_step s e).after (rs.whole + 1) u events ending)) (sym turn.counts),
+                ∙ ap (λ u. after_text (going.text ++ words) (going.n + size) (outcome_from w (machine_step s e).after (rs.whole + 1) u events ending)) (sym turn.step.counts),
           );
     })
 
@@ -185,7 +185,7 @@ header_here true limit whole rest ending e h = inl (h, refl)
 header_here false limit whole rest ending e h = absurd (let k : false ≡ true = e in cc)
 
 -- the outcome of all events, where the replay has come to its end with this outcome from the state on
-comes_out : (w : Style) (first : MachineState) (bytes kept : List ℕ) (rs : ReaderState) (t : Counts) (checker : Checker) (disk left sink disk' left' sink' : Option (List ℕ)) (status : ℕ)
+comes_out : {L : Type 0} (w : Style) (first : MachineState) (bytes kept : List ℕ) (rs : ReaderState) (t : Counts) (checker : Checker L) (disk left sink disk' left' sink' : Option (List ℕ)) (status : ℕ)
     (going : Going w first bytes kept rs t checker disk left sink) (events : List Event) (ending : Ending) (o : Outcome)
     → FromHere rs going.rest events ending → outcome_from w going.state rs.whole t events ending ≡ o
     → sink' ≡ Some (kept ++ going.text ++ o.text) → status ≡ o.status → disk' ≡ Some o.device → IfSome o.taken (λ k. left' ≡ Some (drop (16 + going.n + k) bytes))
@@ -206,7 +206,7 @@ comes_out w first bytes kept rs t checker disk left sink disk' left' sink' statu
     }
 
 -- at the end tag
-pub going_end : (w : Style) (first : MachineState) (bytes kept : List ℕ) (rs new : ReaderState) (t : Counts) (checker : Checker) (disk left left' sink sink' : Option (List ℕ)) (status : ℕ)
+pub going_end : {L : Type 0} (w : Style) (first : MachineState) (bytes kept : List ℕ) (rs new : ReaderState) (t : Counts) (checker : Checker L) (disk left left' sink sink' : Option (List ℕ)) (status : ℕ)
     (going : Going w first bytes kept rs t checker disk left sink)
     → IfSome left (λ b. Tells rs b (Ok the_end) new left')
     → status ≡ (ended w going.state t End).status → sink' ≡ option_map (λ k. k ++ (ended w going.state t End).text) sink
@@ -234,7 +234,7 @@ meets rs new rest NoMemory after h told = absurd h
 meets rs new rest TooMany after h told = told.of_all
 
 -- at a fault of the trace's bytes
-pub going_fault : (w : Style) (first : MachineState) (bytes kept : List ℕ) (rs new : ReaderState) (t : Counts) (checker : Checker) (disk left left' sink sink' : Option (List ℕ)) (status place : ℕ) (f : TraceFault)
+pub going_fault : {L : Type 0} (w : Style) (first : MachineState) (bytes kept : List ℕ) (rs new : ReaderState) (t : Counts) (checker : Checker L) (disk left left' sink sink' : Option (List ℕ)) (status place : ℕ) (f : TraceFault)
     (going : Going w first bytes kept rs t checker disk left sink)
     → IfSome left (λ b. Tells rs b (Err f) new left') → IsOfBytes f → place ≡ new.number
     → status ≡ 3 → sink' ≡ option_map (λ k. k ++ (ended w going.state t (Fault f place)).text) sink
@@ -245,7 +245,7 @@ going_fault w first bytes kept rs new t checker disk left left' sink sink' statu
     refl (printed ∙ ap (option_map (λ k. k ++ (ended w going.state t (Fault f place)).text)) going.printed) st going.image tt
 
 -- at an event that passes the end of the device
-pub going_past : (w : Style) (first : MachineState) (bytes kept : List ℕ) (rs new : ReaderState) (t : Counts) (checker : Checker) (disk disk' left left' sink sink' : Option (List ℕ)) (status place : ℕ) (e : Event)
+pub going_past : {L : Type 0} (w : Style) (first : MachineState) (bytes kept : List ℕ) (rs new : ReaderState) (t : Counts) (checker : Checker L) (disk disk' left left' sink sink' : Option (List ℕ)) (status place : ℕ) (e : Event)
     (going : Going w first bytes kept rs t checker disk left sink)
     → IfSome left (λ b. Tells rs b (Ok (an_event e)) new left') → place ≡ rs.whole + 1
     → EndsPast w going.state place e (kept ++ going.text) status disk' sink'

@@ -2,6 +2,7 @@ pub mod Checking
 mod FewWords
 pub mod Going
 pub mod Handing
+pub mod HowOften
 pub mod Made
 mod OneForm
 pub mod Reaching

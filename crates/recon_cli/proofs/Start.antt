@@ -1,15 +1,22 @@
 -- How a replay begins, and what it comes to as a whole.
-use Rattle.std.proofs.Common.{◌≡◌, ℕ, List, ◌++◌, Option, Some, option_map, sym, ap, ◌∙◌, subst, append_assoc}
+use Rattle.std.proofs.Common.{◌≡◌, ℕ, List, ◌++◌, Option, Some, IfSome, option_map, Result, Ok, sym, ap, ◌∙◌, subst, append_assoc}
 use Rattle.verdict.specs.declared.finding.Finding.{Finding}
 use Rattle.records.specs.FullCheck.{full_check}
 use Rattle.verdict.specs.declared.finding.Verdict.TheVariants.{Accept, Found}
-use Rattle.recon_core.specs.Standing.{first_state}
+use Rattle.recon_core.specs.declared.checker.Checker.{Checker}
+use Rattle.recon_core.specs.Standing.{BeginsWith, StandsFor, first_state}
 use Rattle.trace_reader.specs.Trace.{IsBytes}
 use Rattle.trace_reader.proofs.Records.{one}
 use Rattle.report.specs.declared.line.Line.TheVariants.{Image, Refused}
 use Rattle.recon_cli.specs.declared.lines.Style.{Style}
 use Rattle.recon_cli.specs.Outcome.{Outcome, line_in, no_counts, outcome_from, replay_by}
 use Rattle.recon_cli.specs.Run.{ComesOut, Replays, ReplaysAs, record_limit}
+
+-- what the start says of an image that is told
+pub begun_over : {L : Type 0} (told : Option (List ℕ)) (image : List ℕ) (begun : Result (Checker L × ℕ) Finding) (checker : Checker L) (generation : ℕ) → told ≡ Some image
+    → begun ≡ Ok (checker, generation) → IfSome told (λ i. BeginsWith i begun) → StandsFor checker (first_state image) × (full_check image ≡ Accept generation)
+begun_over told image begun checker generation is came begins =
+    subst (λ b. BeginsWith image b) came (subst (λ o. IfSome o (λ i. BeginsWith i begun)) is begins)
 
 -- a replay over an accepted image
 pub replays_accepted : (w : Style) (image bytes kept : List ℕ) (generation status : ℕ) (disk left sink : Option (List ℕ)) → full_check image ≡ Accept generation → IsBytes bytes

@@ -101,14 +101,19 @@ pub record HasStatusCause (before now : Faults) (status : ℕ) : Type 0 where
   pub source : IsCounted (status == 5) before.source now.source
   pub sink : IsCounted (status == 6) before.sink now.sink
 
--- What one event did: it goes on as the machine's step says, with the line of the answer printed, or the
--- event passes the end of the device, which is printed, and the run ends with status 3.
-pub record GoesOn (style : Style) (s : MachineState) (t : Counts) (event : Event) (kept : List ℕ)
-    (checker : Checker) (new : Counts) (disk sink : Option (List ℕ)) : Type 0 where
+-- an event that goes on as the machine's step says
+pub record StepsOn {L : Type 0} (s : MachineState) (t : Counts) (event : Event)
+    (checker : Checker L) (new : Counts) (disk : Option (List ℕ)) : Type 0 where
   pub inside : nat_lt (length s.image) (end_of event) ≡ false
   pub stands : StandsFor checker (machine_step s event).after
   pub image : disk ≡ Some (machine_step s event).after.image
   pub counts : new ≡ counts_after t (machine_step s event).answer
+
+-- What one event did: it goes on as the machine's step says, with the line of the answer printed, or the
+-- event passes the end of the device, which is printed, and the run ends with status 3.
+pub record GoesOn {L : Type 0} (style : Style) (s : MachineState) (t : Counts) (event : Event) (kept : List ℕ)
+    (checker : Checker L) (new : Counts) (disk sink : Option (List ℕ)) : Type 0 where
+  pub step : StepsOn s t event checker new disk
   pub printed : sink ≡ Some
       (kept ++ answer_text style t (begin_of event) (is_settle event) (machine_step s event).answer)
 
@@ -119,8 +124,8 @@ pub record EndsPast (style : Style) (s : MachineState) (place : ℕ) (event : Ev
   pub image : disk ≡ Some s.image
   pub printed : sink ≡ Some (kept ++ (past_end style s place event).text)
 
-abbrev pub Turns : Style → MachineState → ℕ → Counts → Event → List ℕ
-    → Option ℕ → Checker → Counts → Option (List ℕ) → Option (List ℕ) → Type 0
+abbrev pub Turns : {L : Type 0} → Style → MachineState → ℕ → Counts → Event → List ℕ
+    → Option ℕ → Checker L → Counts → Option (List ℕ) → Option (List ℕ) → Type 0
 Turns style s place t event kept None checker new disk sink =
     GoesOn style s t event kept checker new disk sink
 Turns style s place t event kept (Some status) checker new disk sink =

@@ -9,6 +9,7 @@ ghost use Rattle.trace_reader.specs.Fault.{fault_number};
 ghost use Rattle.verdict.specs.declared.finding.Verdict.TheVariants.{Accept};
 ghost use Rattle.records.specs.FullCheck.{full_check};
 ghost use Rattle.recon_cli.specs.Outcome.{line_in, no_counts};
+ghost use Rattle.recon_cli.specs.Reads.{ReadsAtMost, ReadsEvents};
 ghost use Rattle.recon_cli.specs.Stopped.{StopsAs, StopsFrom};
 ghost use Rattle.recon_cli.specs.Stopping.{FaultStops, IsCutPrint};
 ghost use Rattle.recon_cli.specs.Run.{HasFaultPrintCause, HasFaultCause, HasPrintCause, IsOfBytes, IsOutcomeStatus, IsSameOutside, Replays, ReplaysAs, TookLines, faults_lent};
@@ -94,7 +95,7 @@ fn print_fault<K: Sink>(
 // Takes the records of a trace one by one, up to its end, its fault, or the first event that passes the end
 // of the device. What still waits then is dropped with the checker.
 fn take_records<D: Disk, S: Source, K: Sink, L>(
-    replay: &mut Replay,
+    replay: &mut Replay<L>,
     lent: &mut Outside<'_, '_, '_, '_, D, S, K, L>,
 ) -> Result<u8, RunFault>
     requires open { replay.old.checker.closed ≡ false }
@@ -112,6 +113,11 @@ fn take_records<D: Disk, S: Source, K: Sink, L>(
         S.left lent.old.trace.now ≡ Some bytes → K.kept lent.old.out.now ≡ Some kept →
         IfErr result (λ cause. StopsFrom replay.old.style first bytes kept cause
         (D.bytes lent.new.disk.now) (S.left lent.new.trace.now) (K.kept lent.new.out.now)) }
+    ensures reads { (first : MachineState) (bytes : List ℕ) →
+        StandsFor replay.old.checker first → D.bytes lent.old.disk.now ≡ Some first.image →
+        IsBytes bytes → S.left lent.old.trace.now ≡ Some bytes →
+        IfOk result (λ status. status ≡ 0 → ReadsEvents first bytes
+        (D.reads lent.old.disk.now) (D.reads lent.new.disk.now)) }
     ensures status { IfOk result IsOutcomeStatus }
     ensures same { IsSameOutside lent.old lent.new }
     ensures lines { TookLines K.Sink replay.old.style lent.old.out.now lent.new.out.now }
@@ -142,7 +148,7 @@ fn take_records<D: Disk, S: Source, K: Sink, L>(
 fn replay_over<D: Disk, S: Source, K: Sink, L>(
     alloc: Global,
     style: Style,
-    checker: Checker,
+    checker: Checker<L>,
     generation: u64,
     lent: &mut Outside<'_, '_, '_, '_, D, S, K, L>,
 ) -> Result<u8, RunFault>
@@ -162,6 +168,11 @@ fn replay_over<D: Disk, S: Source, K: Sink, L>(
         S.left lent.old.trace.now ≡ Some bytes → K.kept lent.old.out.now ≡ Some kept →
         IfErr result (λ cause. StopsAs style image bytes kept cause
         (D.bytes lent.new.disk.now) (S.left lent.new.trace.now) (K.kept lent.new.out.now)) }
+    ensures reads { (image bytes : List ℕ) →
+        StandsFor checker (first_state image) → D.bytes lent.old.disk.now ≡ Some image →
+        IsBytes bytes → S.left lent.old.trace.now ≡ Some bytes →
+        IfOk result (λ status. status ≡ 0 → ReadsEvents (first_state image) bytes
+        (D.reads lent.old.disk.now) (D.reads lent.new.disk.now)) }
     ensures status { IfOk result IsOutcomeStatus }
     ensures same { IsSameOutside lent.old lent.new }
     ensures lines { TookLines K.Sink style lent.old.out.now lent.new.out.now }
@@ -196,6 +207,10 @@ pub fn replay<D: Disk, S: Source, K: Sink, L>(
         S.left lent.old.trace.now ≡ Some bytes → K.kept lent.old.out.now ≡ Some kept →
         IfErr result (λ cause. StopsAs style image bytes kept cause
         (D.bytes lent.new.disk.now) (S.left lent.new.trace.now) (K.kept lent.new.out.now)) }
+    ensures reads { (image bytes : List ℕ) → D.bytes lent.old.disk.now ≡ Some image →
+        IsBytes bytes → S.left lent.old.trace.now ≡ Some bytes →
+        IfOk result (λ status. status ≡ 0 → ReadsAtMost image bytes
+        (D.reads lent.old.disk.now) (D.reads lent.new.disk.now)) }
     ensures status { IfOk result IsOutcomeStatus }
     ensures same { IsSameOutside lent.old lent.new }
     ensures lines { TookLines K.Sink style lent.old.out.now lent.new.out.now }

@@ -9,6 +9,7 @@ ghost use Rattle.recon_cli.specs.Words.{AsksToMake, IsForm, IsNoForm};
 ghost use Rattle.recon_cli.specs.Making.{IsUnwritten, MakesAs};
 ghost use Rattle.recon_cli.specs.Outcome.{replay_outcome};
 ghost use Rattle.recon_cli.specs.Status.{fault_status};
+ghost use Rattle.recon_cli.specs.Reads.{ReadsAtMost};
 ghost use Rattle.recon_cli.specs.Stopped.{CheckStops, StopsAs};
 ghost use Rattle.recon_cli.specs.Run.{ChecksAs, ComesOut, HadNoFault, HasStatusCause, IsCheckStatus, IsOutcomeStatus, TookLines, faults_of, record_limit};
 
@@ -27,6 +28,10 @@ use std::alloc::Global;
 /// `replay IMAGE` for the replay of the trace over it, or `replay --json IMAGE` for the same with its lines
 /// as JSON. IMAGE is not looked at: the words `replay --json` are the second form. A check leaves the disk's
 /// bytes, takes nothing from the trace, and ends with 0, 1, 4, 6 or 7.
+///
+/// A replay that ends with 0 reads the superblock of the disk's image once and each block of its trees at most
+/// twice, and then for each judged event at most twice each block that the images before and after it do not
+/// share, for each fetch once, and for a write that waits not at all.
 ///
 /// `make SEED COMMITS IMAGE` writes the base image over the disk's first 33,554,432 bytes, flushes, and writes
 /// to the place for lines the trace of a workload on it, of COMMITS commits, that is drawn from SEED. SEED and
@@ -73,6 +78,13 @@ pub fn recon_run<D: Disk, S: Source, K: Sink, L>(
         S.left trace.old ≡ Some bytes → K.kept out.old ≡ Some kept →
         StopsAs style image bytes kept cause
         (D.bytes disk.new) (S.left trace.new) (K.kept out.new) }
+
+    // A replay that ends with status 0 has read the superblock of its image once and each block of the trees at most
+    // twice, and then at most what the answers to the events of the trace allow.
+    ensures reads { (style : Style) → IsForm (Form.Replay style) (map string_bytes words.now) →
+        result ≡ 0 → (image bytes : List ℕ) → D.bytes disk.old ≡ Some image →
+        S.left trace.old ≡ Some bytes → IsBytes bytes →
+        ReadsAtMost image bytes (D.reads disk.old) (D.reads disk.new) }
 
     // A check of the image prints what the full check says of it. It writes nothing to the disk, and leaves the trace.
     ensures check { IsForm Form.Check (map string_bytes words.now) → IsOutcomeStatus result →

@@ -6,6 +6,7 @@ ghost use Rattle.recon_core.specs.Machine.{MachineState};
 ghost use Rattle.recon_core.specs.Standing.{IsBelow, StandsFor};
 ghost use Rattle.recon_cli.specs.Outcome.{answer_text, is_settle, counts_after};
 ghost use Rattle.recon_cli.specs.Run.{HasPrintCause, HasTurnCause, TookLines, Turns};
+ghost use Rattle.recon_cli.specs.Reads.{MayStep};
 ghost use Rattle.recon_cli.specs.Stopping.{IsCutPrint, TurnStops};
 
 use crate::counts::Counts;
@@ -29,20 +30,20 @@ fn begin_and_kind(event: &Event) -> (u64, bool)
     }
 }
 
-/// A replay as it goes on.
+/// A replay as it goes on. The mark `L` is its checker's.
 #[derive(Drop)]
-pub struct Replay {
+pub struct Replay<L> {
     /// What takes the memory of lines and of what is judged.
     pub alloc: Global,
     /// How lines are printed.
     pub style: Style,
     /// The checker over the disk.
-    pub checker: Checker,
+    pub checker: Checker<L>,
     /// How many events were judged.
     pub counts: Counts,
 }
 
-impl Replay {
+impl<L> Replay<L> {
     // Counts an answer and prints its line; a held write has none.
     fn report<K: Sink>(
         &mut self,
@@ -97,7 +98,7 @@ impl Replay {
 
     /// Gives the record of this number to the checker, and prints its line. It answers the status where the event
     /// passes the end of the device.
-    pub fn take_event<D: Disk, K: Sink, L>(
+    pub fn take_event<D: Disk, K: Sink>(
         &mut self,
         place: u64,
         event: Event,
@@ -120,6 +121,11 @@ impl Replay {
             K.kept out.old ≡ Some kept → IfErr result (λ fault.
             TurnStops self.old.style state place self.old.counts event kept fault
             (D.bytes disk.new) (K.kept out.new)) }
+        ensures reads { (state : MachineState) →
+            StandsFor self.old.checker state → D.bytes disk.old ≡ Some state.image →
+            IfOk result (λ status. MayStep state self.old.counts event status
+            self.new.checker self.new.counts
+            (D.bytes disk.new) (D.reads disk.old) (D.reads disk.new)) }
         ensures status { IfOk result (λ status. IfSome status (λ n. n ≡ 3)) }
         ensures style { self.new.style ≡ self.old.style }
         ensures open { OnOk result (self.new.checker.closed ≡ false) }

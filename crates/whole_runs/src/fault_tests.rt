@@ -105,7 +105,7 @@ const LINES: &str = "image accepted generation 1
 fetch 30408704 4 41424344
 commit 1 rejected A16 tree 0 block 0 key 0 0 0 detail 0
 fetch 30408704 4 00000000
-commit 2 passed generation 2 blocks 0 hot 0
+commit 2 passed generation 2 blocks 6 hot 0
 end passed 1 rejected 1
 ";
 
@@ -115,7 +115,7 @@ const JSON: &str = r#"{"event":"image","generation":1,"result":"accepted"}
 {"at":30408704,"bytes":"41424344","event":"fetch","len":4}
 {"event":"commit","finding":{"block":0,"detail":0,"key":[0,0,0],"rule":"A16","tree":0},"number":1,"result":"rejected"}
 {"at":30408704,"bytes":"00000000","event":"fetch","len":4}
-{"blocks":0,"event":"commit","generation":2,"hot":0,"number":2,"result":"passed"}
+{"blocks":6,"event":"commit","generation":2,"hot":0,"number":2,"result":"passed"}
 {"event":"end","passed":1,"rejected":1}
 "#;
 

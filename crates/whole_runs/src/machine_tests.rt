@@ -53,7 +53,7 @@ fn event_of(alloc: Global, at: u64, bytes: &[u8]) -> Option<Event>
 /// What the checker says to a write, or to a settle where there are no bytes.
 pub fn take<D: Disk>(
     alloc: Global,
-    checker: &mut Checker,
+    checker: &mut Checker<u8>,
     disk: &mut D,
     at: u64,
     bytes: &[u8],
@@ -75,7 +75,7 @@ pub fn take<D: Disk>(
 }
 
 // What a checker in which nothing is pending says to a write, to a write that meets the superblock, and to a settle.
-fn follow<D: Disk>(alloc: Global, checker: &mut Checker, disk: &mut D) -> [Said; 3]
+fn follow<D: Disk>(alloc: Global, checker: &mut Checker<u8>, disk: &mut D) -> [Said; 3]
     requires length { checker.old.length ≡ D.len disk.old }
     requires empty { checker.old.cache ≡ map.empty }
 {

@@ -87,7 +87,7 @@ fn overwrite(bytes: &mut Vec<u8>, at: usize, from: &[u8])
 // meets the superblock and ends where the long one begins.
 fn follow<D: Disk>(
     alloc: Global,
-    checker: &mut Checker,
+    checker: &mut Checker<u8>,
     disk: &mut D,
     long: &[u8],
     behind: &[u8],

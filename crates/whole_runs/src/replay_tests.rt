@@ -81,8 +81,8 @@ const BASIC: &[Row] = &[
 const NEW_FILE: &[Row] = &[
     Row {
         steps: &[Step::Commit(&[NewFile]), Step::End],
-        text: "commit 1 passed generation 2 blocks 0 hot 0\nend passed 1 rejected 0\n",
-        json: r#"{"blocks":0,"event":"commit","generation":2,"hot":0,"number":1,"result":"passed"}
+        text: "commit 1 passed generation 2 blocks 6 hot 0\nend passed 1 rejected 0\n",
+        json: r#"{"blocks":6,"event":"commit","generation":2,"hot":0,"number":1,"result":"passed"}
 {"event":"end","passed":1,"rejected":0}
 "#,
         left: &[NewFile],
@@ -145,7 +145,7 @@ const NAMES: &[Row] = &[
     // An orphan, which has no name.
     Row {
         steps: &[Step::Commit(ORPHAN), Step::End],
-        text: "commit 1 passed generation 2 blocks 0 hot 0\nend passed 1 rejected 0\n",
+        text: "commit 1 passed generation 2 blocks 6 hot 0\nend passed 1 rejected 0\n",
         left: ORPHAN,
         ..NOTHING
     },
@@ -286,7 +286,7 @@ const DATA: &[Row] = &[
             ]),
             Step::End,
         ],
-        text: "commit 1 passed generation 1 blocks 0 hot 0
+        text: "commit 1 passed generation 1 blocks 6 hot 3
 commit 2 rejected A2 tree 5 block 13631488 key 257 178 0 detail 0
 end passed 1 rejected 1
 ",
@@ -306,7 +306,7 @@ end passed 1 rejected 1
     Row {
         image: WITHOUT_SUMS,
         steps: &[Step::Commit(WITH_SUM), Step::End],
-        text: "commit 1 passed generation 1 blocks 0 hot 0\nend passed 1 rejected 0\n",
+        text: "commit 1 passed generation 1 blocks 6 hot 2\nend passed 1 rejected 0\n",
         left: WITH_SUM,
         ..NOTHING
     },
@@ -317,7 +317,7 @@ end passed 1 rejected 1
     },
     Row {
         steps: &[Step::Commit(FILE_OF_THREE), Step::End],
-        text: "commit 1 passed generation 1 blocks 0 hot 0\nend passed 1 rejected 0\n",
+        text: "commit 1 passed generation 1 blocks 6 hot 3\nend passed 1 rejected 0\n",
         left: FILE_OF_THREE,
         ..NOTHING
     },
@@ -346,7 +346,7 @@ const SPACE: &[Row] = &[
     // The file tree's block written in place with another mode of the directory.
     Row {
         steps: &[Step::Blocks(MODE), Step::Settle, Step::End],
-        text: "settle 1 passed generation 1 blocks 0 hot 0\nend passed 1 rejected 0\n",
+        text: "settle 1 passed generation 1 blocks 2 hot 1\nend passed 1 rejected 0\n",
         left: MODE,
         ..NOTHING
     },

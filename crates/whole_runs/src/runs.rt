@@ -17,7 +17,7 @@ pub const ACCEPTED: &str = "image accepted generation 1\n";
 
 /// The lines of the commit of a new file.
 pub const CREATED: &str =
-    "image accepted generation 1\ncommit 1 passed generation 2 blocks 0 hot 0\nend passed 1 rejected 0\n";
+    "image accepted generation 1\ncommit 1 passed generation 2 blocks 6 hot 0\nend passed 1 rejected 0\n";
 
 // The room for the lines of a run, or for the trace of a workload.
 const ROOM: usize = 67_108_864;

@@ -35,3 +35,6 @@ returns-clause-stopped g c image bytes kept accepted stands told left printed =
     each_err c.take_records.result (λ cause stops. later_stops c.args.style image bytes kept c.args.generation cause _ _ _ accepted stops)
     (c.take_records.ensures.stopped (first_state image) bytes (kept ++ line_in c.args.style (Image c.args.generation)) stands told left
     (printed_at (g.K.Sink.kept c.print.new.out) (g.K.Sink.kept c.args.lent.now.out.now) kept (line_in c.args.style (Image c.args.generation)) printed c.in_ok-print.ensures.printed))
+
+pub returns-clause-reads : goal.returns-clause-reads
+returns-clause-reads g c image bytes stands told lawful left = c.take_records.ensures.reads (first_state image) bytes stands told lawful left

@@ -2,12 +2,14 @@ use Rattle.std.proofs.Common.{◌≡◌, ◌+◌, ◌++◌, Some, None, IfSome, 
 use Rattle.recon_core.specs.Standing.{IsBelow}
 use Rattle.recon_cli.specs.Run.{TookLines, Turns, record_limit}
 use Rattle.recon_cli.specs.Outcome.{no_counts}
+use Rattle.recon_cli.specs.Reads.{MayStep}
 use Rattle.recon_cli.specs.Stopped.{StopsFrom, lines_of, state_after}
 use Rattle.recon_cli.specs.Stopping.{TurnStops}
 use Rattle.recon_cli.proofs.Stopping.{handed}
 use Rattle.recon_cli.proofs.Reaching.{Far, each_err, far_end, far_event, far_fault, far_start, far_turn}
 use Rattle.recon_cli.proofs.Going.{Going, going_start, going_event, going_end, going_fault, going_past, place_is, place_fits, at_event, at_end, after_is, limit_over, both_ok, each_ok, fault_cause, three_is, event_reads}
 use Rattle.recon_cli.proofs.Handing.{more_lines, no_lines}
+use Rattle.recon_cli.proofs.HowOften.{ReadSoFar, read_end, read_event, read_start}
 use Rattle.recon_cli.proofs.replay.take_records.Goals as goal
 
 pub returns-in_err-turn-in-Ok-Event-clause-lines : goal.returns-in_err-turn-in-Ok-Event-clause-lines
@@ -49,6 +51,11 @@ records-init g c =
           subst (λ t. Far c.args.replay.now.style first bytes kept c.new-reader.result t c.args.replay.now.checker (g.D.Disk.bytes c.args.lent.now.disk.now) (g.S.Source.left c.args.lent.now.trace.now) (g.K.Sink.kept c.args.lent.now.out.now)) (sym c.requires.first)
           (subst (λ r. Far c.args.replay.now.style first bytes kept r no_counts c.args.replay.now.checker (g.D.Disk.bytes c.args.lent.now.disk.now) (g.S.Source.left c.args.lent.now.trace.now) (g.K.Sink.kept c.args.lent.now.out.now)) (sym c.new-reader.ensures)
           (far_start c.args.replay.now.style first bytes kept c.args.replay.now.checker (g.D.Disk.bytes c.args.lent.now.disk.now) (g.S.Source.left c.args.lent.now.trace.now) (g.K.Sink.kept c.args.lent.now.out.now) stands image left printed));
+      read = λ first bytes stands image left.
+          let reads = g.D.Disk.reads c.args.lent.now.disk.now in
+          subst (λ t. ReadSoFar first bytes c.new-reader.result t c.args.replay.now.checker (g.D.Disk.bytes c.args.lent.now.disk.now) (g.S.Source.left c.args.lent.now.trace.now) reads reads) (sym c.requires.first)
+          (subst (λ r. ReadSoFar first bytes r no_counts c.args.replay.now.checker (g.D.Disk.bytes c.args.lent.now.disk.now) (g.S.Source.left c.args.lent.now.trace.now) reads reads) (sym c.new-reader.ensures)
+          (read_start first bytes c.args.replay.now.checker (g.D.Disk.bytes c.args.lent.now.disk.now) (g.S.Source.left c.args.lent.now.trace.now) reads stands image left));
     }
 
 pub returns-in-Some-clause-outcome : goal.returns-in-Some-clause-outcome
@@ -84,6 +91,23 @@ returns-in-Err-clause-outcome g c first bytes kept stands image lawful left prin
     (g.S.Source.left c.records.lent.trace.now) (g.S.Source.left c.next.new.source) (g.K.Sink.kept c.records.lent.out.now) (g.K.Sink.kept c.print_fault.new.out) status c.record_number-place-in-Err.result c.in-Err.fault going
     c.in-Err.ensures.told p.1 (place_fits c.next.new.self.number c.next.new.self.limit c.record_number-place-in-Err.result c.record_number-place-in-Err.ensures.number c.record_number-place-in-Err.ensures.within limit) p.0 p.2)
     c.print_fault.ensures.printed
+
+pub returns-in-Some-clause-reads : goal.returns-in-Some-clause-reads
+returns-in-Some-clause-reads g c first bytes stands image lawful left none =
+    let three : c.in-Some.status ≡ 3 = subst (λ t. IfSome t (λ n. n ≡ 3)) c.in-Some.is c.in_ok-turn-in-Ok-Event.ensures.status in
+    absurd (omega (arith, three, none))
+
+pub returns-in-Ok-End-clause-reads : goal.returns-in-Ok-End-clause-reads
+returns-in-Ok-End-clause-reads g c first bytes stands image lawful left =
+    each_ok c.print_summary.result (λ status is. read_end first bytes c.records.reader c.next.new.self c.records.replay.counts c.records.replay.checker (g.D.Disk.bytes c.records.lent.disk.now)
+    (g.S.Source.left c.records.lent.trace.now) (g.S.Source.left c.next.new.source) (g.D.Disk.reads c.args.lent.now.disk.now) (g.D.Disk.reads c.records.lent.disk.now) status
+    (c.records.invariant.read first bytes stands image left) lawful
+    (at_end c.records.reader c.next.new.self (g.S.Source.left c.records.lent.trace.now) (g.S.Source.left c.next.new.source) c.in-Ok-End.field-0 c.in-Ok-End.field-0-is c.in-Ok-End.ensures.told)
+    is) c.print_summary.ensures.status
+
+pub returns-in-Err-clause-reads : goal.returns-in-Err-clause-reads
+returns-in-Err-clause-reads g c first bytes stands image lawful left =
+    each_ok c.print_fault.result (λ status p none. absurd (omega (arith, p.0, none))) c.print_fault.ensures.printed
 
 pub returns-in-Err-clause-cause : goal.returns-in-Err-clause-cause
 returns-in-Err-clause-cause g c =
@@ -126,22 +150,30 @@ records-preserved g c =
           c.in_default.is (turn.turns going.state (kept ++ going.text) going.stands going.image going.printed)));
       far = λ first bytes kept stands image left printed.
           let far = c.records.invariant.far first bytes kept stands image left printed in
-          let s = state_after first far.done in
-          let text = kept ++ lines_of c.args.replay.now.style first no_counts far.done in
+          let s = state_after first far.took.done in
+          let text = kept ++ lines_of c.args.replay.now.style first no_counts far.took.done in
           far_event c.args.replay.now.style first bytes kept c.records.reader c.next.new.self c.records.replay.counts c.take_event.new.self.counts c.records.replay.checker c.take_event.new.self.checker (g.D.Disk.bytes c.records.lent.disk.now) (g.D.Disk.bytes c.take_event.new.disk)
           (g.S.Source.left c.records.lent.trace.now) (g.S.Source.left c.next.new.source) (g.K.Sink.kept c.records.lent.out.now) (g.K.Sink.kept c.take_event.new.out) c.in-Ok-Event.event
           far (at_event c.records.reader c.next.new.self (g.S.Source.left c.records.lent.trace.now) (g.S.Source.left c.next.new.source) c.in-Ok-Event.field-0 c.in-Ok-Event.event c.in-Ok-Event.field-0-is c.in-Ok-Event.ensures.told) next
           (subst (λ w. Turns w s c.record_number-place.result c.records.replay.counts c.in-Ok-Event.event text None c.take_event.new.self.checker c.take_event.new.self.counts (g.D.Disk.bytes c.take_event.new.disk) (g.K.Sink.kept c.take_event.new.out))
           c.records.invariant.style
           (subst (λ t. Turns c.records.replay.style s c.record_number-place.result c.records.replay.counts c.in-Ok-Event.event text t c.take_event.new.self.checker c.take_event.new.self.counts (g.D.Disk.bytes c.take_event.new.disk) (g.K.Sink.kept c.take_event.new.out))
-          c.in_default.is (turn.turns s text far.stands far.image far.printed)));
+          c.in_default.is (turn.turns s text far.took.stands far.took.image far.printed)));
+      read = λ first bytes stands image left.
+          let so = c.records.invariant.read first bytes stands image left in
+          let s = state_after first so.took.done in
+          read_event first bytes c.records.reader c.next.new.self c.records.replay.counts c.take_event.new.self.counts c.records.replay.checker c.take_event.new.self.checker (g.D.Disk.bytes c.records.lent.disk.now) (g.D.Disk.bytes c.take_event.new.disk)
+          (g.S.Source.left c.records.lent.trace.now) (g.S.Source.left c.next.new.source) (g.D.Disk.reads c.args.lent.now.disk.now) (g.D.Disk.reads c.records.lent.disk.now) (g.D.Disk.reads c.take_event.new.disk) c.in-Ok-Event.event
+          so (at_event c.records.reader c.next.new.self (g.S.Source.left c.records.lent.trace.now) (g.S.Source.left c.next.new.source) c.in-Ok-Event.field-0 c.in-Ok-Event.event c.in-Ok-Event.field-0-is c.in-Ok-Event.ensures.told) next
+          (subst (λ t. MayStep s c.records.replay.counts c.in-Ok-Event.event t c.take_event.new.self.checker c.take_event.new.self.counts (g.D.Disk.bytes c.take_event.new.disk) (g.D.Disk.reads c.records.lent.disk.now) (g.D.Disk.reads c.take_event.new.disk))
+          c.in_default.is (turn.reads s so.took.stands so.took.image));
     }
 
 pub returns-in_err-turn-in-Ok-Event-clause-stopped : goal.returns-in_err-turn-in-Ok-Event-clause-stopped
 returns-in_err-turn-in-Ok-Event-clause-stopped g c first bytes kept stands image left printed =
     let far = c.records.invariant.far first bytes kept stands image left printed in
-    let s = state_after first far.done in
-    let text = kept ++ lines_of c.args.replay.now.style first no_counts far.done in
+    let s = state_after first far.took.done in
+    let text = kept ++ lines_of c.args.replay.now.style first no_counts far.took.done in
     let next = after_is c.records.reader c.next.new.self c.in-Ok-Event.field-0 c.in-Ok-Event.event c.in-Ok-Event.field-0-is c.in-Ok-Event.ensures.state in
     let at = place_is c.records.reader c.next.new.self c.in-Ok-Event.event c.record_number-place.result next c.record_number-place.ensures.number c.records.invariant.few c.records.invariant.limit in
     handed (λ cause. StopsFrom c.args.replay.now.style first bytes kept cause (g.D.Disk.bytes c.take_event.new.disk) (g.S.Source.left c.next.new.source) (g.K.Sink.kept c.take_event.new.out)) c.from_residual.result c.in_err-turn-in-Ok-Event.field-0.0 c.from_residual.ensures.1
@@ -149,7 +181,7 @@ returns-in_err-turn-in-Ok-Event-clause-stopped g c first bytes kept stands image
     (g.S.Source.left c.records.lent.trace.now) (g.S.Source.left c.next.new.source) (g.K.Sink.kept c.records.lent.out.now) (g.K.Sink.kept c.take_event.new.out) c.record_number-place.result c.in-Ok-Event.event c.in_err-turn-in-Ok-Event.field-0.0
     far (at_event c.records.reader c.next.new.self (g.S.Source.left c.records.lent.trace.now) (g.S.Source.left c.next.new.source) c.in-Ok-Event.field-0 c.in-Ok-Event.event c.in-Ok-Event.field-0-is c.in-Ok-Event.ensures.told) at
     (subst (λ w. TurnStops w s c.record_number-place.result c.records.replay.counts c.in-Ok-Event.event text c.in_err-turn-in-Ok-Event.field-0.0 (g.D.Disk.bytes c.take_event.new.disk) (g.K.Sink.kept c.take_event.new.out))
-    c.records.invariant.style (c.in_err-turn-in-Ok-Event.ensures.stopped s text far.stands far.image far.printed)))
+    c.records.invariant.style (c.in_err-turn-in-Ok-Event.ensures.stopped s text far.took.stands far.took.image far.printed)))
 
 pub returns-in-Ok-End-clause-stopped : goal.returns-in-Ok-End-clause-stopped
 returns-in-Ok-End-clause-stopped g c first bytes kept stands image left printed =

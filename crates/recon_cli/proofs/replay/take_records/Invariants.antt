@@ -4,10 +4,11 @@ use Rattle.recon_core.specs.Standing.{IsBelow, StandsFor}
 use Rattle.trace_reader.specs.Trace.{IsBytes}
 use Rattle.recon_cli.specs.Run.{IsSameOutside, TookLines, record_limit}
 use Rattle.recon_cli.proofs.Going.{Going}
+use Rattle.recon_cli.proofs.HowOften.{ReadSoFar}
 use Rattle.recon_cli.proofs.Reaching.{Far}
 use Rattle.recon_cli.proofs.replay.take_records.Given as goal
 
--- the replay so far, and that nothing failed
+-- the replay so far, what it read, and that nothing failed
 abbrev pub invariant-records : goal.invariant-records
 invariant-records g l =
     let disk = g.D.Disk in
@@ -33,6 +34,9 @@ invariant-records g l =
       far : (first : MachineState) (bytes kept : List ℕ) → StandsFor l.fn.replay.checker first → disk.bytes l.fn.lent.disk.now ≡ Some first.image →
           source.left l.fn.lent.trace.now ≡ Some bytes → sink.kept l.fn.lent.out.now ≡ Some kept →
           Far l.fn.replay.style first bytes kept l.reader l.replay.counts l.replay.checker (disk.bytes l.lent.disk.now) (source.left l.lent.trace.now) (sink.kept l.lent.out.now);
+      read : (first : MachineState) (bytes : List ℕ) → StandsFor l.fn.replay.checker first → disk.bytes l.fn.lent.disk.now ≡ Some first.image →
+          source.left l.fn.lent.trace.now ≡ Some bytes →
+          ReadSoFar first bytes l.reader l.replay.counts l.replay.checker (disk.bytes l.lent.disk.now) (source.left l.lent.trace.now) (disk.reads l.fn.lent.disk.now) (disk.reads l.lent.disk.now);
     }
 
 abbrev pub decreases-records : goal.decreases-records

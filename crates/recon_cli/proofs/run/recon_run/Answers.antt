@@ -13,6 +13,12 @@ returns-in-Ok-replay-clause-replay g c style form done image bytes kept told lef
     let same = c.in-Ok-replay.ensures.same in
     search rules
 
+pub returns-in-Ok-replay-clause-reads : goal.returns-in-Ok-replay-clause-reads
+returns-in-Ok-replay-clause-reads g c style form none image bytes told left lawful events ending spelled trees walks =
+    let run = c.in-Ok-replay.ensures.reads image bytes told lawful left none events ending spelled trees walks in
+    let same = c.in-Ok-replay.ensures.same in
+    search rules
+
 pub returns-in-None-clause-checked : goal.returns-in-None-clause-checked
 returns-in-None-clause-checked g c form = absurd (c.in-None.ensures Check form)
 

@@ -1,0 +1,23 @@
+use Rattle.std.proofs.Common.{◌∙◌}
+use Rattle.recon_cli.proofs.Going.{each_ok}
+use Rattle.recon_cli.proofs.HowOften.{begun_reads, reads_whole}
+use Rattle.recon_cli.proofs.Start.{begun_over}
+use Rattle.recon_cli.proofs.replay.replay.Goals as goal
+
+pub returns-in-Ok-Ok-clause-outcome : goal.returns-in-Ok-Ok-clause-outcome
+returns-in-Ok-Ok-clause-outcome g c image bytes kept told lawful left printed =
+    let start = begun_over (g.D.Disk.bytes c.args.lent.now.disk.now) image c.in-Ok-Ok.field-0 c.in-Ok-Ok.checker c.in-Ok-Ok.generation told c.in-Ok-Ok.field-0-is c.in-Ok-Ok.ensures.told in
+    c.replay_over.ensures.outcome image bytes kept start.1 start.0 (c.in-Ok-Ok.ensures.kept.bytes ∙ told) lawful left printed
+
+pub returns-in-Ok-Ok-clause-stopped : goal.returns-in-Ok-Ok-clause-stopped
+returns-in-Ok-Ok-clause-stopped g c image bytes kept told left printed =
+    let start = begun_over (g.D.Disk.bytes c.args.lent.now.disk.now) image c.in-Ok-Ok.field-0 c.in-Ok-Ok.checker c.in-Ok-Ok.generation told c.in-Ok-Ok.field-0-is c.in-Ok-Ok.ensures.told in
+    c.replay_over.ensures.stopped image bytes kept start.1 start.0 (c.in-Ok-Ok.ensures.kept.bytes ∙ told) left printed
+
+pub returns-in-Ok-Ok-clause-reads : goal.returns-in-Ok-Ok-clause-reads
+returns-in-Ok-Ok-clause-reads g c image bytes told lawful left =
+    let start = begun_over (g.D.Disk.bytes c.args.lent.now.disk.now) image c.in-Ok-Ok.field-0 c.in-Ok-Ok.checker c.in-Ok-Ok.generation told c.in-Ok-Ok.field-0-is c.in-Ok-Ok.ensures.told in
+    let trees = begun_reads (g.D.Disk.bytes c.args.lent.now.disk.now) image (g.D.Disk.reads c.args.lent.now.disk.now) (g.D.Disk.reads c.begin.new.disk) c.in-Ok-Ok.field-0 c.in-Ok-Ok.checker c.in-Ok-Ok.generation
+    told c.in-Ok-Ok.field-0-is c.in-Ok-Ok.ensures.reads in
+    each_ok c.replay_over.result (λ status rest none. reads_whole image bytes _ _ _ trees (rest none))
+    (c.replay_over.ensures.reads image bytes start.0 (c.in-Ok-Ok.ensures.kept.bytes ∙ told) lawful left)
