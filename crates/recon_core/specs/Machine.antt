@@ -21,6 +21,10 @@ pub record MachineState : Type 0 where
   pub pending : List HeldWrite
   pub closed : Bool
 
+-- the state of the machine over an image, before the first event
+abbrev pub first_state : List ℕ → MachineState
+first_state image = record { image = image; pending = []; closed = false }
+
 -- an answer, and the state after it
 pub record Step : Type 0 where
   pub answer : Answer

@@ -50,10 +50,6 @@ pub record StandsFor {L : Type 0} (checker : Checker L) (state : MachineState) :
 abbrev pub IsBelow : ℕ → FinMap nat_cmp ℕ → Type 0
 IsBelow end cache = (i : ℕ) → IsSome (get cache i) → i < end
 
--- the state of the machine over an image, before the first event
-abbrev pub first_state : List ℕ → MachineState
-first_state image = record { image = image; pending = []; closed = false }
-
 -- how a checker begins over a disk with this image
 abbrev pub BeginsOver : {L : Type 0} → List ℕ → Started L → Type 0
 BeginsOver image (Ready checker) = StandsFor checker (first_state image)
