@@ -1,6 +1,6 @@
 -- The checking machine: a state, and for each event that lies inside the image one answer and one next
 -- state.
-use Rattle.std.specs.Prelude.{ℕ, Bool, List, [], ◌∷◌, ◌++◌, length, if◌then◌else◌}
+use Rattle.std.specs.Prelude.{ℕ, Bool, false, List, [], ◌∷◌, ◌++◌, length, if◌then◌else◌}
 use Rattle.verdict.specs.Image.{range, applied}
 use Rattle.verdict.specs.Events.{meets_superblock}
 use Rattle.verdict.specs.declared.machine.HeldWrite.{HeldWrite}

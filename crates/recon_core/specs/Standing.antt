@@ -19,7 +19,7 @@ use Rattle.commit_judge.specs.Index.{IndexStands}
 use Rattle.recon_core.specs.declared.checker.Checker.{Checker}
 use Rattle.recon_core.specs.declared.checker.Started.{Started}
 use Rattle.recon_core.specs.declared.checker.Started.TheVariants.{Ready, Refused}
-use Rattle.recon_core.specs.Machine.{MachineState, Step}
+use Rattle.recon_core.specs.Machine.{MachineState, Step, first_state}
 
 -- the full check accepts the image
 abbrev pub IsAccepted : List ℕ → Type 0
