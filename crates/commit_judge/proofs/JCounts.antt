@@ -17,7 +17,7 @@ use Rattle.write_cache.specs.Cache.{overlaid}
 use Rattle.change_laws.specs.Commit.{Commit, IsCommit, IsKnown, Known}
 use Rattle.change_laws.specs.Flags.{HotLaw, hot_of, is_hot}
 use Rattle.change_laws.specs.Same.{HeldLaw}
-use Rattle.commit_judge.specs.Counts.{blocks_between, hot_between, over_walks}
+use Rattle.commit_judge.specs.Counts.{blocks_between, hot_between, may_be_harmed, over_walks}
 use Rattle.commit_judge.specs.Judging.{CountsLaw, is_hot_by}
 
 ok_same : (image : List ℕ) (a b : Contents) → contents image ≡ Ok a → contents image ≡ Ok b → a ≡ b
@@ -45,7 +45,7 @@ hot_by written end old new sup before after lives sup_is before_is after_is = λ
     || not (stays_in_place (before_is i) (after_is i) ((sup_is i).nodesize) end live.address)) lives
 
 pub counts : HeldLaw → HotLaw → CountsLaw
-unfolding blocks_between hot_between
+unfolding blocks_between hot_between is_hot
 counts held hot image pending k c known commit =
     let old = commit.change_is.0 in
     let new = commit.change_is.1 in
@@ -55,7 +55,7 @@ counts held hot image pending k c known commit =
     let written = written_in pending in
     let end = length image in
     let unshared : Walked → Walked → ℕ = λ o n. length (unshared_in o n written end o) + length (unshared_in o n written end n) in
-    let hots : Walked → Walked → ℕ = λ o n. hot_of o n written end (live_in o.seen) in
+    let hots : Walked → Walked → ℕ = λ o n. count_by (may_be_harmed o n written end) (live_in o.seen) in
     let lengths : length c.change.old_blocks.items + length c.change.new_blocks.items ≡ unshared old new =
     λ i. length_permutation _ _ is.old_blocks i + length_permutation _ _ is.new_blocks i in
     let walks : over_walks unshared (walked image) (walked (overlaid pending 0 image)) ≡ unshared old new = λ i. over_walks unshared (was i) (will i) in

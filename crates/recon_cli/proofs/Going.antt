@@ -22,7 +22,8 @@ use Rattle.recon_cli.specs.declared.run_fault.RunFault.TheVariants.{Device, Trac
 use Rattle.recon_cli.specs.declared.lines.Style.{Style}
 use Rattle.recon_cli.specs.declared.counts.Counts.{Counts}
 use Rattle.recon_cli.specs.Outcome.{Outcome, after_text, answer_text, ended, is_settle, no_counts, outcome_from, past_end, counts_after}
-use Rattle.recon_cli.specs.Run.{ComesOut, EndsPast, HasFaultPrintCause, HasFaultCause, faults_are, GoesOn, IsNoRead, IsOfBytes, IsOutcomeStatus, Replays, record_limit}
+use Rattle.recon_cli.specs.Run.{ComesOut, HasFaultPrintCause, HasFaultCause, faults_are, IsNoRead, IsOfBytes, IsOutcomeStatus, Replays, record_limit}
+use Rattle.recon_cli.specs.Turns.{EndsPast, GoesOn}
 
 -- the events and the ending of what is left at the reader
 abbrev pub FromHere : ReaderState → List ℕ → List Event → Ending → Type 0

@@ -7,9 +7,9 @@ use Rattle.verdict.specs.declared.machine.Answer.{Answer}
 use Rattle.verdict.specs.declared.machine.Answer.TheVariants.{Held, Fetched, Passed, Rejected}
 use Rattle.shared_trees.specs.LivePairs.{Walked, live_in, walked}
 use Rattle.recon_core.specs.declared.checker.Checker.{Checker}
-use Rattle.recon_core.specs.Machine.{MachineState, machine_step}
+use Rattle.recon_core.specs.Machine.{MachineState, first_state, machine_step}
 use Rattle.recon_core.specs.Reads.{HasBegun, HasReadTrees, HasReads, reads_of}
-use Rattle.recon_core.specs.Standing.{StandsFor, first_state}
+use Rattle.recon_core.specs.Standing.{StandsFor}
 use Rattle.trace_reader.specs.declared.reader.Item.TheVariants.{Event as an_event, End as the_end}
 use Rattle.trace_reader.specs.Reader.{ReaderState}
 use Rattle.trace_reader.specs.Reading.{first_state as reader_start, after_event, TakesEnd, Tells}
@@ -18,7 +18,8 @@ use Rattle.trace_reader.proofs.Records.{one}
 use Rattle.recon_cli.specs.declared.counts.Counts.{Counts}
 use Rattle.recon_cli.specs.Outcome.{counts_after, no_counts}
 use Rattle.recon_cli.specs.Run.{record_limit}
-use Rattle.recon_cli.specs.Reads.{MayStep, ReadsAtMost, ReadsEvents, reads_from}
+use Rattle.recon_cli.specs.Turns.{MayStep}
+use Rattle.recon_cli.specs.Reads.{ReadsAtMost, ReadsEvents, reads_from}
 use Rattle.recon_cli.specs.Stopped.{state_after}
 use Rattle.recon_cli.proofs.Going.{told_at}
 use Rattle.recon_cli.proofs.Reaching.{Took, took_all, took_event, took_start}

@@ -21,7 +21,8 @@ use Rattle.recon_cli.specs.declared.counts.Counts.{Counts}
 use Rattle.recon_cli.specs.declared.run_fault.RunFault.{RunFault}
 use Rattle.recon_cli.specs.declared.run_fault.RunFault.TheVariants.{Device, Trace, Lines, Memory}
 use Rattle.recon_cli.specs.Outcome.{answer_text, counts_after, ended, is_settle, no_counts, past_end}
-use Rattle.recon_cli.specs.Run.{GoesOn, StepsOn, record_limit}
+use Rattle.recon_cli.specs.Run.{record_limit}
+use Rattle.recon_cli.specs.Turns.{GoesOn, StepsOn}
 use Rattle.recon_cli.specs.Stopped.{HasFront, HasTaken, HoldsAfter, StopsBetween, StopsFrom, judged_in, lines_of, state_after}
 use Rattle.recon_cli.specs.Stopping.{FaultStops, IsCutPrint, TurnStops}
 use Rattle.recon_cli.proofs.Going.{told_at}

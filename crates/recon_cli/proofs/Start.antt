@@ -4,7 +4,8 @@ use Rattle.verdict.specs.declared.finding.Finding.{Finding}
 use Rattle.records.specs.FullCheck.{full_check}
 use Rattle.verdict.specs.declared.finding.Verdict.TheVariants.{Accept, Found}
 use Rattle.recon_core.specs.declared.checker.Checker.{Checker}
-use Rattle.recon_core.specs.Standing.{BeginsWith, StandsFor, first_state}
+use Rattle.recon_core.specs.Machine.{first_state}
+use Rattle.recon_core.specs.Standing.{BeginsWith, StandsFor}
 use Rattle.trace_reader.specs.Trace.{IsBytes}
 use Rattle.trace_reader.proofs.Records.{one}
 use Rattle.report.specs.declared.line.Line.TheVariants.{Image, Refused}

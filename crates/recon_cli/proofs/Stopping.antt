@@ -8,7 +8,7 @@ use Rattle.verdict.specs.declared.finding.Verdict.{Verdict}
 use Rattle.verdict.specs.declared.finding.Verdict.TheVariants.{Accept}
 use Rattle.records.specs.FullCheck.{full_check}
 use Rattle.recon_disk.specs.Outside.{MayBeAppended}
-use Rattle.recon_core.specs.Standing.{first_state}
+use Rattle.recon_core.specs.Machine.{first_state}
 use Rattle.report.specs.declared.line.Line.TheVariants.{Image}
 use Rattle.recon_cli.specs.declared.lines.Style.{Style}
 use Rattle.recon_cli.specs.declared.run_fault.RunFault.{RunFault}

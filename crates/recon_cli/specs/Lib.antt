@@ -6,3 +6,4 @@ pub mod Stopped
 pub mod Stopping
 pub mod Making
 pub mod Status
+pub mod Turns

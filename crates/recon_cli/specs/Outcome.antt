@@ -11,8 +11,7 @@ use Rattle.records.specs.FullCheck.{full_check}
 use Rattle.verdict.specs.declared.finding.Verdict.{Verdict}
 use Rattle.verdict.specs.declared.finding.Verdict.TheVariants.{Accept, Found}
 use Rattle.verdict.specs.Events.{end_of, begin_of, length_of}
-use Rattle.recon_core.specs.Machine.{MachineState, machine_step}
-use Rattle.recon_core.specs.Standing.{first_state}
+use Rattle.recon_core.specs.Machine.{MachineState, first_state, machine_step}
 use Rattle.trace_reader.specs.Fault.{fault_number}
 use Rattle.trace_reader.specs.Trace.{spelling_of, Ending, End, Fault}
 use Rattle.report.specs.Lines.{text_line}

@@ -1,14 +1,11 @@
 -- How often a replay reads the disk.
-use Rattle.std.specs.Prelude.{ℕ, ◌≡◌, ◌+◌, ◌*◌, ◌≤◌, List, [], ◌∷◌, length, Option, Some, None, Ok}
+use Rattle.std.specs.Prelude.{ℕ, ◌≡◌, ◌+◌, ◌*◌, ◌≤◌, List, [], ◌∷◌, length, Ok}
 use Rattle.verdict.specs.declared.machine.Event.{Event}
 use Rattle.shared_trees.specs.LivePairs.{Walked, live_in, walked}
-use Rattle.recon_core.specs.declared.checker.Checker.{Checker}
-use Rattle.recon_core.specs.Machine.{MachineState, machine_step}
-use Rattle.recon_core.specs.Reads.{HasReads, reads_of}
-use Rattle.recon_core.specs.Standing.{first_state}
+use Rattle.recon_core.specs.Machine.{MachineState, first_state, machine_step}
+use Rattle.recon_core.specs.Reads.{reads_of}
 use Rattle.trace_reader.specs.Trace.{Ending, IsTrace}
-use Rattle.recon_cli.specs.declared.counts.Counts.{Counts}
-use Rattle.recon_cli.specs.Run.{StepsOn, record_limit}
+use Rattle.recon_cli.specs.Run.{record_limit}
 
 -- the most reads of these events, one after the other, by their answers
 abbrev pub reads_from : MachineState → List Event → ℕ
@@ -26,9 +23,3 @@ ReadsAtMost image bytes before after =
     (events : List Event) (ending : Ending) → IsTrace record_limit bytes events ending
     → (trees : Walked) → walked image ≡ Ok trees
     → after ≤ before + 1 + 2 * length (live_in trees.seen) + reads_from (first_state image) events
-
--- what one event did that goes on, and the reads before and after it
-abbrev pub MayStep : {L : Type 0} → MachineState → Counts → Event → Option ℕ → Checker L → Counts → Option (List ℕ) → ℕ → ℕ → Type 0
-MayStep s t event None checker new disk before after =
-    StepsOn s t event checker new disk × HasReads (machine_step s event).answer before after
-MayStep s t event (Some status) checker new disk before after = Unit {0}

@@ -1,18 +1,14 @@
 -- What a run of the program says of the objects that it is handed.
-use Rattle.std.specs.Prelude.{ℕ, ◌≡◌, ◌==◌, ◌-◌, ◌^◌, ◌<◌, ◌⊎◌, true, false, nat_lt, List, [], ◌++◌, length, drop, map, Option, Some, None, IfSome, option_map, Result, Ok, Err}
+use Rattle.std.specs.Prelude.{ℕ, ◌≡◌, ◌==◌, ◌-◌, ◌^◌, ◌<◌, ◌⊎◌, true, List, [], ◌++◌, drop, map, Option, Some, IfSome, option_map, Result, Ok, Err}
 use Rattle.recon_disk.specs.declared.disk.Disk.{Ghosts as DiskGhosts}
 use Rattle.recon_disk.specs.declared.source.Source.{Ghosts as SourceGhosts}
 use Rattle.recon_disk.specs.declared.sink.Sink.{Ghosts as SinkGhosts}
 use Rattle.recon_disk.specs.Keeping.{IsCounted}
 use Rattle.records.specs.FullCheck.{full_check}
 use Rattle.verdict.specs.declared.machine.Event.{Event}
-use Rattle.recon_core.specs.declared.checker.Checker.{Checker}
-use Rattle.verdict.specs.Events.{end_of, begin_of}
-use Rattle.recon_core.specs.Machine.{MachineState, machine_step}
-use Rattle.recon_core.specs.Standing.{StandsFor}
+use Rattle.recon_core.specs.Machine.{MachineState}
 use Rattle.recon_cli.specs.declared.lines.Style.{Style}
-use Rattle.recon_cli.specs.declared.counts.Counts.{Counts}
-use Rattle.recon_cli.specs.Outcome.{Outcome, after_text, answer_text, no_counts, line_in, outcome_from, is_settle, past_end, replay_outcome, counts_after, verdict_status, verdict_text}
+use Rattle.recon_cli.specs.Outcome.{Outcome, after_text, no_counts, line_in, outcome_from, replay_outcome, verdict_status, verdict_text}
 use Rattle.report.specs.declared.line.Line.{Line}
 use Rattle.trace_reader.specs.Trace.{Ending, IsTrace}
 use Rattle.trace_reader.specs.declared.fault.TraceFault.{TraceFault}
@@ -100,36 +96,6 @@ pub record HasStatusCause (before now : Faults) (status : ℕ) : Type 0 where
   pub disk : IsCounted (status == 4) before.disk now.disk
   pub source : IsCounted (status == 5) before.source now.source
   pub sink : IsCounted (status == 6) before.sink now.sink
-
--- an event that goes on as the machine's step says
-pub record StepsOn {L : Type 0} (s : MachineState) (t : Counts) (event : Event)
-    (checker : Checker L) (new : Counts) (disk : Option (List ℕ)) : Type 0 where
-  pub inside : nat_lt (length s.image) (end_of event) ≡ false
-  pub stands : StandsFor checker (machine_step s event).after
-  pub image : disk ≡ Some (machine_step s event).after.image
-  pub counts : new ≡ counts_after t (machine_step s event).answer
-
--- What one event did: it goes on as the machine's step says, with the line of the answer printed, or the
--- event passes the end of the device, which is printed, and the run ends with status 3.
-pub record GoesOn {L : Type 0} (style : Style) (s : MachineState) (t : Counts) (event : Event) (kept : List ℕ)
-    (checker : Checker L) (new : Counts) (disk sink : Option (List ℕ)) : Type 0 where
-  pub step : StepsOn s t event checker new disk
-  pub printed : sink ≡ Some
-      (kept ++ answer_text style t (begin_of event) (is_settle event) (machine_step s event).answer)
-
-pub record EndsPast (style : Style) (s : MachineState) (place : ℕ) (event : Event) (kept : List ℕ)
-    (status : ℕ) (disk sink : Option (List ℕ)) : Type 0 where
-  pub outside : nat_lt (length s.image) (end_of event) ≡ true
-  pub status_is : status ≡ 3
-  pub image : disk ≡ Some s.image
-  pub printed : sink ≡ Some (kept ++ (past_end style s place event).text)
-
-abbrev pub Turns : {L : Type 0} → Style → MachineState → ℕ → Counts → Event → List ℕ
-    → Option ℕ → Checker L → Counts → Option (List ℕ) → Option (List ℕ) → Type 0
-Turns style s place t event kept None checker new disk sink =
-    GoesOn style s t event kept checker new disk sink
-Turns style s place t event kept (Some status) checker new disk sink =
-    EndsPast style s place event kept status disk sink
 
 -- a status that an outcome may have
 abbrev pub IsOutcomeStatus : ℕ → Type 0

@@ -7,8 +7,7 @@ use Rattle.verdict.specs.declared.finding.Verdict.{Verdict}
 use Rattle.verdict.specs.declared.finding.Verdict.TheVariants.{Accept, Found}
 use Rattle.verdict.specs.Events.{end_of, begin_of}
 use Rattle.records.specs.FullCheck.{full_check}
-use Rattle.recon_core.specs.Machine.{MachineState, machine_step}
-use Rattle.recon_core.specs.Standing.{first_state}
+use Rattle.recon_core.specs.Machine.{MachineState, first_state, machine_step}
 use Rattle.recon_core.specs.Stops.{IsStopImage}
 use Rattle.trace_reader.specs.Trace.{Ending, IsTrace}
 use Rattle.report.specs.declared.line.Line.TheVariants.{Image, Refused}

@@ -2,8 +2,8 @@
 
 ghost use Rattle.std.specs.Prelude.{ℕ, ◌≡◌, ◌==◌, if◌then◌else◌, ◌+◌, ◌<◌, ◌≤◌, ◌++◌, false, List, Some, Ok, IfOk, IfErr, OnOk, IfSome, option_map};
 ghost use Rattle.std.specs.FinMap as map;
-ghost use Rattle.recon_core.specs.Machine.{MachineState};
-ghost use Rattle.recon_core.specs.Standing.{IsBelow, StandsFor, first_state};
+ghost use Rattle.recon_core.specs.Machine.{MachineState, first_state};
+ghost use Rattle.recon_core.specs.Standing.{IsBelow, StandsFor};
 ghost use Rattle.trace_reader.specs.Trace.{IsBytes};
 ghost use Rattle.trace_reader.specs.Fault.{fault_number};
 ghost use Rattle.verdict.specs.declared.finding.Verdict.TheVariants.{Accept};

@@ -5,8 +5,8 @@ ghost use Rattle.verdict.specs.Events.{IsSized, begin_of};
 ghost use Rattle.recon_core.specs.Machine.{MachineState};
 ghost use Rattle.recon_core.specs.Standing.{IsBelow, StandsFor};
 ghost use Rattle.recon_cli.specs.Outcome.{answer_text, is_settle, counts_after};
-ghost use Rattle.recon_cli.specs.Run.{HasPrintCause, HasTurnCause, TookLines, Turns};
-ghost use Rattle.recon_cli.specs.Reads.{MayStep};
+ghost use Rattle.recon_cli.specs.Run.{HasPrintCause, HasTurnCause, TookLines};
+ghost use Rattle.recon_cli.specs.Turns.{MayStep, Turns};
 ghost use Rattle.recon_cli.specs.Stopping.{IsCutPrint, TurnStops};
 
 use crate::counts::Counts;

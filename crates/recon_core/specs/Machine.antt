@@ -1,6 +1,6 @@
 -- The checking machine: a state, and for each event that lies inside the image one answer and one next
 -- state.
-use Rattle.std.specs.Prelude.{ℕ, Bool, List, [], ◌∷◌, ◌++◌, length, if◌then◌else◌}
+use Rattle.std.specs.Prelude.{ℕ, Bool, false, List, [], ◌∷◌, ◌++◌, length, if◌then◌else◌}
 use Rattle.verdict.specs.Image.{range, applied}
 use Rattle.verdict.specs.Events.{meets_superblock}
 use Rattle.verdict.specs.declared.machine.HeldWrite.{HeldWrite}
@@ -20,6 +20,10 @@ pub record MachineState : Type 0 where
   pub image : List ℕ
   pub pending : List HeldWrite
   pub closed : Bool
+
+-- the state of the machine over an image, before the first event
+abbrev pub first_state : List ℕ → MachineState
+first_state image = record { image = image; pending = []; closed = false }
 
 -- an answer, and the state after it
 pub record Step : Type 0 where

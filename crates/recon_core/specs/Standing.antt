@@ -19,7 +19,7 @@ use Rattle.commit_judge.specs.Index.{IndexStands}
 use Rattle.recon_core.specs.declared.checker.Checker.{Checker}
 use Rattle.recon_core.specs.declared.checker.Started.{Started}
 use Rattle.recon_core.specs.declared.checker.Started.TheVariants.{Ready, Refused}
-use Rattle.recon_core.specs.Machine.{MachineState, Step}
+use Rattle.recon_core.specs.Machine.{MachineState, Step, first_state}
 
 -- the full check accepts the image
 abbrev pub IsAccepted : List ℕ → Type 0
@@ -49,10 +49,6 @@ pub record StandsFor {L : Type 0} (checker : Checker L) (state : MachineState) :
 -- each offset of a cache lies below this one
 abbrev pub IsBelow : ℕ → FinMap nat_cmp ℕ → Type 0
 IsBelow end cache = (i : ℕ) → IsSome (get cache i) → i < end
-
--- the state of the machine over an image, before the first event
-abbrev pub first_state : List ℕ → MachineState
-first_state image = record { image = image; pending = []; closed = false }
 
 -- how a checker begins over a disk with this image
 abbrev pub BeginsOver : {L : Type 0} → List ℕ → Started L → Type 0

@@ -1,7 +1,8 @@
 use Rattle.std.proofs.Common.{◌++◌, sym, subst}
 use Rattle.recon_cli.specs.Outcome.{line_in}
 use Rattle.report.specs.declared.line.Line.TheVariants.{Image}
-use Rattle.recon_core.specs.Standing.{IsBelow, first_state}
+use Rattle.recon_core.specs.Machine.{first_state}
+use Rattle.recon_core.specs.Standing.{IsBelow}
 use Rattle.recon_core.proofs.Steps.{below_none}
 use Rattle.recon_cli.proofs.Going.{each_ok}
 use Rattle.recon_cli.proofs.Handing.{more_lines}

@@ -1,8 +1,8 @@
 use Rattle.std.proofs.Common.{◌≡◌, ◌+◌, ◌++◌, Some, None, IfSome, refl, sym, arith, ap, ◌∙◌, subst}
 use Rattle.recon_core.specs.Standing.{IsBelow}
-use Rattle.recon_cli.specs.Run.{TookLines, Turns, record_limit}
+use Rattle.recon_cli.specs.Run.{TookLines, record_limit}
 use Rattle.recon_cli.specs.Outcome.{no_counts}
-use Rattle.recon_cli.specs.Reads.{MayStep}
+use Rattle.recon_cli.specs.Turns.{MayStep, Turns}
 use Rattle.recon_cli.specs.Stopped.{StopsFrom, lines_of, state_after}
 use Rattle.recon_cli.specs.Stopping.{TurnStops}
 use Rattle.recon_cli.proofs.Stopping.{handed}

@@ -1,0 +1,47 @@
+-- What one event does. It serves to state what private functions keep.
+use Rattle.std.specs.Prelude.{ℕ, ◌≡◌, true, false, nat_lt, List, ◌++◌, length, Option, Some, None}
+use Rattle.verdict.specs.declared.machine.Event.{Event}
+use Rattle.verdict.specs.Events.{begin_of, end_of}
+use Rattle.recon_core.specs.declared.checker.Checker.{Checker}
+use Rattle.recon_core.specs.Machine.{MachineState, machine_step}
+use Rattle.recon_core.specs.Reads.{HasReads}
+use Rattle.recon_core.specs.Standing.{StandsFor}
+use Rattle.recon_cli.specs.Outcome.{answer_text, counts_after, is_settle, past_end}
+use Rattle.recon_cli.specs.declared.counts.Counts.{Counts}
+use Rattle.recon_cli.specs.declared.lines.Style.{Style}
+
+-- an event that goes on as the machine's step says
+pub record StepsOn {L : Type 0} (s : MachineState) (t : Counts) (event : Event)
+    (checker : Checker L) (new : Counts) (disk : Option (List ℕ)) : Type 0 where
+  pub inside : nat_lt (length s.image) (end_of event) ≡ false
+  pub stands : StandsFor checker (machine_step s event).after
+  pub image : disk ≡ Some (machine_step s event).after.image
+  pub counts : new ≡ counts_after t (machine_step s event).answer
+
+-- What one event did: it goes on as the machine's step says, with the line of the answer printed, or the
+-- event passes the end of the device, which is printed, and the run ends with status 3.
+pub record GoesOn {L : Type 0} (style : Style) (s : MachineState) (t : Counts) (event : Event) (kept : List ℕ)
+    (checker : Checker L) (new : Counts) (disk sink : Option (List ℕ)) : Type 0 where
+  pub step : StepsOn s t event checker new disk
+  pub printed : sink ≡ Some
+      (kept ++ answer_text style t (begin_of event) (is_settle event) (machine_step s event).answer)
+
+pub record EndsPast (style : Style) (s : MachineState) (place : ℕ) (event : Event) (kept : List ℕ)
+    (status : ℕ) (disk sink : Option (List ℕ)) : Type 0 where
+  pub outside : nat_lt (length s.image) (end_of event) ≡ true
+  pub status_is : status ≡ 3
+  pub image : disk ≡ Some s.image
+  pub printed : sink ≡ Some (kept ++ (past_end style s place event).text)
+
+abbrev pub Turns : {L : Type 0} → Style → MachineState → ℕ → Counts → Event → List ℕ
+    → Option ℕ → Checker L → Counts → Option (List ℕ) → Option (List ℕ) → Type 0
+Turns style s place t event kept None checker new disk sink =
+    GoesOn style s t event kept checker new disk sink
+Turns style s place t event kept (Some status) checker new disk sink =
+    EndsPast style s place event kept status disk sink
+
+-- what one event did that goes on, and the reads before and after it
+abbrev pub MayStep : {L : Type 0} → MachineState → Counts → Event → Option ℕ → Checker L → Counts → Option (List ℕ) → ℕ → ℕ → Type 0
+MayStep s t event None checker new disk before after =
+    StepsOn s t event checker new disk × HasReads (machine_step s event).answer before after
+MayStep s t event (Some status) checker new disk before after = Unit {0}
