@@ -50,7 +50,7 @@ def write(at, data):
 
 
 def leaves(path):
-    """Where the leaves of the file tree may lie, and the bytes of all blocks with the volume's id."""
+    """Where the leaves of the file tree may lie, and how many blocks have the volume's id."""
     found, blocks = [], 0
     with open(path, 'rb') as image:
         image.seek(65536 + 32)
@@ -66,14 +66,17 @@ def leaves(path):
             if data[32:48] == fsid and at != 65536 and at >> 16 != 1:
                 blocks += 1
                 if data[100] == 0 and struct.unpack_from('<Q', data, 88)[0] == 5:
-                    found.append((at, data))
+                    found.append(at)
             at += BLOCK
 
 
 def settles(path, leaf, count):
     trace = f'{scratch}/trace'
     with open(trace, 'wb') as out:
-        out.write(HEADER + (write(*leaf) + b'\x02') * count + b'\xff')
+        out.write(HEADER)
+        for _ in range(count):
+            out.write(write(*leaf) + b'\x02')
+        out.write(b'\xff')
     return run(['replay', path], trace)
 
 
@@ -82,7 +85,9 @@ for name in ('few', 'many'):
     path = f'{folder}/{name}.img'
     found, blocks = leaves(path)
     check, check_peak, _ = run(['check', path])
-    leaf = found[len(found) // 2]
+    with open(path, 'rb') as image:
+        image.seek(found[len(found) // 2])
+        leaf = found[len(found) // 2], image.read(BLOCK)
     start, peak, lines = settles(path, leaf, 0)
     many = 4000
     some, _, lines = settles(path, leaf, many)
