@@ -6,8 +6,8 @@ has the generation 2 and copies on write the file tree, the extent tree and the 
 the device; what is rejected leaves it as it was.
 """
 from rows import (
-    BASE, DATA_AT, Device, ENTRY, EXTENTS, GROUPS, GROUP_TREE, LEFT, NO_GROUP_TREE, OWN_GROUPS, RIGHT, ROOTS, changed, data_group, fail,
-    leaf, made, metadata_group, put, used)
+    BASE, DATA_AT, Device, ENTRY, EXTENTS, GROUPS, GROUP_TREE, HELLO, LEFT, NO_GROUP_TREE, OWN_GROUPS, RIGHT, ROOTS, SUPERBLOCK, changed,
+    data_group, drop, fail, leaf, made, metadata_group, put, used, write)
 
 PASSES = 'passed generation 2 '
 BELOW = 5373952
@@ -148,7 +148,32 @@ def commit(row, before, image, line):
     device.must_hold(row, (image if passes else before).bytes())
 
 
+def as_checked(row, before, image):
+    """A commit that makes an image of another is answered as a check of that image is."""
+    device.fill(image)
+    _, lines = device.run('check')
+    found = lines.split('\n')[0].removeprefix('image refused ')
+    commit(row, before, image, 'passed generation ' if found.startswith('image accepted') else f'rejected {found}')
+
+
+# What no item that changed says: kept items whose chunk is another or went, and words of the superblock by which all blocks are read.
+ONE_FILE = changed(BASE, [*HELLO, put(5, inode(257, 4096)), put(5, made.file_range(0, DATA_AT, 4096)), put(2, made.extent(DATA_AT, 4096)),
+                          data_group(4096), put(7, made.sums(DATA_AT, 1)), used(102400)])
+DATA_CHUNK = made.CHUNKS[-1]
+KEPT = [
+    ('the chunk of a kept extent is of another class',
+     ONE_FILE, changed(ONE_FILE, [put(3, made.chunk(*DATA_CHUNK[:2], 4, DATA_CHUNK[3])), data_group(4096, 4)])),
+    ('it is longer by a sector', ONE_FILE, changed(ONE_FILE, [put(3, made.chunk(DATA_AT, 8388608 + 65536, *DATA_CHUNK[2:]))])),
+    ('it went', ONE_FILE, changed(ONE_FILE, [drop(3, 256, made.CHUNK_ITEM, DATA_AT)])),
+    ('another size of a tree block', ONE_FILE, changed(ONE_FILE, [write(SUPERBLOCK + 0x94, (4096).to_bytes(4, 'little'))])),
+    ('a word of features that none has', ONE_FILE, changed(ONE_FILE, [write(SUPERBLOCK + 0xbc, made.number(1 << 40))])),
+    ('a sector of the file has no checksum any more', ONE_FILE, changed(ONE_FILE, [drop(7, *made.sums(DATA_AT, 1)[0])])),
+    ('the file is to have none', ONE_FILE, changed(ONE_FILE, [put(5, inode(257, 4096, flags=1))])),
+]
+
 rows = [(row, BASE, changed(NEXT, changes), line) for table in (NAMES, BYTES, SUBVOLUMES) for row, changes, line in table] + MOVES
 for row in rows:
     commit(*row)
-print(f'commits: {len(rows)} commits pass or are rejected as they are to be')
+for row in KEPT:
+    as_checked(*row)
+print(f'commits: {len(rows) + len(KEPT)} commits pass or are rejected as they are to be')
