@@ -1,12 +1,13 @@
 //! A tree block that breaks no rule, lent with its bytes.
 
-ghost use Rattle.std.specs.Prelude.{◌≡◌, ◌<◌, length, true, IfOk};
+ghost use Rattle.std.specs.Prelude.{◌≡◌, ◌<◌, length, drop, true, IfOk};
+ghost use Rattle.recon_crc.specs.Checksum.{crc32c_of};
 ghost use Rattle.verdict.specs.Trees.{is_node_size};
 ghost use Rattle.node_reader.specs.Layout.{count_of, level_of, owner_of, first_key_of, pointer_of, item_of};
 ghost use Rattle.node_reader.specs.Faults.{block_of};
 
 use crate::entries::{HEADER, ITEM, POINTER};
-use crate::rules::fault_of;
+use crate::rules::{fault_of, sum_of};
 use crate::{Expect, Pointer};
 use recon_bytes::{get_u32, get_u64};
 use std::marker::Model;
@@ -35,7 +36,6 @@ impl<'a> Model for Block<'a> {
 /// the expected tree, the address as block and the low key, in the order checksum (N3), file system (N4),
 /// address (N5), relocation (U12), owner (N6), generation (N7), level (N8), number of entries (N9), first
 /// key (N10), order of keys (N11), last key (N12), a pointer's generation (N13), an item's place (N14).
-#[tactic(auto, using(crate::proofs::Sound::block_steps))]
 pub fn read_block<'a>(
     bytes: &'a [u8],
     fsid: &[u8; 16],
@@ -45,7 +45,24 @@ pub fn read_block<'a>(
     ensures block { result ≡ block_of bytes.now fsid.now expect.now }
     ensures level { IfOk result (λ b. level_of b ≡ expect.now.level) }
 {
-    match fault_of(bytes, fsid, expect) {
+    read_block_summed(bytes, fsid, expect, sum_of(bytes))
+}
+
+/// The same of bytes whose checksum is known: `sum` is the CRC-32C of the bytes from 0x20 on, as it is computed of them and not as the
+/// header has it. So the blocks whose sums were taken side by side are not summed again.
+#[tactic(auto, using(crate::proofs::Sound::block_steps))]
+pub fn read_block_summed<'a>(
+    bytes: &'a [u8],
+    fsid: &[u8; 16],
+    expect: &Expect,
+    sum: u32,
+) -> Result<Block<'a>, Finding>
+    requires size { is_node_size (length bytes.now) ≡ true }
+    requires sum { sum ≡ crc32c_of (drop 0x20 bytes.now) }
+    ensures block { result ≡ block_of bytes.now fsid.now expect.now }
+    ensures level { IfOk result (λ b. level_of b ≡ expect.now.level) }
+{
+    match fault_of(bytes, fsid, expect, sum) {
         Some(finding) => Err(finding),
         None => {
             let count = get_u32(bytes, 0x60);

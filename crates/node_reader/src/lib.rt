@@ -8,6 +8,6 @@ mod expect;
 mod law;
 mod rules;
 
-pub use block::{Block, read_block};
+pub use block::{Block, read_block, read_block_summed};
 pub use expect::{Expect, Pointer};
 pub use law::high_decides;

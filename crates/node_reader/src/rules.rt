@@ -13,13 +13,14 @@ use recon_bytes::{get_u32, get_u64};
 use recon_crc::crc32c;
 use verdict::{Family, Finding, get_key};
 
-/// The finding of the first rule that a block breaks.
+/// The finding of the first rule that a block breaks, of which this is the checksum.
 #[tactic(auto, using(crate::proofs::Sound::fault_steps), unfolding(crate::specs::Faults::block_fault))]
-pub(crate) fn fault_of(bytes: &[u8], fsid: &[u8; 16], e: &Expect) -> Option<Finding>
-    requires { 101 ≤ length bytes.now }
+pub(crate) fn fault_of(bytes: &[u8], fsid: &[u8; 16], e: &Expect, sum: u32) -> Option<Finding>
+    requires header { 101 ≤ length bytes.now }
+    requires sum { sum ≡ crc32c_of (drop 0x20 bytes.now) }
     ensures { result ≡ block_fault bytes.now fsid.now e.now }
 {
-    if let Some(found) = header_fault(bytes, fsid, e) {
+    if let Some(found) = header_fault(bytes, fsid, e, sum) {
         return Some(found);
     }
     if let Some(found) = count_fault(bytes, e) {
@@ -31,13 +32,13 @@ pub(crate) fn fault_of(bytes: &[u8], fsid: &[u8; 16], e: &Expect) -> Option<Find
     body_fault(bytes, e)
 }
 
-/// The first finding of what the header says.
+/// The first finding of what the header says, of a block with this checksum.
 #[tactic(auto, unfolding(crate::specs::Faults::header_rules))]
-fn header_fault(bytes: &[u8], fsid: &[u8; 16], e: &Expect) -> Option<Finding>
-    requires { 101 ≤ length bytes.now }
+fn header_fault(bytes: &[u8], fsid: &[u8; 16], e: &Expect, sum: u32) -> Option<Finding>
+    requires header { 101 ≤ length bytes.now }
+    requires sum { sum ≡ crc32c_of (drop 0x20 bytes.now) }
     ensures { result ≡ first_failing (header_rules bytes.now fsid.now e.now) }
 {
-    let sum = sum_of(bytes);
     if sum != get_u32(bytes, 0) {
         return Some(e.finding(Family::N, 3, u64::from(sum)));
     }
@@ -125,7 +126,7 @@ fn body_fault(bytes: &[u8], e: &Expect) -> Option<Finding>
 }
 
 /// The checksum of the bytes behind the field that holds it.
-fn sum_of(bytes: &[u8]) -> u32
+pub(crate) fn sum_of(bytes: &[u8]) -> u32
     requires { 101 ≤ length bytes.now }
     ensures { result ≡ crc32c_of (drop 0x20 bytes.now) }
 {

@@ -11,7 +11,8 @@ use crate::{Disk, Failed};
 pub const WRITE_MAX: usize = 1_048_576;
 
 /// Writes any number of bytes from byte `at` of the disk on, in calls of 1,048,576 bytes from the front and a shorter
-/// last one. It stops at the first call that fails: the bytes outside the range stay.
+/// last one. It reads nothing. It stops at the first call that fails: the bytes outside
+/// the range stay.
 pub fn write_all_at<D: Disk>(disk: &mut D, at: u64, bytes: &[u8]) -> Result<(), Failed>
     requires inside { at + length bytes.now ≤ D.len disk.old }
     requires fits { at + length bytes.now < 2 ^ 64 }
@@ -22,6 +23,7 @@ pub fn write_all_at<D: Disk>(disk: &mut D, at: u64, bytes: &[u8]) -> Result<(), 
         and_sent (D.sent disk.old) (run_calls at bytes.now)) }
     ensures part { OnErr result
         (HasSentFront (run_calls at bytes.now) (D.sent disk.old) (D.sent disk.new)) }
+    ensures reads { D.reads disk.new ≡ D.reads disk.old }
 {
     let mut done = 0;
     while done < bytes.len() {

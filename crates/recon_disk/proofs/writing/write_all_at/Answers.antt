@@ -9,7 +9,7 @@ use Rattle.recon_disk.proofs.Sending.{part_sent, run_begins, run_more, run_ends}
 use Rattle.recon_disk.proofs.writing.write_all_at.Goals as goal
 
 pub loop-done-init : goal.loop-done-init
-loop-done-init g c = record { few = omega arith; size = refl; front = told_none (g.D.Disk.bytes c.args.disk.now) c.args.at c.args.bytes.now; order = run_begins (g.D.Disk.sent c.args.disk.now) c.args.at c.args.bytes.now; faults = refl }
+loop-done-init g c = record { few = omega arith; size = refl; front = told_none (g.D.Disk.bytes c.args.disk.now) c.args.at c.args.bytes.now; order = run_begins (g.D.Disk.sent c.args.disk.now) c.args.at c.args.bytes.now; faults = refl; reads = refl }
 
 pub overflow_add-at : goal.overflow_add-at
 overflow_add-at g c = omega (arith, c.loop-done.invariant.few, c.requires.fits)
@@ -23,6 +23,7 @@ loop-done-preserved g c =
       order = run_more (g.D.Disk.sent c.args.disk.now) (g.D.Disk.sent c.loop-done.disk) (g.D.Disk.sent c.write.new.self) c.args.at c.loop-done.done c.min-n.result c.args.bytes.now _ (omega arith) (omega arith)
           (ap (λ k. take k (drop c.loop-done.done c.args.bytes.now)) (omega arith)) c.loop-done.invariant.order c.in_ok-write.ensures.sent;
       faults = c.in_ok-write.ensures.cause.fine ∙ c.loop-done.invariant.faults;
+      reads = c.write.ensures.reads ∙ c.loop-done.invariant.reads;
     }
 
 pub returns-in_err-write-clause-device : goal.returns-in_err-write-clause-device

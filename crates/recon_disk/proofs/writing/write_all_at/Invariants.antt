@@ -14,6 +14,7 @@ invariant-loop-done g l =
       front : disk.bytes l.disk ≡ option_map (λ image. written image l.at (take l.done l.bytes)) (disk.bytes l.fn.disk);
       order : SentSoFar (disk.sent l.fn.disk) (disk.sent l.disk) (run_calls l.at l.bytes) (run_calls (l.at + l.done) (drop l.done l.bytes));
       faults : disk.faults l.disk ≡ disk.faults l.fn.disk;
+      reads : disk.reads l.disk ≡ disk.reads l.fn.disk;
     }
 
 abbrev pub decreases-loop-done : goal.decreases-loop-done
