@@ -1,5 +1,7 @@
 -- What a ledger says: the sums of all accounts, and for which of them an entry stands.
-use Rattle.std.specs.Prelude.{◌≡◌, ◌↔◌, ℕ, Bool, false, Option, Some, None, is_some}
+use Rattle.std.specs.Prelude.{◌≡◌, ◌↔◌, ℕ, ◌+◌, Bool, false, Option, Some, None, is_some}
+use Rattle.std.specs.BTreeMap.{btree_map_len}
+use Rattle.indexmap.specs.IndexMap.{index_map_len}
 use Rattle.accounts.specs.declared.account.Account.{Account}
 use Rattle.accounts.specs.Tally.{Sums}
 use Rattle.ledger_index.specs.declared.kept.Kept.{Kept}
@@ -34,3 +36,8 @@ has_entry ledger account = is_some (entry_of ledger account)
 -- An entry stands for exactly the accounts whose sums are not all zero.
 abbrev pub IsTidy : {L : Type 0} → LedgerIndex L → Type 0
 IsTidy ledger = (account : Account) → (has_entry ledger account ≡ false) ↔ ((field : ℕ) → sums_of ledger account field ≡ 0)
+
+-- how many entries stand
+unfoldable pub entries_of : {L : Type 0} → LedgerIndex L → ℕ
+entries_of ledger =
+    index_map_len ledger.short.entries + (index_map_len ledger.long.entries + btree_map_len ledger.whole.entries)

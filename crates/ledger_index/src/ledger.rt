@@ -1,6 +1,8 @@
 //! The ledger.
 
-ghost use Rattle.std.specs.Prelude.{◌≡◌, ℕ, OnOk, OnErr, nat_lt};
+ghost use Rattle.std.specs.Prelude.{◌≡◌, ℕ, ◌+◌, ◌≤◌, IfOk, OnOk, OnErr, nat_lt};
+ghost use Rattle.accounts.specs.Broken.{is_broken};
+ghost use Rattle.accounts.specs.Least.{IsLeastBroken};
 ghost use Rattle.accounts.specs.Sums.{sum_in};
 ghost use Rattle.accounts.specs.Tally.{no_sums};
 ghost use Rattle.recon_disk.specs.Outside.{counted};
@@ -30,7 +32,7 @@ pub struct LedgerIndex<L> {
 }
 
 impl<L> LedgerIndex<L> {
-    ghost use Rattle.ledger_index.specs.Ledger.{IsTidy, sums_of};
+    ghost use Rattle.ledger_index.specs.Ledger.{IsTidy, entries_of, sums_of};
 
     /// The empty ledger. It takes its memory from this allocator, and none yet.
     #[tactic(auto, using(crate::proofs::LedgerLaws::is_tidy))]
@@ -117,6 +119,16 @@ impl<L> LedgerIndex<L> {
             Some(place) => self.long.take(&place, field, amount),
             None => self.whole.take(account, field, amount),
         }
+    }
+
+    /// The least account that its totals break, `None` exactly where no account is broken. It goes through all entries, each of which
+    /// is a look. The account takes its memory from the ledger's allocator.
+    pub fn least_broken(&self, steps: &mut Steps<L>) -> Result<Option<Account>, NoMemory>
+        ensures least { IfOk result (IsLeastBroken
+            (λ account. is_broken account (sums_of self.now account))) }
+        ensures looks { steps.new ≤ steps.old + entries_of self.now }
+    {
+        Err(NoMemory)
     }
 }
 
