@@ -1,9 +1,8 @@
 -- What was found is what the accounts of all records say.
-use Rattle.std.proofs.Common.{◌≡◌, ℕ, ◌<◌, Bool, true, false, cond, List, [], ◌++◌, refl, ap, sym, ◌∙◌, subst, arith, ◌+◌, append_assoc, append-nil}
-use Rattle.std.specs.Prelude.{Option, Some, None, nat_lt, option_map}
+use Rattle.std.proofs.Common.{◌≡◌, ℕ, List, [], ◌++◌, ap, sym, ◌∙◌, subst, arith, ◌+◌, append_assoc, append-nil}
+use Rattle.std.specs.Prelude.{Option, option_map}
 use Rattle.std.specs.List.{fold}
 use Rattle.verdict.specs.declared.place.Chunk.{Chunk}
-use Rattle.verdict.specs.declared.finding.Finding.{Finding}
 use Rattle.accounts.specs.declared.account.Account.{Account}
 use Rattle.accounts.specs.declared.postings.Posting.{Posting}
 use Rattle.accounts.specs.Broken.{broken_finding}
@@ -24,10 +23,10 @@ use Rattle.sector_runs.specs.Runs.{IsLeastBroken, SectorSums, no_sectors}
 use Rattle.records.specs.Part.{Located}
 use Rattle.records.specs.Context.{has_sum_free, sum_free_inode}
 use Rattle.records.specs.Postings.{account_fault, all_postings}
-use Rattle.account_sums.specs.Sums.{Frees, Summed, context_with, none_free, of_none, or_free, rest_of, with_record, with_sectors}
+use Rattle.account_sums.specs.Sums.{Summed, context_with, none_free, of_none, or_free, rest_of, with_record, with_sectors}
 use Rattle.account_sums.specs.Kept.{chosen, listed_of}
 use Rattle.account_sums.proofs.Joined.{joined}
-use Rattle.account_sums.proofs.Taken.{are_sums, first_free, folded, from_these, or_all, rest_all, with_all}
+use Rattle.account_sums.proofs.Taken.{are_sums, first_free, folded, from_these, rest_all, with_all}
 
 -- what all records make
 all_taken : (chunks : List Chunk) (nodesize : ℕ) (records : List Located)

@@ -14,8 +14,8 @@ use Rattle.verdict.specs.declared.finding.Finding.{Finding}
 use Rattle.block_source.specs.Gives.{Gives}
 use Rattle.block_source.specs.declared.halt.Halt.{Halt}
 use Rattle.block_source.specs.declared.halt.Halt.TheVariants.{Found as Halted, Disk, NoMemory}
-use Rattle.std.proofs.Common.{sym, length, ◌*◌, ◌<◌, ◌^◌, Err, ◌≡◌, ℕ, ◌+◌, ◌-◌, ◌≤◌, Bool, true, false, not, cond, List, Option, Some, None, refl, ap, ◌∙◌, arith}
-use Rattle.std.specs.Prelude.{nat_le, ◌&&◌, ◌==◌, slice_index}
+use Rattle.std.proofs.Common.{sym, length, ◌*◌, ◌<◌, ◌^◌, Err, ◌≡◌, ℕ, ◌+◌, ◌-◌, ◌≤◌, Bool, true, false, cond, List, Option, Some, None, refl, ap, ◌∙◌, arith}
+use Rattle.std.specs.Prelude.{nat_le, ◌&&◌}
 use Rattle.verdict.specs.Chunks.{place, place_in, home, place_of_copies}
 use Rattle.verdict.specs.declared.place.Chunk.{Chunk}
 use Rattle.verdict.specs.declared.place.Place.{Place}

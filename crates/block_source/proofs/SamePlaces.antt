@@ -1,6 +1,6 @@
 -- The least place at which two lists of bytes differ is that which lanes find.
 use Rattle.std.proofs.Common.{◌≡◌, ℕ, zero, suc, Bool, List, length, refl, ap, ◌∙◌, if◌then◌else◌}
-use Rattle.std.specs.Prelude.{Option, Some, None}
+use Rattle.std.specs.Prelude.{Some}
 use Rattle.node_reader.specs.Stored.{differs_at, least_difference}
 use Rattle.node_reader.specs.Places.{least_from}
 use Rattle.recon_lanes.specs.Difference.{differs_at as differs_in, least_difference as least_in_lanes, least_from as least_of}

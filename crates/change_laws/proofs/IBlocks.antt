@@ -1,10 +1,10 @@
 -- The item of a tree block of an accepted image has the level of the live block at its address.
-use Rattle.std.proofs.Common.{◌≡◌, ℕ, zero, suc, ◌+◌, ◌<◌, ◌==◌, ◌&&◌, ◌||◌, Bool, true, false, not, List, [], ◌∷◌, ◌++◌, ◌⊎◌, inl, inr, refl, ap, sym}
+use Rattle.std.proofs.Common.{◌≡◌, ℕ, zero, suc, ◌+◌, ◌<◌, ◌==◌, ◌&&◌, ◌||◌, Bool, true, false, not, List, [], ◌∷◌, ◌⊎◌, inl, inr, refl, ap, sym}
 use Rattle.std.proofs.Common.{subst, ◌∙◌, arith, if◌then◌else◌}
 use Rattle.std.proofs.lemmas.Bool.{and_parts, eq-eqb, eqb-true, leb-true, lt-ltb}
 use Rattle.std.proofs.lemmas.Bool.Decides.{nat_tests}
 use Rattle.std.proofs.lemmas.List.Elements.{All-contains, All-from_recursion}
-use Rattle.std.specs.Prelude.{Option, Some, None, Result, Ok, ◌≤◌, is_some, nat_le, nat_lt, option_map}
+use Rattle.std.specs.Prelude.{Option, Some, None, Ok, ◌≤◌, is_some, nat_le, nat_lt, option_map}
 use Rattle.std.specs.List.{AllByRecursion, Contains, filter_map}
 use Rattle.verdict.specs.Rules.{and_then, finding_or}
 use Rattle.verdict.specs.declared.finding.Finding.{Finding}
@@ -46,7 +46,6 @@ use Rattle.change_records.specs.Refs.{ref_to}
 use Rattle.change_records.specs.declared.item_ref.ItemRef.{ItemRef}
 use Rattle.change_laws.specs.Blocks.{BlocksLaw, HasOwnName}
 use Rattle.change_laws.specs.Items.{FitsPlace, items_of}
-use Rattle.change_laws.specs.Same.{records_of}
 use Rattle.change_laws.proofs.Elements.{Among}
 use Rattle.change_laws.proofs.IBPostings.{IsForm, Refers, Says, Touches, all_say, reference_is}
 use Rattle.change_laws.proofs.IBSums.{Adds, all_among, among_left, at_least, counted, given, posted, two_counted}

@@ -27,10 +27,10 @@ use Rattle.shared_trees.specs.LivePairs.{Walked, walked}
 use Rattle.shared_trees.specs.MergedLaw.{items}
 use Rattle.shared_trees.proofs.Merged.{read_of}
 use Rattle.shared_trees.proofs.Picking.{each_map}
-use Rattle.shared_trees.proofs.Trails.{Visit, all_own}
+use Rattle.shared_trees.proofs.Trails.{Visit}
 use Rattle.shared_trees.proofs.Treed.{steps_of}
 use Rattle.change_records.specs.Spans.{IsLawfulIn}
-use Rattle.change_laws.specs.Items.{FitsPlace, ItemsLaw, ItemsStand, items_of}
+use Rattle.change_laws.specs.Items.{FitsPlace, ItemsLaw}
 use Rattle.change_laws.proofs.Found.{Owns, found_of, items_all, items_at, stored_of}
 use Rattle.change_laws.proofs.IApart.{stand_apart}
 use Rattle.change_laws.proofs.IRows.{Kept, item_kept, place_at}

@@ -1,9 +1,8 @@
 -- What is judged of an item by itself: its row, and the tree that it stands in.
-use Rattle.std.proofs.Common.{◌≡◌, ℕ, zero, suc, ◌+◌, ◌*◌, ◌/◌, ◌%◌, ◌<◌, ◌^◌, Bool, true, false, not, ◌&&◌, ◌||◌, ◌==◌, cond, List, ◌++◌}
+use Rattle.std.proofs.Common.{◌≡◌, ℕ, zero, suc, ◌+◌, ◌%◌, ◌<◌, ◌^◌, Bool, true, false, not, ◌&&◌, ◌||◌, ◌==◌, cond, List, ◌++◌}
 use Rattle.std.proofs.Common.{drop, inl, inr, refl, ap, sym, subst, ◌∙◌, arith, if◌then◌else◌}
 use Rattle.std.proofs.lemmas.Bool.{and_parts, eqb-true, ltb-false, or_parts}
 use Rattle.std.proofs.lemmas.Bool.Decides.{nat_tests}
-use Rattle.std.proofs.lemmas.Grind.{common_steps}
 use Rattle.std.specs.Prelude.{Result, Ok, Err, None, ◌≤◌, ◌⊎◌, nat_lt}
 use Rattle.verdict.specs.Items.{is_multiple, passes_64}
 use Rattle.verdict.specs.Rules.{TableRow, finding_or, first_failing}
@@ -47,7 +46,7 @@ use Rattle.records.specs.Part.{IsLawful, Located, Part}
 use Rattle.records.specs.Part.Part.{BlockPart, ChunkPart, DevExtentPart, DevicePart, EntriesPart, ExtentPart, FileExtentPart, GroupPart, InodePart, KeyedPart}
 use Rattle.records.specs.Part.Part.{LinkPart, NamesPart, OrphanPart, RootPart, SumsPart, UnreadPart, XattrPart}
 use Rattle.records.proofs.Lawful.{extent_begins_sector, range_sectors, sums_sectors}
-use Rattle.change_records.specs.Spans.{IsLawfulIn, is_written}
+use Rattle.change_records.specs.Spans.{IsLawfulIn}
 use Rattle.change_laws.specs.Items.{FitsPlace}
 
 -- an item at its place

@@ -1,5 +1,5 @@
 -- What is known of an accepted image, moved by what a commit changes, decides the full check of the next image.
-use Rattle.std.proofs.Common.{◌≡◌, ℕ, ◌+◌, ◌-◌, ◌%◌, ◌==◌, Bool, true, false, List, [], ◌∷◌, ◌++◌, length, map, refl, ap, sym, ◌∙◌, subst}
+use Rattle.std.proofs.Common.{◌≡◌, ℕ, ◌+◌, ◌-◌, ◌%◌, ◌==◌, Bool, true, false, List, map, refl, ap, sym, ◌∙◌, subst}
 use Rattle.std.specs.Prelude.{Option, Some, None, Result, Ok, option_map}
 use Rattle.std.specs.Ordering.{nat_cmp}
 use Rattle.std.specs.FinMap.{FinMap}
@@ -17,7 +17,6 @@ use Rattle.accounts.specs.declared.account.Account.{Account}
 use Rattle.accounts.specs.declared.postings.Posting.{Posting}
 use Rattle.accounts.proofs.First.{least_is_least, unposted}
 use Rattle.change_records.specs.Affected.{context_with}
-use Rattle.live_index.specs.Pairs.{Pairs}
 use Rattle.records.specs.Contents.{Contents, contents, superblock_in}
 use Rattle.records.specs.Context.{context_of, has_sum_free}
 use Rattle.records.specs.FullCheck.{checked, full_check, verdict_of}
@@ -27,13 +26,9 @@ use Rattle.shared_trees.specs.LivePairs.{Walked, live_in, table_of, walked}
 use Rattle.shared_trees.proofs.Treed.{steps_of}
 use Rattle.span_index.specs.Sectors.{IsFirstBad, is_bad, is_inside, times_of_span}
 use Rattle.span_index.specs.declared.span.Run.{Run}
-use Rattle.span_index.specs.declared.span.Span.{Span}
-use Rattle.super_reader.specs.declared.Super.{Super}
 use Rattle.touched_accounts.proofs.LeastTouched.{touched}
 use Rattle.touched_accounts.proofs.Moved.{moves}
 use Rattle.tree_change.specs.Merging.{root_at}
-use Rattle.volume_items.specs.declared.root.RootItem.{RootItem}
-use Rattle.volume_items.specs.declared.root_at.RootAt.{RootAt}
 use Rattle.write_cache.specs.Cache.{overlaid}
 use Rattle.change_laws.specs.Commit.{Commit, CommitLaw, Decides, IsCommit, IsJudged, IsKnown, IsMoved, Known, came_by, context_by, gone_by}
 use Rattle.change_laws.specs.Judged.{IsLeastBad, first_of}

@@ -1,5 +1,5 @@
 -- The records of an image and its items: what holds of all items holds of all records, and the spans of those that are found are named.
-use Rattle.std.proofs.Common.{◌≡◌, ℕ, ◌*◌, ◌/◌, ◌%◌, ◌<◌, Bool, true, false, cond, ◌==◌, List, [], ◌∷◌, ◌++◌, map, refl, ap, sym, ◌∙◌, subst, inl, inr, arith}
+use Rattle.std.proofs.Common.{◌≡◌, ℕ, ◌*◌, ◌/◌, ◌%◌, ◌<◌, Bool, true, false, cond, List, [], ◌∷◌, ◌++◌, map, refl, ap, sym, ◌∙◌, subst, inl, inr, arith}
 use Rattle.std.specs.Prelude.{◌⊎◌, Option, Some, None}
 use Rattle.std.specs.List.{All, AllByRecursion, Contains, cons_option, count_by, filter_map}
 use Rattle.std.specs.List.Sorted.{IsPermutation}
@@ -30,7 +30,7 @@ use Rattle.records.specs.declared.rec.BlockAt.{BlockAt}
 use Rattle.shared_trees.specs.LivePairs.{Walked}
 use Rattle.shared_trees.specs.Unshared.{item_seen}
 use Rattle.span_index.specs.Order.{is_same}
-use Rattle.span_index.specs.Sectors.{has_sector, is_inside, times_of_span}
+use Rattle.span_index.specs.Sectors.{is_inside, times_of_span}
 use Rattle.span_index.specs.Spans.{Table}
 use Rattle.span_index.specs.declared.span.Run.{Run}
 use Rattle.span_index.specs.declared.span.Span.{Span}

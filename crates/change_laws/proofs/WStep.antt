@@ -14,7 +14,6 @@ use Rattle.change_records.specs.SumFree.{flags_after}
 use Rattle.change_records.specs.declared.changes.ItemChange.{ItemChange}
 use Rattle.change_records.specs.declared.item_ref.ItemRef.{ItemRef}
 use Rattle.change_records.proofs.Merge.{contains_none}
-use Rattle.live_index.specs.Pairs.{Pairs}
 use Rattle.records.specs.Context.{has_sum_free}
 use Rattle.records.specs.FullCheck.{full_check}
 use Rattle.records.specs.Part.{Located}
@@ -30,12 +29,12 @@ use Rattle.tree_change.specs.declared.change.Change.{Change}
 use Rattle.volume_items.specs.declared.root.RootItem.{RootItem}
 use Rattle.write_cache.specs.Cache.{overlaid}
 use Rattle.change_laws.specs.Blocks.{BlocksLaw, HasOwnName}
-use Rattle.change_laws.specs.Commit.{AreTheAffected, Commit, Known, came_by, context_by, gone_by}
+use Rattle.change_laws.specs.Commit.{AreTheAffected, Commit, Known, came_by, gone_by}
 use Rattle.change_laws.specs.Flags.{FlagsLaw, RootsLaw}
 use Rattle.change_laws.specs.Items.{ItemsLaw, ItemsStand, items_of}
 use Rattle.change_laws.specs.Judged.{JudgedLaw}
-use Rattle.change_laws.specs.Kept.{AreFound, FoundLaw, kept_items}
-use Rattle.change_laws.specs.Paired.{AllChangesLaw, SayChanges, all_changes, came_items, gone_items, name_of}
+use Rattle.change_laws.specs.Kept.{FoundLaw}
+use Rattle.change_laws.specs.Paired.{AllChangesLaw, SayChanges, all_changes, came_items, gone_items}
 use Rattle.change_laws.specs.Same.{HeldLaw, records_of}
 use Rattle.change_laws.specs.Sectors.{RunsLaw, SectorsLaw}
 use Rattle.change_laws.specs.Steps.{IsStep, PostsLaw, SpansLaw, StepLaw, WholeStepLaw, all_posts, change_records, spans_of}

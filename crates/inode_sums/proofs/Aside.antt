@@ -1,9 +1,9 @@
 -- What is kept aside of the sums, and what is kept together.
-use Rattle.std.proofs.Common.{◌≡◌, ℕ, ◌+◌, ◌==◌, Bool, true, false, cond, List, [], ◌∷◌, ◌++◌, refl, ap, sym, ◌∙◌, subst, arith}
+use Rattle.std.proofs.Common.{◌≡◌, ℕ, ◌+◌, Bool, true, false, cond, List, [], ◌∷◌, refl, ap, sym, ◌∙◌, arith}
 use Rattle.std.specs.Prelude.{Option, Some, None, Result, Ok, Err, OnOk, slice_index}
 use Rattle.std.proofs.Math.Path.{fun_ext}
 use Rattle.std.specs.Cmp.{IsTotalOrder, IsEquivalence, eq_by_cmp_equiv, then_total, on_total, nat_cmp_total}
-use Rattle.std.specs.Ordering.{nat_cmp, is_eq, ordering_then, eq_by_cmp}
+use Rattle.std.specs.Ordering.{nat_cmp, ordering_then, eq_by_cmp}
 use Rattle.std.specs.declared.cmp.Ordering.{Ordering}
 use Rattle.std.specs.declared.cmp.Ordering.TheVariants.{Less, Equal, Greater}
 use Rattle.std.specs.FinMap.{nat_cmp-IsAntisymmetric}
@@ -18,8 +18,8 @@ use Rattle.accounts.proofs.Same.{is_Equal, same_account}
 use Rattle.inode_sums.specs.declared.class.Gathered.{Gathered}
 use Rattle.inode_sums.specs.declared.class.InodeClass.{InodeClass}
 use Rattle.inode_sums.specs.declared.tally.Own.{Own}
-use Rattle.inode_sums.specs.Held.{aside, class_in, class_postings, gathered_postings, inode_cmp, inode_of, no_class, no_sums_of, sums_with, to, widened}
-use Rattle.inode_sums.specs.Joined.{IsJoined, Joins}
+use Rattle.inode_sums.specs.Held.{aside, class_in, class_postings, gathered_postings, inode_cmp, inode_of, no_sums_of, sums_with, to}
+use Rattle.inode_sums.specs.Joined.{Joins}
 use Rattle.inode_sums.proofs.Amounts.{joined_kept, none_at, none_gathered, raised_kept, typed_total}
 
 -- ---- what is kept of sums of sums

@@ -1,22 +1,22 @@
 -- Classes that are posted, or stay out since they keep their rules.
-use Rattle.std.proofs.Common.{◌≡◌, ℕ, ◌+◌, ◌<◌, min, ◌==◌, ◌&&◌, Bool, true, false, not, cond, List, [], ◌∷◌, refl, ap, sym, ◌∙◌, subst, arith}
+use Rattle.std.proofs.Common.{◌≡◌, ℕ, ◌+◌, min, ◌==◌, ◌&&◌, Bool, true, false, not, cond, List, [], ◌∷◌, refl, ap, sym, ◌∙◌, subst, arith}
 use Rattle.std.specs.Prelude.{Option, Some, None, nat_lt, slice_index}
 use Rattle.std.proofs.Math.Path.{fun_ext}
 use Rattle.std.specs.List.{AllByRecursion}
 use Rattle.std.specs.List.Sorted.{IsStrictlySortedBy}
 use Rattle.std.specs.Map.{keys_of, lookup}
-use Rattle.std.specs.BTreeMap.{get, is_at}
+use Rattle.std.specs.BTreeMap.{is_at}
 use Rattle.std.specs.Ordering.{is_eq}
 use Rattle.std.specs.declared.cmp.Ordering.{Ordering}
 use Rattle.std.specs.declared.cmp.Ordering.TheVariants.{Less, Equal, Greater}
 use Rattle.std.proofs.lemmas.Bool.{eq-eqb}
-use Rattle.std.proofs.lemmas.Map.Keys.{sorted_head, sorted_tail}
+use Rattle.std.proofs.lemmas.Map.Keys.{sorted_head}
 use Rattle.accounts.specs.declared.account.Account.{Account}
-use Rattle.accounts.specs.Broken.{gives, inode_keeps, is_broken, line_of, lines}
+use Rattle.accounts.specs.Broken.{gives, inode_keeps, is_broken}
 use Rattle.accounts.specs.Kinds.{inode, inode_type}
 use Rattle.accounts.specs.Sums.{is_same, total_of}
 use Rattle.accounts.specs.OrderLaws.{account_equiv}
-use Rattle.accounts.specs.Tally.{Sums, inode_class, kept, no_sums, type_class, with_postings}
+use Rattle.accounts.specs.Tally.{Sums, inode_class, kept, no_sums, with_postings}
 use Rattle.accounts.proofs.First.{broken_kept, unposted}
 use Rattle.accounts.proofs.Kept.{kept_more}
 use Rattle.accounts.proofs.Same.{same_account}

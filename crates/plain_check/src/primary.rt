@@ -33,7 +33,8 @@ pub fn read_superblock<D: Disk>(
     end: u64,
 ) -> Result<Superblock, Halt>
     requires end { end ≡ D.len disk.old }
-    ensures gives { Gives D.Disk disk.old cache.now (handing (λ block. block.sup) result) superblock_in }
+    ensures gives { Gives D.Disk disk.old cache.now
+        (handing (λ block. block.sup) result) superblock_in }
     ensures raw { IfOk result (λ block. IfSome (D.bytes disk.old)
         (λ image. block.raw ≡ range 65536 4096 (overlaid cache.now 0 image))) }
     ensures readable { IfOk result (λ block. IsReadable block.sup) }

@@ -1,5 +1,5 @@
 -- What a run of bytes makes of a disk that may not tell its bytes, call by call.
-use Rattle.std.proofs.Common.{◌≡◌, ℕ, suc, ◌+◌, ◌-◌, ◌/◌, ◌<◌, ◌≤◌, ◌⊎◌, inl, inr, min, List, [], ◌∷◌, ◌++◌, get_or, length, take, drop, Option, Some, None, IfSome, option_map, Result, Ok, Err, IsErr, OnOk, OnErr, refl, sym, ap, ◌∙◌, arith, subst, add-one, add-zero}
+use Rattle.std.proofs.Common.{◌≡◌, ℕ, suc, ◌+◌, ◌-◌, ◌/◌, ◌<◌, ◌≤◌, inl, inr, min, List, [], ◌∷◌, ◌++◌, get_or, length, take, drop, Option, Some, None, IfSome, option_map, Result, Ok, Err, IsErr, OnOk, OnErr, refl, sym, ap, ◌∙◌, arith, subst, add-one, add-zero}
 use Rattle.std.specs.Option.{IsSomeAnd}
 use Rattle.std.proofs.Math.Nat.{add-div_right, div-eq_of_lt}
 use Rattle.std.proofs.lemmas.Bool.{cases_lt}

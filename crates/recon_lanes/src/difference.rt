@@ -28,7 +28,8 @@ pub fn first_difference(a: &[u8], b: &[u8]) -> Option<usize>
 fn equal_front(a: &[u8], b: &[u8]) -> usize
     requires { length b.now ≡ length a.now }
     ensures within { result ≤ length a.now }
-    ensures equal { (place : ℕ) → place < result → slice_index a.now place ≡ slice_index b.now place }
+    ensures equal { (place : ℕ) → place < result →
+        slice_index a.now place ≡ slice_index b.now place }
 {
     let mut front = 0;
     while a.len() - front >= LANES && equal_step(&a[front..], &b[front..]) {
@@ -42,7 +43,8 @@ fn equal_front(a: &[u8], b: &[u8]) -> usize
 fn equal_step(a: &[u8], b: &[u8]) -> bool
     requires a { 64 ≤ length a.now }
     requires b { 64 ≤ length b.now }
-    ensures { result ≡ true → (place : ℕ) → place < 64 → slice_index a.now place ≡ slice_index b.now place }
+    ensures { result ≡ true → (place : ℕ) → place < 64 →
+        slice_index a.now place ≡ slice_index b.now place }
 {
     u8x64::from_slice(a)
         .simd_ne(u8x64::from_slice(b))

@@ -55,7 +55,8 @@ impl<'a> Eight<'a> {
     /// all stays as it was.
     pub fn push(&mut self, block: &'a [u8]) -> Result<(), Refused>
         requires { length block.now ≡ self.old.size }
-        ensures takes { OnOk result ((length self.old.blocks < 8) × (self.new ≡ with_block self.old block.now)) }
+        ensures takes { OnOk result ((length self.old.blocks < 8)
+            × (self.new ≡ with_block self.old block.now)) }
         ensures full { OnErr result ((length self.old.blocks ≡ 8) × (self.new ≡ self.old)) }
     {
         if self.count == 8 {

@@ -1,12 +1,11 @@
 -- Where the calls that mark and list by a table of live pairs keep their promises, the trees of an image are marked and listed.
-use Rattle.std.proofs.Common.{◌≡◌, ℕ, ◌+◌, ◌<◌, ◌≤◌, Bool, true, false, List, [], ◌∷◌, length, inl, inr, arith, if◌then◌else◌}
+use Rattle.std.proofs.Common.{◌≡◌, ℕ, ◌+◌, ◌≤◌, Bool, true, false, List, [], ◌∷◌, length, inl, inr, arith, if◌then◌else◌}
 use Rattle.std.specs.Prelude.{Option, Some, None, Ok, nat_le}
 use Rattle.std.specs.List.{AllByRecursion}
 use Rattle.std.specs.Ordering.{nat_cmp}
 use Rattle.std.specs.FinMap.{FinMap}
 use Rattle.verdict.specs.declared.place.Chunk.{Chunk}
 use Rattle.verdict.proofs.Tables.{joined_none}
-use Rattle.write_cache.specs.Cache.{overlaid}
 use Rattle.volume_items.specs.ChunkOrder.{all_by_start, by_start, put_by_start}
 use Rattle.volume_items.specs.MapRules.{array_rows, map_finding, rows_by_start}
 use Rattle.live_index.specs.Pairs.{AreNarrow, Pairs}
@@ -26,7 +25,7 @@ use Rattle.shared_trees.proofs.Forest.{stands_as, tables_stand}
 use Rattle.shared_trees.proofs.Listing.{lists}
 use Rattle.shared_trees.proofs.MarkedTrees.{marks_image, moves_image}
 use Rattle.shared_trees.proofs.Picking.{each_both, each_map}
-use Rattle.shared_trees.proofs.Treed.{map_kept, nodesize_some, steps_of, trees_walk}
+use Rattle.shared_trees.proofs.Treed.{map_kept, steps_of, trees_walk}
 
 flip : (c d : Chunk) → LieApart c d → LieApart d c
 flip c d (inl is) = inr is

@@ -1,4 +1,4 @@
-use Rattle.std.proofs.Common.{◌≡◌, ◌∙◌, ap, sym}
+use Rattle.std.proofs.Common.{◌∙◌, ap, sym}
 use Rattle.std.specs.Prelude.{flat_map}
 use Rattle.accounts.specs.Tally.{with_postings}
 use Rattle.fs_items.specs.Lent.{entries_left, entry_fields}

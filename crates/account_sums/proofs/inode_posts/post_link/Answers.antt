@@ -1,4 +1,3 @@
-use Rattle.inode_sums.specs.Held.{sums_held}
 use Rattle.account_sums.proofs.Straight.{then_more}
 use Rattle.account_sums.proofs.inode_posts.post_link.Goals as goal
 

@@ -1,4 +1,4 @@
-use Rattle.std.proofs.Common.{◌≡◌, ◌++◌, ◌∙◌, ap, refl}
+use Rattle.std.proofs.Common.{◌∙◌, ap, refl}
 use Rattle.accounts.specs.Tally.{with_postings}
 use Rattle.inode_sums.specs.Held.{sums_held}
 use Rattle.records.specs.Part.{located}

@@ -1,5 +1,4 @@
-use Rattle.std.proofs.Common.{◌≡◌, ap, sym, ◌∙◌, subst}
-use Rattle.std.specs.Option.{option_copied}
+use Rattle.std.proofs.Common.{ap, sym, ◌∙◌, subst}
 use Rattle.accounts.specs.Broken.{is_broken}
 use Rattle.accounts.specs.Least.{IsLeastBroken}
 use Rattle.accounts.specs.Tally.{sums_in}

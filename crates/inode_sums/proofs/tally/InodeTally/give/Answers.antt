@@ -1,8 +1,8 @@
-use Rattle.std.proofs.Common.{◌≡◌, ◌∙◌, ap, sym}
+use Rattle.std.proofs.Common.{◌∙◌, ap}
 use Rattle.std.specs.Prelude.{Ok}
 use Rattle.std.specs.BTreeMap.{get}
-use Rattle.accounts.specs.Tally.{sums_in, with_postings}
-use Rattle.inode_sums.specs.Held.{gathered_postings, inode_cmp, sums_with}
+use Rattle.accounts.specs.Tally.{sums_in}
+use Rattle.inode_sums.specs.Held.{gathered_postings, inode_cmp}
 use Rattle.inode_sums.proofs.Aside.{class_more, more_rest, on_ok, same_entries}
 use Rattle.inode_sums.proofs.tally.InodeTally.give.Goals as goal
 

@@ -1,4 +1,4 @@
-use Rattle.std.proofs.Common.{◌≡◌, ◌∙◌, ap, sym}
+use Rattle.std.proofs.Common.{◌∙◌, ap, sym}
 use Rattle.std.specs.BTreeMap.{get}
 use Rattle.accounts.specs.Broken.{is_broken}
 use Rattle.accounts.specs.Tally.{sums_in}

@@ -1,4 +1,4 @@
-use Rattle.std.proofs.Common.{◌≡◌, ◌∙◌, ap}
+use Rattle.std.proofs.Common.{◌∙◌, ap}
 use Rattle.std.specs.BTreeMap.{get}
 use Rattle.accounts.specs.Tally.{sums_in, with_postings}
 use Rattle.inode_sums.specs.Held.{gathered_postings, inode_cmp, sums_with}
