@@ -1,11 +1,13 @@
 //! Measures the layers, each by a command of its own: `sums BYTES ROUNDS`, `blocks read|sum COUNT ROUNDS`,
 //! `pending scattered|rising|falling|joining COUNT ROUNDS [SIZE]`, `pairs remove|keep COUNT ROUNDS`,
-//! `ledger list|keep|get|turn COUNT ROUNDS [fixed]`, `spans remove|keep COUNT ROUNDS`, `changes COUNT ROUNDS`.
+//! `ledger list|keep|get|turn COUNT ROUNDS [fixed]`, `spans remove|keep COUNT ROUNDS`, `changes COUNT ROUNDS`,
+//! `lanes eight|single|equal COUNT ROUNDS`.
 //! Without a command each is done once on a little. The scripts of bench/ time it.
 #![tactic(auto)]
 
 mod blocks;
 mod changes;
+mod lanes;
 mod ledger;
 mod pairs;
 mod pending;
@@ -37,6 +39,7 @@ fn named(rt: &HostRuntime, bench: &str, words: &[String]) -> io::Result<()> {
         "pairs" => pairs::measure(rt, name == "remove", count, rounds),
         "ledger" => ledger::measure(rt, name, count, rounds, word(words, 4) != "fixed"),
         "spans" => spans::measure(rt, name == "remove", count, rounds),
+        "lanes" => lanes::measure(rt, name, count, rounds),
         _ => each(rt),
     }
 }
@@ -49,7 +52,10 @@ fn each(rt: &HostRuntime) -> io::Result<()> {
     pairs::measure(rt, true, 1000, 2)?;
     ledger::measure(rt, "turn", 1000, 2, true)?;
     spans::measure(rt, true, 1000, 2)?;
-    changes::measure(rt, 1000, 2)
+    changes::measure(rt, 1000, 2)?;
+    lanes::measure(rt, "eight", 11, 3)?;
+    lanes::measure(rt, "single", 11, 3)?;
+    lanes::measure(rt, "equal", 11, 3)
 }
 
 /// A word of the command line, empty where there is none.

@@ -96,6 +96,10 @@ fn keeps_accounts_apart(rt: HostRuntime) -> Result<(), NoMemory> {
         let plain = ledger.get(&wide(alloc, length as u64), &mut steps);
         assert!(rt; plain == two(0, length as u128 + 2));
     }
+    match ledger.least_broken(&mut steps)? {
+        Some(account) => assert!(rt; account == wide(alloc, 0)),
+        None => panic!(rt; "each of these accounts is broken"),
+    }
     let mut other = entry(alloc, 30)?;
     other.key.offset = 2;
     assert!(rt; ledger.get(&other, &mut steps) == two(0, 0));

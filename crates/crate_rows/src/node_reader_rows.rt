@@ -3,7 +3,7 @@
 ghost use Rattle.std.specs.Prelude.{◌≡◌, length, true};
 ghost use Rattle.verdict.specs.Trees.{is_node_size};
 
-use node_reader::{Expect, Pointer, read_block};
+use node_reader::{Expect, Pointer, read_block, read_block_summed};
 use recon_crc::crc32c;
 use verdict::{Family, Finding, Key, Rule};
 
@@ -253,7 +253,8 @@ fn lends_what_a_block_holds(rt: HostRuntime) {
     put_leaf(&mut bytes, 3, 2);
     put(&mut bytes, 4092, 2, 0x0201);
     put_sum(&mut bytes);
-    let Ok(leaf) = read_block(&bytes, &FSID, &expected(0, false)) else {
+    let sum = crc32c(&bytes[0x20..]);
+    let Ok(leaf) = read_block_summed(&bytes, &FSID, &expected(0, false), sum) else {
         panic!(rt; "the leaf breaks no rule");
     };
     assert!(rt; leaf.count() == 3);
