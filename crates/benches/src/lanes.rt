@@ -51,17 +51,23 @@ fn blocks_of(alloc: Global, count: u64) -> Result<Vec<Bytes>, NoMemory> {
 fn sums_of_eight(blocks: &[Bytes], rounds: u64) -> u32 {
     let mut all = 0;
     for _ in 0..rounds {
-        let mut eight = Eight::new(SIZE);
-        for block in blocks {
-            if block.as_slice().len() == SIZE && eight.push(block.as_slice()).is_err() {
-                all ^= xor_of(&eight);
-                eight.clear();
-                let _ = eight.push(block.as_slice());
-            }
+        for part in blocks.chunks(8) {
+            all ^= xor_of_part(part);
         }
-        all ^= xor_of(&eight);
     }
     all
+}
+
+/// The xor of the sums of up to eight blocks.
+fn xor_of_part(part: &[Bytes]) -> u32 {
+    let mut eight = Eight::new(SIZE);
+    for block in part {
+        let bytes = block.as_slice();
+        if bytes.len() == SIZE {
+            let _ = eight.push(bytes);
+        }
+    }
+    xor_of(&eight)
 }
 
 /// The xor of the sums of the blocks that stand.
