@@ -1,11 +1,10 @@
 -- An index stands for an image that the full check accepts.
-use Rattle.std.proofs.Common.{◌≡◌, ℕ, ◌+◌, ◌*◌, ◌≤◌, List, [], ◌∷◌, ◌++◌, length, map, Option, Some, None, Result, Ok, Err, IfSome, IfOk, refl, ap, sym, ◌∙◌, subst, arith}
+use Rattle.std.proofs.Common.{◌≡◌, ℕ, ◌+◌, ◌*◌, ◌≤◌, false, List, [], ◌∷◌, ◌++◌, length, map, Option, Some, None, Result, Ok, Err, IfSome, IfOk, refl, ap, sym, ◌∙◌, subst, arith}
 use Rattle.std.specs.BTreeSet as set
 use Rattle.std.specs.Ordering.{nat_cmp}
 use Rattle.std.specs.FinMap.{FinMap, empty}
 use Rattle.std.proofs.lemmas.List.Sums.{sum_by-append}
-use Rattle.verdict.specs.Image.{range}
-use Rattle.verdict.specs.Rules.{and_then}
+use Rattle.verdict.specs.Rules.{and_then, finding_or}
 use Rattle.verdict.specs.declared.finding.Finding.{Finding}
 use Rattle.verdict.specs.declared.finding.Verdict.TheVariants.{Accept, Found as Refusal}
 use Rattle.verdict.specs.declared.place.Chunk.{Chunk}
@@ -14,34 +13,41 @@ use Rattle.accounts.specs.Sums.{total_of}
 use Rattle.accounts.specs.Tally.{Sums, no_sums}
 use Rattle.accounts.specs.declared.account.Account.{Account}
 use Rattle.accounts.specs.declared.postings.Posting.{Posting}
-use Rattle.change_laws.specs.Commit.{IsKnown, context_by}
+use Rattle.change_laws.specs.Commit.{context_by}
+use Rattle.change_laws.specs.Same.{records_of}
+use Rattle.change_laws.specs.Sectors.{AreSound}
 use Rattle.change_laws.specs.Steps.{all_posts, posts_of, spans_of}
 use Rattle.block_source.specs.Gives.{Gives}
 use Rattle.block_source.specs.declared.halt.Halt.{Halt}
 use Rattle.block_source.specs.declared.halt.Halt.TheVariants.{Found, Disk, NoMemory}
+use Rattle.change_laws.proofs.EJudged.{judged}
 use Rattle.change_laws.proofs.IItems.{items_stand}
+use Rattle.change_laws.proofs.WNamed.{sound_of}
 use Rattle.change_laws.proofs.XAscend.{ascend}
 use Rattle.change_records.specs.Affected.{context_with}
 use Rattle.change_records.specs.declared.kept.Inode.{Inode}
 use Rattle.chunk_map.specs.Roots.{KeysAscend}
-use Rattle.ledger_index.specs.Ledger.{IsTidy, sums_of}
+use Rattle.ledger_index.specs.Ledger.{sums_of}
 use Rattle.ledger_index.specs.declared.ledger.LedgerIndex.{LedgerIndex}
 use Rattle.ledger_index.proofs.LedgerLaws.{is_tidy}
 use Rattle.live_index.specs.Pairs.{Pairs}
 use Rattle.live_index.specs.Table.{pairs_of}
 use Rattle.live_index.specs.declared.kept.LiveIndex.{LiveIndex}
-use Rattle.plain_check.specs.Accounts.{accounts_in}
-use Rattle.plain_check.specs.Opened.{Opened, block_count, is_block, named_records, opened}
+use Rattle.plain_check.specs.Accounts.{accounts_in, accounts_of}
+use Rattle.plain_check.specs.Opened.{Opened, block_count, named_records, opened}
 use Rattle.plain_check.specs.OpeningLaw.{contents_of, contents_with}
 use Rattle.plain_check.proofs.Chain.{checked_by}
 use Rattle.plain_check.proofs.Opening.{opens}
 use Rattle.records.specs.Contents.{Contents, contents}
+use Rattle.records.specs.Context.{context_of, has_sum_free}
 use Rattle.records.specs.FullCheck.{checked, full_check, verdict_of}
 use Rattle.records.specs.Part.{Located}
+use Rattle.records.specs.Postings.{account_fault}
 use Rattle.records.specs.Seen.{Seen}
 use Rattle.records.specs.Seen.Seen.{BlockSeen, PointerSeen, ItemSeen}
 use Rattle.records.specs.Walk.{Records}
-use Rattle.shared_trees.specs.LivePairs.{live_in, table_of, walked}
+use Rattle.shared_trees.specs.LivePairs.{live_in, walked}
+use Rattle.recon_disk.specs.Keeping.{Kept}
 use Rattle.recon_disk.specs.declared.disk.Disk.{Ghosts}
 use Rattle.span_index.specs.Sectors.{times_of_span}
 use Rattle.span_index.specs.Table.{times_of}
@@ -51,16 +57,16 @@ use Rattle.super_reader.specs.declared.Super.{Super}
 use Rattle.touched_accounts.specs.Sums.{with_all}
 use Rattle.tree_change.specs.Change.{BasesStand}
 use Rattle.tree_change.specs.Merging.{root_at}
-use Rattle.volume_items.specs.declared.root_at.RootAt.{RootAt}
 use Rattle.write_cache.specs.Cache.{overlaid}
 use Rattle.write_cache.proofs.CacheLaws.{overlaid-empty}
-use Rattle.commit_judge.specs.Filling.{AreTablesOf, AreTablesWith, IsRefusal}
+use Rattle.commit_judge.specs.Filling.{AreTablesOf, AreTablesWith, IsFoundBy, IsRefusal, named_walk}
 use Rattle.commit_judge.specs.Flags.{free_in}
 use Rattle.commit_judge.specs.Index.{IndexStands, known}
 use Rattle.commit_judge.specs.Start.{IsReady}
 use Rattle.commit_judge.specs.declared.filling.Tables.{Tables}
 use Rattle.commit_judge.specs.declared.index.Index.{Index}
 use Rattle.commit_judge.proofs.CFilling.{posts_alike}
+use Rattle.commit_judge.proofs.CFound.{found_by}
 use Rattle.commit_judge.proofs.COpened.{opened_is, walked_with, walks_are}
 
 -- ---- how many blocks
@@ -110,6 +116,21 @@ held_is image o more is named =
     ∙ ap (λ (r : Result Opened Finding). and_then {A = Opened} {B = Contents} r (λ o. contents_of o image)) is
     ∙ ap (λ (r : Records). and_then {A = List Seen} {B = Contents} r (λ more. Ok (contents_with o more))) named
 
+-- the step of the accounts, by the records of the trees that root items name
+abbrev accounts_by : Opened → Records → Result (Unit {0}) Finding
+accounts_by o records =
+    and_then {A = Contents} {B = Unit {0}} (and_then {A = List Seen} {B = Contents} records (λ more. Ok (contents_with o more))) accounts_of
+
+-- a finding of these trees is its finding
+unread_case : (o : Opened) (records : Records) (finding : Finding)
+    → and_then {A = List Seen} {B = Unit {0}} records (λ more. Ok (tt {0})) ≡ Err finding → accounts_by o records ≡ Err finding
+unread_case o (Err other) finding is = cc (is)
+unread_case o (Ok more) finding is = absurd (cc is)
+
+not_read : (image : List ℕ) (o : Opened) (finding : Finding) → named_walk o image ≡ Err finding → accounts_in o image ≡ Err finding
+unfolding accounts_in
+not_read image o finding is = unread_case o (named_records o image) finding is
+
 -- ---- the index
 
 nothing_more : (n : ℕ) → 0 + n ≡ n
@@ -127,6 +148,41 @@ all_alike chunks nodesize free other (one ∷ more) =
 sums_from_none : (ps : List Posting) (account : Account) (field : ℕ) → with_all no_sums ps account field ≡ total_of ps account field
 unfolding with_all
 sums_from_none ps account field = nothing_more (total_of ps account field)
+
+-- ---- the accounts
+
+-- the records are sound
+sound_with : (image : List ℕ) (o : Opened) (more : List Seen) → walked image ≡ Ok (walked_with o more)
+    → AreSound o.sup.nodesize (contents_with o more).records
+unfolding records_of
+sound_with image o more walks = sound_of (walked_with o more) (items_stand image (walked_with o more) walks)
+
+-- this is the finding by the tables of an image of which this is known
+abbrev pub IsFoundIn : {L : Type 0} → Opened → Tables L → Option Finding → Type 0
+IsFoundIn o tables finding =
+    IsFoundBy (sums_of tables.totals) (times_of tables.spans) (context_with o.chunks o.sup.nodesize (free_in tables.free)) finding
+
+fault_is : {L : Type 0} (image : List ℕ) (o : Opened) (more : List Seen) (tables : Tables L) (finding : Option Finding)
+    → opened image ≡ Ok o → named_records o image ≡ Ok more → AreTablesWith o more tables → IsFoundIn o tables finding
+    → account_fault (context_of (contents_with o more)) (contents_with o more).records ≡ finding
+fault_is image o more tables finding is named filled by =
+    let records = (contents_with o more).records in
+    let free = has_sum_free records in
+    found_by judged (context_with o.chunks o.sup.nodesize free) records (sums_of tables.totals) (times_of tables.spans) finding
+    (sound_with image o more (walks_are image o more is named))
+    (λ account field. ap (λ (sums : Sums). sums account field) filled.sums
+    ∙ sums_from_none (all_posts (context_with o.chunks o.sup.nodesize none_free) records) account field
+    ∙ ap (λ (ps : List Posting). total_of ps account field) (all_alike o.chunks o.sup.nodesize none_free free records))
+    filled.spans
+    (subst (λ (f : Frees). IsFoundBy (sums_of tables.totals) (times_of tables.spans) (context_with o.chunks o.sup.nodesize f) finding) filled.free by)
+
+-- the step of the accounts has the finding by the tables
+accounts_are : {L : Type 0} (image : List ℕ) (o : Opened) (tables : Tables L) (finding : Option Finding)
+    → opened image ≡ Ok o → AreTablesOf o image tables → IsFoundIn o tables finding → accounts_in o image ≡ finding_or finding (tt {0})
+unfolding accounts_in
+accounts_are image o tables finding is filled by =
+    ap (accounts_by o) filled.1
+    ∙ ap (λ (f : Option Finding). finding_or f (tt {0})) (fault_is image o filled.0 tables finding is filled.1 filled.2 by)
 
 -- This is an index of what is known of an image, with these tables.
 pub record IsMade {L : Type 0} (o : Opened) (tables : Tables L) (index : Index L) : Type 0 where
@@ -211,29 +267,39 @@ plain m image none = ap (λ (k : FinMap nat_cmp ℕ). overlaid k 0 image) none �
 told_ready : {L : Type 0} (told : Option (List ℕ)) (m : FinMap nat_cmp ℕ) (o : Opened) (tables : Tables L) (index : Index L)
     (before between after : ℕ) → m ≡ empty
     → IfSome told (λ image. opened (overlaid m 0 image) ≡ Ok o)
-    → IfSome told (λ image. accounts_in o (overlaid m 0 image) ≡ Ok (tt {0}))
     → IfSome told (λ image. AreTablesOf o (overlaid m 0 image) tables)
+    → IsFoundIn o tables None
     → IsMade o tables index
     → IfSome told (λ _. between ≤ before + 1 + 2 * block_count o.seen)
     → IfSome told (λ image. IfOk (named_records o (overlaid m 0 image)) (λ found. after ≤ between + 2 * block_count found))
     → IfSome told (λ image. IsReady image before after index)
-told_ready None m o tables index before between after none is accounts filled made first second = tt
-told_ready (Some image) m o tables index before between after none is accounts filled made first second =
+told_ready None m o tables index before between after none is filled by made first second = tt
+told_ready (Some image) m o tables index before between after none is filled by made first second =
     subst (λ (x : List ℕ). IsReady x before after index) (plain m image none)
-    (ready (overlaid m 0 image) o tables index is accounts filled made before between after first second)
+    (ready (overlaid m 0 image) o tables index is (accounts_are (overlaid m 0 image) o tables None is filled by) filled made before between after first second)
 
 -- the same where the disk tells the same bytes once the image is open
 pub ready_told : {L : Type 0} (told now : Option (List ℕ)) (m : FinMap nat_cmp ℕ) (o : Opened) (tables : Tables L) (index : Index L)
     (before between after : ℕ) → now ≡ told → m ≡ empty
     → IfSome told (λ image. opened (overlaid m 0 image) ≡ Ok o)
-    → IfSome now (λ image. accounts_in o (overlaid m 0 image) ≡ Ok (tt {0}))
     → IfSome now (λ image. AreTablesOf o (overlaid m 0 image) tables)
+    → IsFoundIn o tables None
     → IsMade o tables index
     → IfSome told (λ _. between ≤ before + 1 + 2 * block_count o.seen)
     → IfSome now (λ image. IfOk (named_records o (overlaid m 0 image)) (λ found. after ≤ between + 2 * block_count found))
     → IfSome told (λ image. IsReady image before after index)
-ready_told told now m o tables index before between after same none is accounts filled made first second =
-    told_ready told m o tables index before between after none is (rw same at accounts) (rw same at filled) made first (rw same at second)
+ready_told told now m o tables index before between after same none is filled by made first second =
+    told_ready told m o tables index before between after none is (rw same at filled) by made first (rw same at second)
+
+-- what two steps without a fault keep of a disk
+pub kept_both : {D : Type 0} (disk : Ghosts D) (old between new : D)
+    → Kept disk old between false → Kept disk between new false → Kept disk old new false
+kept_both disk old between new first second = record {
+  len = second.len ∙ first.len;
+  bytes = second.bytes ∙ first.bytes;
+  sent = second.sent ∙ first.sent;
+  faults = second.faults ∙ first.faults;
+}
 
 no_memory : (told : Option (List ℕ)) → IfSome told (λ _. Unit {0})
 no_memory None = tt
@@ -249,11 +315,34 @@ unopened_told : (told : Option (List ℕ)) (m : FinMap nat_cmp ℕ) (finding : F
 unopened_told None m finding is = tt
 unopened_told (Some image) m finding is = not_opened (overlaid m 0 image) finding is
 
-unpassed_told : (told : Option (List ℕ)) (m : FinMap nat_cmp ℕ) (o : Opened) (finding : Finding)
+-- a finding of the trees that root items name, where the disk tells its bytes
+unread_told : (told : Option (List ℕ)) (m : FinMap nat_cmp ℕ) (o : Opened) (finding : Finding)
     → IfSome told (λ image. opened (overlaid m 0 image) ≡ Ok o)
-    → IfSome told (λ image. accounts_in o (overlaid m 0 image) ≡ Err finding) → IfSome told (λ image. full_check (overlaid m 0 image) ≡ Refusal finding)
-unpassed_told None m o finding is accounts = tt
-unpassed_told (Some image) m o finding is accounts = not_passed (overlaid m 0 image) o finding is accounts
+    → IfSome told (λ image. named_walk o (overlaid m 0 image) ≡ Err finding)
+    → IfSome told (λ image. full_check (overlaid m 0 image) ≡ Refusal finding)
+unread_told None m o finding is stops = tt
+unread_told (Some image) m o finding is stops =
+    not_passed (overlaid m 0 image) o finding is (not_read (overlaid m 0 image) o finding stops)
+
+-- a finding by the tables
+unpassed_told : {L : Type 0} (told : Option (List ℕ)) (m : FinMap nat_cmp ℕ) (o : Opened) (tables : Tables L) (finding : Finding)
+    → IfSome told (λ image. opened (overlaid m 0 image) ≡ Ok o)
+    → IfSome told (λ image. AreTablesOf o (overlaid m 0 image) tables)
+    → IsFoundIn o tables (Some finding)
+    → IfSome told (λ image. full_check (overlaid m 0 image) ≡ Refusal finding)
+unpassed_told None m o tables finding is filled by = tt
+unpassed_told (Some image) m o tables finding is filled by =
+    not_passed (overlaid m 0 image) o finding is (accounts_are (overlaid m 0 image) o tables (Some finding) is filled by)
+
+-- the same where the disk tells the same bytes once the image is open
+pub found_told : {L : Type 0} (told now : Option (List ℕ)) (m : FinMap nat_cmp ℕ) (o : Opened) (tables : Tables L) (finding : Finding)
+    → now ≡ told → m ≡ empty
+    → IfSome told (λ image. opened (overlaid m 0 image) ≡ Ok o)
+    → IfSome now (λ image. AreTablesOf o (overlaid m 0 image) tables)
+    → IsFoundIn o tables (Some finding)
+    → IfSome told (λ image. IsRefusal image (Found finding))
+found_told told now m o tables finding same none is filled by =
+    refused_told told m finding none (unpassed_told told m o tables finding is (rw same at filled) by)
 
 -- the steps stopped before the trees that root items name
 pub halted_open : {D : Type 0} (disk : Ghosts D) (at : D) (m : FinMap nat_cmp ℕ) (halt : Halt) → m ≡ empty
@@ -264,16 +353,16 @@ halted_open disk at m NoMemory none gives = no_memory (disk.bytes at)
 halted_open disk at m (Found finding) none gives =
     refused_told (disk.bytes at) m finding none (unopened_told (disk.bytes at) m finding gives)
 
--- they stopped there, or at the accounts
+-- they stopped among these trees
 pub halted_tables : {D : Type 0} (disk : Ghosts D) (at later : D) (m : FinMap nat_cmp ℕ) (o : Opened) (halt : Halt)
     → disk.bytes later ≡ disk.bytes at → m ≡ empty
     → IfSome (disk.bytes at) (λ image. opened (overlaid m 0 image) ≡ Ok o)
-    → Gives {A = Unit {0}} disk later m (Err halt) (λ image. accounts_in o image)
+    → Gives {A = Unit {0}} disk later m (Err halt) (named_walk o)
     → IfSome (disk.bytes at) (λ image. IsRefusal image halt)
 halted_tables disk at later m o Disk same none is gives = no_memory (disk.bytes at)
 halted_tables disk at later m o NoMemory same none is gives = no_memory (disk.bytes at)
 halted_tables disk at later m o (Found finding) same none is gives =
-    refused_told (disk.bytes at) m finding none (unpassed_told (disk.bytes at) m o finding is (rw same at gives))
+    refused_told (disk.bytes at) m finding none (unread_told (disk.bytes at) m o finding is (rw same at gives))
 
 -- memory was wanting
 pub halted_memory : (told : Option (List ℕ)) → IfSome told (λ image. IsRefusal image NoMemory)

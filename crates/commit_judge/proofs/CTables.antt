@@ -1,88 +1,75 @@
--- What three make of all records of an image: its accounts, its live pairs, and what fills the other tables of its index.
-use Rattle.std.proofs.Common.{◌≡◌, ℕ, ◌+◌, List, [], ◌∷◌, ◌++◌, Option, Some, None, Result, Ok, Err, IfSome, refl, ap, sym, ◌∙◌, arith}
+-- What two make of all records of an image: its live pairs, and what fills the other tables of its index.
+use Rattle.std.proofs.Common.{◌≡◌, ℕ, ◌+◌, List, [], ◌∷◌, ◌++◌, Option, Some, None, Ok, Err, IfSome, refl, ap, sym, ◌∙◌, arith}
 use Rattle.std.specs.Ordering.{nat_cmp}
 use Rattle.std.specs.FinMap.{FinMap}
 use Rattle.std.specs.List.{filter_map, fold}
-use Rattle.std.proofs.Math.Path.{fun_ext}
-use Rattle.verdict.specs.Rules.{and_then, finding_or}
+use Rattle.verdict.specs.Rules.{and_then}
 use Rattle.verdict.specs.declared.finding.Finding.{Finding}
-use Rattle.account_sums.specs.Sums.{Summed, context_with as context_of_sums, none_free, of_none as none_summed, with_record as with_summed}
+use Rattle.account_sums.specs.Sums.{none_free}
 use Rattle.account_sums.proofs.Taken.{first_free}
-use Rattle.accounts.specs.Tally.{no_sums}
 use Rattle.block_source.specs.Gives.{Gives}
 use Rattle.block_source.specs.declared.halt.Halt.{Halt}
 use Rattle.block_source.specs.declared.halt.Halt.TheVariants.{Found, Disk, NoMemory}
-use Rattle.change_records.specs.Affected.{context_with}
 use Rattle.ledger_index.specs.Ledger.{sums_of}
 use Rattle.live_index.specs.Table.{pairs_of}
 use Rattle.live_index.specs.declared.live.Live.{Live}
 use Rattle.live_maker.specs.Opened.{finished, no_lives, with_record as with_live}
 use Rattle.live_maker.proofs.Made.{lives_made}
-use Rattle.plain_check.specs.Accounts.{accounts_in, accounts_of}
 use Rattle.plain_check.specs.Opened.{Opened, named_records, volume_records}
 use Rattle.plain_check.specs.OpeningLaw.{contents_with}
-use Rattle.plain_check.proofs.Keeping.{first_told}
-use Rattle.plain_check.proofs.Sums.{told_decided}
 use Rattle.recon_disk.specs.declared.disk.Disk.{Ghosts}
-use Rattle.records.specs.Contents.{Contents, super_record}
-use Rattle.records.specs.Context.{has_sum_free}
+use Rattle.records.specs.Contents.{super_record}
 use Rattle.records.specs.Part.{Located}
-use Rattle.records.specs.Postings.{account_fault}
 use Rattle.records.specs.Seen.{Seen, accounted}
 use Rattle.records.specs.Seen.Seen.{BlockSeen, PointerSeen, ItemSeen}
 use Rattle.records.specs.Takes.{held_after, with_accounted, with_both}
 use Rattle.records.specs.Walk.{Records, behind}
-use Rattle.shared_trees.specs.LivePairs.{live_in, table_of}
-use Rattle.span_index.specs.Sectors.{times_of_span}
+use Rattle.shared_trees.specs.LivePairs.{table_of}
 use Rattle.span_index.specs.Table.{times_of}
 use Rattle.span_index.specs.declared.span.Span.{Span}
-use Rattle.touched_accounts.specs.Sums.{with_all}
 use Rattle.write_cache.specs.Cache.{overlaid}
-use Rattle.commit_judge.specs.Filling.{AreTablesOf, AreTablesWith, Filled, of_none, with_located}
+use Rattle.commit_judge.specs.Filling.{AreTablesOf, AreTablesWith, Filled, named_walk, of_none, with_located}
 use Rattle.commit_judge.specs.Flags.{free_in}
 use Rattle.commit_judge.specs.declared.filling.Tables.{Tables}
 use Rattle.commit_judge.proofs.CFilling.{free_after, spans_after, sums_after}
 
 -- the live pairs and what fills the other tables
-abbrev pub Rest : Type 0
-Rest = List Live × Filled
+abbrev pub Made : Type 0
+Made = List Live × Filled
 
-abbrev pub with_rest : Rest → Seen → Rest
-with_rest = with_both with_live (with_accounted with_located)
+abbrev pub with_made : Made → Seen → Made
+with_made = with_both with_live (with_accounted with_located)
 
--- all three
-abbrev pub with_three : Summed × Rest → Seen → Summed × Rest
-with_three = with_both (with_accounted with_summed) with_rest
-
--- what the three made of all records of an image of which this is known, where the disk tells it
-abbrev pub AreTaken : Option (List ℕ) → FinMap nat_cmp ℕ → Opened → Summed × Rest → Summed × Rest → Type 0
+-- what the two made of all records of an image of which this is known, where the disk tells it
+abbrev pub AreTaken : Option (List ℕ) → FinMap nat_cmp ℕ → Opened → Made → Made → Type 0
 AreTaken told m o start all =
-    IfSome told (λ image. held_after with_three start (volume_records o (overlaid m 0 image)) ≡ Ok all)
+    IfSome told (λ image. held_after with_made start (volume_records o (overlaid m 0 image)) ≡ Ok all)
 
--- ---- the accounts
+-- ---- the walk of the trees that root items name
 
-pub accounts_told : (told : Option (List ℕ)) (m : FinMap nat_cmp ℕ) (o : Opened) (start final : Summed) (before after : Rest) (found other : Option Finding)
-    → start ≡ none_summed o.chunks o.sup.nodesize
-    → AreTaken told m o (start, before) (final, after)
-    → ((taken : List Located) → fold with_summed (none_summed o.chunks o.sup.nodesize) taken ≡ final
-    → found ≡ account_fault (context_of_sums o.chunks o.sup.nodesize (has_sum_free taken)) taken)
-    → found ≡ other
-    → IfSome told (λ image. accounts_in o (overlaid m 0 image) ≡ finding_or other (tt {0}))
-accounts_told told m o start final before after found other begins taken is same =
-    told_decided told m o start final found other begins
-    (first_told told m (with_accounted with_summed) with_rest start before (volume_records o) (Ok (final, after)) taken) is same
+read_case : (o : Opened) (records : Records) (start all : Made)
+    → held_after with_made start (behind (ItemSeen (super_record o.sup) ∷ o.seen) records) ≡ Ok all
+    → and_then {A = List Seen} {B = Unit {0}} records (λ more. Ok (tt {0})) ≡ Ok (tt {0})
+unfolding behind
+read_case o (Err other) start all is = absurd (cc is)
+read_case o (Ok more) start all is = refl
 
-unread_case : (o : Opened) (records : Records) (start : Summed × Rest) (finding : Finding)
-    → held_after with_three start (behind (ItemSeen (super_record o.sup) ∷ o.seen) records) ≡ Err finding
-    → and_then {A = Contents} {B = Unit {0}} (and_then {A = List Seen} {B = Contents} records (λ more. Ok (contents_with o more))) accounts_of ≡ Err finding
+-- they were read to their end
+pub read_told : (told : Option (List ℕ)) (m : FinMap nat_cmp ℕ) (o : Opened) (start all : Made)
+    → AreTaken told m o start all → IfSome told (λ image. named_walk o (overlaid m 0 image) ≡ Ok (tt {0}))
+read_told None m o start all is = tt
+read_told (Some image) m o start all is = read_case o (named_records o (overlaid m 0 image)) start all is
+
+unread_case : (o : Opened) (records : Records) (start : Made) (finding : Finding)
+    → held_after with_made start (behind (ItemSeen (super_record o.sup) ∷ o.seen) records) ≡ Err finding
+    → and_then {A = List Seen} {B = Unit {0}} records (λ more. Ok (tt {0})) ≡ Err finding
 unfolding behind
 unread_case o (Err other) start finding is = cc (is)
 unread_case o (Ok more) start finding is = absurd (cc is)
 
-unread : (told : Option (List ℕ)) (m : FinMap nat_cmp ℕ) (o : Opened) (start : Summed × Rest) (finding : Finding)
-    → IfSome told (λ image. held_after with_three start (volume_records o (overlaid m 0 image)) ≡ Err finding)
-    → IfSome told (λ image. accounts_in o (overlaid m 0 image) ≡ Err finding)
-unfolding accounts_in
+unread : (told : Option (List ℕ)) (m : FinMap nat_cmp ℕ) (o : Opened) (start : Made) (finding : Finding)
+    → IfSome told (λ image. held_after with_made start (volume_records o (overlaid m 0 image)) ≡ Err finding)
+    → IfSome told (λ image. named_walk o (overlaid m 0 image) ≡ Err finding)
 unread None m o start finding is = tt
 unread (Some image) m o start finding is = unread_case o (named_records o (overlaid m 0 image)) start finding is
 
@@ -90,10 +77,10 @@ no_memory : (told : Option (List ℕ)) → IfSome told (λ _. Unit {0})
 no_memory None = tt
 no_memory (Some image) = tt
 
--- the trees that root items name were not read to their end
-pub halted_reading : {D : Type 0} (disk : Ghosts D) (at : D) (m : FinMap nat_cmp ℕ) (o : Opened) (start : Summed × Rest) (halt : Halt)
-    → Gives {A = Summed × Rest} disk at m (Err halt) (λ image. held_after with_three start (volume_records o image))
-    → Gives {A = Unit {0}} disk at m (Err halt) (λ image. accounts_in o image)
+-- they were not read to their end
+pub halted_reading : {D : Type 0} (disk : Ghosts D) (at : D) (m : FinMap nat_cmp ℕ) (o : Opened) (start : Made) (halt : Halt)
+    → Gives {A = Made} disk at m (Err halt) (λ image. held_after with_made start (volume_records o image))
+    → Gives {A = Unit {0}} disk at m (Err halt) (named_walk o)
 halted_reading disk at m o start Disk gives = tt
 halted_reading disk at m o start NoMemory gives = no_memory (disk.bytes at)
 halted_reading disk at m o start (Found finding) gives = unread (disk.bytes at) m o start finding gives
@@ -112,19 +99,17 @@ accounted_fold with held (BlockSeen block ∷ records) = accounted_fold with _ r
 accounted_fold with held (PointerSeen pointer ∷ records) = accounted_fold with held records
 accounted_fold with held (ItemSeen one ∷ records) = accounted_fold with (with held one) records
 
--- what the second and the third made
-rest_made : (o : Opened) (more : List Seen) (start final : Summed) (lives lives' : List Live) (filled filled' : Filled)
-    → fold with_three (start, (lives, filled)) (ItemSeen (super_record o.sup) ∷ (o.seen ++ more)) ≡ (final, (lives', filled'))
+-- what each of the two made
+each_made : (o : Opened) (more : List Seen) (lives lives' : List Live) (filled filled' : Filled)
+    → fold with_made (lives, filled) (ItemSeen (super_record o.sup) ∷ (o.seen ++ more)) ≡ (lives', filled')
     → (fold with_live lives (ItemSeen (super_record o.sup) ∷ (o.seen ++ more)) ≡ lives')
     × (fold with_located filled (super_record o.sup ∷ filter_map accounted (o.seen ++ more)) ≡ filled')
-rest_made o more start final lives lives' filled filled' is =
+each_made o more lives lives' filled filled' is =
     let all = ItemSeen (super_record o.sup) ∷ (o.seen ++ more) in
-    let rest : fold with_rest (lives, filled) all ≡ (lives', filled') =
-    ap (λ (both : Summed × Rest). both.1) (sym (both_fold (with_accounted with_summed) with_rest start (lives, filled) all) ∙ is) in
     let two : (fold with_live lives all, fold (with_accounted with_located) filled all) ≡ (lives', filled') =
-    sym (both_fold with_live (with_accounted with_located) lives filled all) ∙ rest in (
-      ap (λ (both : Rest). both.0) two,
-      sym (accounted_fold with_located filled all) ∙ ap (λ (both : Rest). both.1) two,
+    sym (both_fold with_live (with_accounted with_located) lives filled all) ∙ is in (
+      ap (λ (both : Made). both.0) two,
+      sym (accounted_fold with_located filled all) ∙ ap (λ (both : Made). both.1) two,
     )
 
 nothing_more : (n : ℕ) → 0 + n ≡ n
@@ -137,15 +122,15 @@ pub record IsPut {L : Type 0} (lives : List Live) (filled : Filled) (tables : Ta
   pub spans : times_of tables.spans ≡ filled.spans
   pub free : free_in tables.free ≡ filled.free
 
-tables_made : {L : Type 0} (o : Opened) (records : Records) (start final : Summed) (lives lives' : List Live) (filled filled' : Filled) (tables : Tables L)
+tables_made : {L : Type 0} (o : Opened) (records : Records) (lives lives' : List Live) (filled filled' : Filled) (tables : Tables L)
     → lives ≡ no_lives → filled ≡ of_none o.chunks o.sup.nodesize
-    → held_after with_three (start, (lives, filled)) (behind (ItemSeen (super_record o.sup) ∷ o.seen) records) ≡ Ok (final, (lives', filled'))
+    → held_after with_made (lives, filled) (behind (ItemSeen (super_record o.sup) ∷ o.seen) records) ≡ Ok (lives', filled')
     → IsPut lives' filled' tables
     → (more : List Seen) × (records ≡ Ok more) × AreTablesWith o more tables
 unfolding behind
-tables_made o (Err finding) start final lives lives' filled filled' tables none empty taken put = absurd (cc taken)
-tables_made o (Ok more) start final lives lives' filled filled' tables none empty taken put =
-    let made = rest_made o more start final lives lives' filled filled' (cc (taken)) in
+tables_made o (Err finding) lives lives' filled filled' tables none empty taken put = absurd (cc taken)
+tables_made o (Ok more) lives lives' filled filled' tables none empty taken put =
+    let made = each_made o more lives lives' filled filled' (cc (taken)) in
     let all = o.seen ++ more in
     let held = (contents_with o more).records in
     let nothing = of_none o.chunks o.sup.nodesize in
@@ -163,12 +148,12 @@ tables_made o (Ok more) start final lives lives' filled filled' tables none empt
       },
     )
 
-pub tables_told : {L : Type 0} (told : Option (List ℕ)) (m : FinMap nat_cmp ℕ) (o : Opened) (start final : Summed) (lives lives' : List Live)
+pub tables_told : {L : Type 0} (told : Option (List ℕ)) (m : FinMap nat_cmp ℕ) (o : Opened) (lives lives' : List Live)
     (filled filled' : Filled) (tables : Tables L)
     → lives ≡ no_lives → filled ≡ of_none o.chunks o.sup.nodesize
-    → AreTaken told m o (start, (lives, filled)) (final, (lives', filled'))
+    → AreTaken told m o (lives, filled) (lives', filled')
     → IsPut lives' filled' tables
     → IfSome told (λ image. AreTablesOf o (overlaid m 0 image) tables)
-tables_told None m o start final lives lives' filled filled' tables none empty taken put = tt
-tables_told (Some image) m o start final lives lives' filled filled' tables none empty taken put =
-    tables_made o (named_records o (overlaid m 0 image)) start final lives lives' filled filled' tables none empty taken put
+tables_told None m o lives lives' filled filled' tables none empty taken put = tt
+tables_told (Some image) m o lives lives' filled filled' tables none empty taken put =
+    tables_made o (named_records o (overlaid m 0 image)) lives lives' filled filled' tables none empty taken put

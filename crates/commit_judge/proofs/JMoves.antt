@@ -27,7 +27,7 @@ use Rattle.commit_judge.specs.Moves.{AreMovesOf, AreSpansMoved, context_after}
 use Rattle.commit_judge.specs.declared.moves.Moves.{Moves}
 
 -- the spans of sound records are whole
-spans_whole : (n : ℕ) (records : List Located) → AreSound n records → All IsWhole (spans_of n records)
+pub spans_whole : (n : ℕ) (records : List Located) → AreSound n records → All IsWhole (spans_of n records)
 unfolding spans_of
 spans_whole n records sound =
     each_of IsWhole (filter_map (span_of n) records) (λ span has.

@@ -4,6 +4,7 @@ pub mod BItems
 pub mod BRuns
 pub mod BTables
 pub mod CFilling
+pub mod CFound
 pub mod COpened
 pub mod CReady
 pub mod CTables

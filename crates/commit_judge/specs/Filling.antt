@@ -1,12 +1,18 @@
 -- These words serve private functions alone: what is made of the records of an image by one that fills the tables of its index.
-use Rattle.std.specs.Prelude.{◌≡◌, ℕ, List, ◌∷◌, ◌++◌, Option, Some, None, Result, Ok, Err}
-use Rattle.std.specs.List.{filter_map}
+use Rattle.std.specs.Prelude.{◌≡◌, ℕ, ◌-◌, ◌^◌, List, [], ◌∷◌, ◌++◌, Option, Some, None, option_map, Result, Ok, Err}
+use Rattle.verdict.specs.Rules.{and_then}
+use Rattle.verdict.specs.declared.finding.Finding.{Finding}
 use Rattle.verdict.specs.declared.finding.Verdict.TheVariants.{Found as Refusal}
 use Rattle.verdict.specs.declared.place.Chunk.{Chunk}
 use Rattle.account_sums.specs.Sums.{Frees, none_free, or_free}
+use Rattle.accounts.specs.Broken.{broken_finding, is_broken}
+use Rattle.accounts.specs.Context.{Context}
+use Rattle.accounts.specs.Least.{IsLeastBroken}
 use Rattle.accounts.specs.Tally.{Sums, no_sums}
+use Rattle.accounts.specs.declared.account.Account.{Account}
 use Rattle.block_source.specs.declared.halt.Halt.{Halt}
 use Rattle.block_source.specs.declared.halt.Halt.TheVariants.{Found, Disk, NoMemory}
+use Rattle.change_laws.specs.Judged.{first_of}
 use Rattle.change_laws.specs.Steps.{all_posts, posts_of, spans_of}
 use Rattle.change_records.specs.Affected.{context_with}
 use Rattle.change_records.specs.Spans.{span_of}
@@ -14,15 +20,15 @@ use Rattle.ledger_index.specs.Ledger.{sums_of}
 use Rattle.live_index.specs.Table.{pairs_of}
 use Rattle.plain_check.specs.Opened.{Opened, named_records}
 use Rattle.plain_check.specs.OpeningLaw.{contents_with}
-use Rattle.records.specs.Contents.{super_record}
 use Rattle.records.specs.Context.{has_sum_free, sum_free_inode}
 use Rattle.records.specs.FullCheck.{full_check}
 use Rattle.records.specs.Part.{Located}
-use Rattle.records.specs.Seen.{Seen, accounted}
+use Rattle.records.specs.Seen.{Seen}
 use Rattle.shared_trees.specs.LivePairs.{live_in, table_of}
-use Rattle.span_index.specs.Sectors.{times_of_span}
+use Rattle.span_index.specs.Sectors.{IsFirstBad, is_bad, times_of_span}
 use Rattle.span_index.specs.Spans.{Table, no_spans, with_span}
 use Rattle.span_index.specs.Table.{times_of}
+use Rattle.span_index.specs.declared.span.Run.{Run}
 use Rattle.span_index.specs.declared.span.Span.{Span}
 use Rattle.touched_accounts.specs.Sums.{with_all}
 use Rattle.commit_judge.specs.Flags.{free_in}
@@ -79,6 +85,24 @@ pub record AreTablesWith {L : Type 0} (o : Opened) (more : List Seen) (tables : 
 -- these are the tables of an image of which this is known
 abbrev pub AreTablesOf : {L : Type 0} → Opened → List ℕ → Tables L → Type 0
 AreTablesOf o image tables = (more : List Seen) × (named_records o image ≡ Ok more) × AreTablesWith o more tables
+
+-- the walk of the trees that root items name: whether it comes to its end, or its first finding
+abbrev pub named_walk : Opened → List ℕ → Result (Unit {0}) Finding
+named_walk o image = and_then (named_records o image) (λ more. Ok (tt {0}))
+
+-- the addresses of 64 bits, but for the last 4096: where a span ends at an address of 64 bits it has no sector behind these
+abbrev pub all_sectors : List Run
+all_sectors = record { from = 0; until = 2 ^ 64 - 4096 } ∷ []
+
+-- the finding of the lesser of the least broken sector by a table of spans, and of the least account that is broken by these sums
+pub record IsFoundBy (sums : Sums) (table : Table) (context : Context) (finding : Option Finding) : Type 0 where
+  pub bad : Option ℕ
+  pub least : Option Account
+  pub spans : List Span
+  pub times : (span : Span) → times_of_span spans span ≡ table span
+  pub bad_is : IsFirstBad (is_bad context spans) all_sectors bad
+  pub least_is : IsLeastBroken (λ account. is_broken account (sums account)) least
+  pub found : finding ≡ option_map broken_finding (first_of bad least)
 
 -- why an image has no index: its full check has this finding, or a step had a fault
 abbrev pub IsRefusal : List ℕ → Halt → Type 0

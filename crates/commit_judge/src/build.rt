@@ -9,6 +9,7 @@ ghost use Rattle.commit_judge.specs.Filling.{IsIndexed};
 ghost use Rattle.commit_judge.specs.Start.{HasRoom, IsBuilt};
 
 use crate::filling::tables_of;
+use crate::finding::finding_of;
 use crate::index::Index;
 use crate::roots::{ascending, roots_of};
 use block_source::{Fault, Halt, told};
@@ -82,6 +83,9 @@ fn index_of<D: Disk, L>(
     let cache = WriteCache::new(alloc);
     let volume = Volume::open(alloc, disk, &cache, end)?;
     let tables = tables_of(alloc, disk, &cache, &volume, steps)?;
+    if let Some(found) = finding_of(alloc, &tables, &volume.map, volume.sup.nodesize, steps)? {
+        return Err(Halt::Found(found));
+    }
     let roots = named_roots(alloc, &volume.roots)?;
     Ok(Index {
         raw: volume.raw,

@@ -8,7 +8,6 @@ ghost use Rattle.records.specs.Part.{IsLawful, located, part_of};
 ghost use Rattle.records.specs.Takes.{with_accounted};
 ghost use Rattle.block_source.specs.Gives.{Gives, is_disk_halt};
 ghost use Rattle.block_source.specs.Takes.{handing};
-ghost use Rattle.plain_check.specs.Accounts.{accounts_in};
 ghost use Rattle.plain_check.specs.Opened.{ReadsOnce, known, named_records};
 ghost use Rattle.change_laws.specs.Steps.{posts_of};
 ghost use Rattle.change_records.specs.Spans.{span_of as span_of_record};
@@ -20,13 +19,12 @@ ghost use Rattle.shared_trees.specs.LivePairs.{table_of};
 ghost use Rattle.span_index.specs.Table.{times_of};
 ghost use Rattle.touched_accounts.specs.Sums.{with_all};
 ghost use Rattle.account_sums.specs.Sums.{or_free};
-ghost use Rattle.commit_judge.specs.Filling.{AreTablesOf, filled_in, of_none, with_located, with_option};
+ghost use Rattle.commit_judge.specs.Filling.{AreTablesOf, filled_in, named_walk, of_none, with_located, with_option};
 ghost use Rattle.commit_judge.specs.Flags.{free_in};
 
 use crate::context::Before;
 use crate::posts::post_record;
 use crate::spans::span_of;
-use account_sums::Accounts;
 use accounts::Postings;
 use block_source::Halt;
 use change_records::Inode;
@@ -57,8 +55,8 @@ pub(crate) struct Tables<L> {
     pub(crate) free: BTreeSet<Inode>,
 }
 
-/// The tables of an open image, where the accounts of all that it says keep their rules, or their finding. Each block of the trees that
-/// root items name is at most two reads, one for each of its copies.
+/// The tables of an open image, or the first finding of the trees that root items name. Each block of these trees is at most two reads,
+/// one for each of its copies.
 pub(crate) fn tables_of<D: Disk, L>(
     alloc: Global,
     disk: &mut D,
@@ -69,7 +67,7 @@ pub(crate) fn tables_of<D: Disk, L>(
     requires size { is_node_size volume.now.sup.nodesize ≡ true }
     requires end { volume.now.end ≡ D.len disk.old }
     ensures gives { Gives D.Disk disk.old cache.now (handing (λ _. tt {0}) result)
-        (λ image. accounts_in (known volume.now) image) }
+        (λ image. named_walk (known volume.now) image) }
     ensures tables { IfOk result (λ tables. IfSome (D.bytes disk.old)
         (λ image. AreTablesOf (known volume.now) (overlaid cache.now 0 image) tables)) }
     ensures reads { ReadsOnce D.Disk disk.old disk.new cache.now result
@@ -77,24 +75,15 @@ pub(crate) fn tables_of<D: Disk, L>(
     ensures kept { Kept D.Disk disk.old disk.new (is_disk_halt result) }
 {
     let mut all = Both {
-        first: Accounts::new(alloc, &volume.map, volume.sup.nodesize),
-        second: Both {
-            first: Lives::new(alloc),
-            second: Filling::new(alloc, &volume.map, volume.sup.nodesize, steps),
-        },
+        first: Lives::new(alloc),
+        second: Filling::new(alloc, &volume.map, volume.sup.nodesize, steps),
     };
     volume.read_all(alloc, disk, cache, &mut all)?;
     let Both {
-        first: mut accounts,
-        second: Both {
-            first: lives,
-            second: filling,
-        },
+        first: lives,
+        second: filling,
     } = all;
-    match accounts.finding()? {
-        Some(found) => Err(Halt::Found(found)),
-        None => Ok(filling.finish(lives)?),
-    }
+    Ok(filling.finish(lives)?)
 }
 
 /// The sums of what records post but to sectors, the spans that they have, and the inodes whose data has no checksums. All go into the

@@ -5,6 +5,7 @@ mod apply;
 mod build;
 mod context;
 mod filling;
+mod finding;
 mod fresh;
 mod hot;
 mod index;
