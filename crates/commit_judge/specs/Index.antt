@@ -26,3 +26,7 @@ pub record IndexStands {L : Type 0} (image : List ℕ) (index : Index L) : Type 
   pub known : IsKnown image (known index)
   pub raw : index.raw ≡ range 65536 4096 image
   pub entries : IsTidy index.totals
+
+-- an index has the bytes of an image's superblock place
+abbrev pub HasPlaceOf : {L : Type 0} → Index L → List ℕ → Type 0
+HasPlaceOf index image = index.raw ≡ range 65536 4096 image

@@ -1,9 +1,10 @@
 -- What the judgement of a commit says, and what it leaves of the index.
-use Rattle.std.specs.Prelude.{◌≡◌, ℕ, ◌+◌, ◌*◌, ◌≤◌, List}
+use Rattle.std.specs.Prelude.{◌≡◌, ℕ, ◌+◌, ◌*◌, ◌≤◌, List, length}
 use Rattle.std.specs.Ordering.{nat_cmp}
 use Rattle.std.specs.FinMap.{FinMap}
 use Rattle.verdict.specs.declared.finding.Finding.{Finding}
 use Rattle.verdict.specs.declared.finding.Verdict.TheVariants.{Accept, Found}
+use Rattle.verdict.specs.Image.{range}
 use Rattle.write_cache.specs.Cache.{overlaid}
 use Rattle.records.specs.FullCheck.{full_check}
 use Rattle.commit_judge.specs.Counts.{blocks_between, hot_between}
@@ -34,3 +35,14 @@ IsJudgement image pending index before after (Rejected finding) = IsRejected ima
 abbrev pub HasRoom : ℕ → Judged → Type 0
 HasRoom len (Passed generation blocks hot) = 69632 ≤ len
 HasRoom len (Rejected finding) = Unit {0}
+
+-- Where these are the bytes of an image's superblock place, those are the bytes of the place with pending writes over the image. Nothing else
+-- is asked of the image.
+abbrev pub IsPlaceAfter : List ℕ → FinMap nat_cmp ℕ → List ℕ → Type 0
+IsPlaceAfter old pending new =
+    (image : List ℕ) → 69632 ≤ length image → old ≡ range 65536 4096 image → new ≡ range 65536 4096 (overlaid pending 0 image)
+
+-- what a commit that passes makes of the bytes of the superblock place
+abbrev pub MovesPlace : List ℕ → FinMap nat_cmp ℕ → List ℕ → Judged → Type 0
+MovesPlace old pending new (Passed generation blocks hot) = IsPlaceAfter old pending new
+MovesPlace old pending new (Rejected finding) = Unit {0}

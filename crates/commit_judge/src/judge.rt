@@ -12,7 +12,7 @@ ghost use Rattle.span_index.specs.Table.{times_of};
 ghost use Rattle.tree_change.specs.Gathered.{located_item};
 ghost use Rattle.tree_change.specs.Merging.{IsSortedOf, named_before, roots_left};
 ghost use Rattle.commit_judge.specs.Index.{IndexStands, known};
-ghost use Rattle.commit_judge.specs.Judged.{HasRoom, IsJudgement};
+ghost use Rattle.commit_judge.specs.Judged.{HasRoom, IsJudgement, IsPlaceAfter, MovesPlace};
 ghost use Rattle.commit_judge.specs.Judging.{IsLeastOf, is_hot_by, next_of};
 ghost use Rattle.commit_judge.specs.Decided.{IsDecided};
 ghost use Rattle.commit_judge.specs.Moves.{context_after};
@@ -58,7 +58,8 @@ pub enum Judged {
 ///
 /// Where the full check accepts the judged image, the commit passes, and the index then stands for that image. Otherwise it is rejected with
 /// the full check's own finding, and the index stands for the image as before. After a fault the index is spent: it stands for nothing.
-/// The disk's bytes stay; it is read at most twice for each block that is counted.
+/// The disk's bytes stay; it is read at most twice for each block that is counted. The bytes of the superblock place of the judged image are
+/// those that the index has, with the pending writes over them, also where the index stands for no image.
 pub fn judge_commit<D: Disk, L>(
     alloc: Global,
     disk: &mut D,
@@ -68,6 +69,7 @@ pub fn judge_commit<D: Disk, L>(
 ) -> Result<Judged, Fault>
     ensures told { IfOk result (λ judged. IfSome (D.bytes disk.old) (λ image. IndexStands image index.old →
         IsJudgement image cache.now index.new (D.reads disk.old) (D.reads disk.new) judged)) }
+    ensures place { IfOk result (MovesPlace index.old.raw cache.now index.new.raw) }
     ensures room { IfOk result (HasRoom (D.len disk.old)) }
     ensures kept { Kept D.Disk disk.old disk.new (is_disk_fault result) }
 {
@@ -87,6 +89,7 @@ pub fn judge_within<D: Disk, L>(
     requires { end ≡ D.len disk.old }
     ensures told { IfOk result (λ judged. IfSome (D.bytes disk.old) (λ image. IndexStands image index.old →
         IsJudgement image cache.now index.new (D.reads disk.old) (D.reads disk.new) judged)) }
+    ensures place { IfOk result (MovesPlace index.old.raw cache.now index.new.raw) }
     ensures room { IfOk result (HasRoom (D.len disk.old)) }
     ensures kept { Kept D.Disk disk.old disk.new (is_disk_fault result) }
 {
@@ -108,6 +111,7 @@ fn judge_blocks<D: Disk, L>(
     requires { end ≡ D.len disk.old }
     ensures told { IfSome (D.bytes disk.old) (λ image. IndexStands image index.old →
         IsDecided image cache.now index.old index.new (D.reads disk.old) (D.reads disk.new) result) }
+    ensures place { IfOk result (MovesPlace index.old.raw cache.now index.new.raw) }
     ensures room { OnOk result (69632 ≤ end) }
     ensures kept { Kept D.Disk disk.old disk.new (is_disk_halt result) }
 {
@@ -127,6 +131,7 @@ fn plan_within<D: Disk, L>(
     requires { end ≡ D.len disk.old }
     ensures told { IfSome (D.bytes disk.old) (λ image. IndexStands image index.now →
         IsPlanned image cache.now (known index.now) (D.reads disk.old) (D.reads disk.new) result) }
+    ensures place { IfOk result (λ plan. IsPlaceAfter (index.now).raw cache.now plan.raw) }
     ensures room { OnOk result (69632 ≤ end) }
     ensures kept { Kept D.Disk disk.old disk.new (is_disk_halt result) }
 {
@@ -145,7 +150,9 @@ fn judge_plan<L>(
     plan: Plan,
     steps: &mut Steps<L>,
 ) -> Result<Judged, NoMemory>
-    ensures { IfOk result (λ judged. (image : List ℕ) (before after : ℕ) →
+    ensures place { IsPlaceAfter index.old.raw cache.now plan.raw →
+        IfOk result (MovesPlace index.old.raw cache.now index.new.raw) }
+    ensures judged { IfOk result (λ judged. (image : List ℕ) (before after : ℕ) →
         IndexStands image index.old → length image ≡ end →
         IsPlanOf image cache.now (known index.old) before after plan →
         IsJudgement image cache.now index.new before after judged) }

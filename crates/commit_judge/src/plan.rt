@@ -9,6 +9,7 @@ ghost use Rattle.change_records.specs.Changes.{Ascend};
 ghost use Rattle.change_laws.specs.Commit.{AreTheAffected};
 ghost use Rattle.change_laws.specs.Paired.{SayChanges, added_from, removed_from};
 ghost use Rattle.commit_judge.specs.Index.{IndexStands, known};
+ghost use Rattle.commit_judge.specs.Judged.{IsPlaceAfter};
 ghost use Rattle.commit_judge.specs.Plan.{IsPlanned, commit_in};
 
 use crate::fresh::{Fresh, fresh_of};
@@ -47,6 +48,7 @@ pub(crate) fn plan_of<D: Disk, L>(
 ) -> Result<Plan, Halt>
     ensures told { IfSome (D.bytes disk.old) (λ image. IndexStands image index.now →
         IsPlanned image cache.now (known index.now) (D.reads disk.old) (D.reads disk.new) result) }
+    ensures place { IfOk result (λ plan. IsPlaceAfter (index.now).raw cache.now plan.raw) }
     ensures kept { Kept D.Disk disk.old disk.new (is_disk_halt result) }
 {
     let fresh = fresh_of(&index.raw, cache)?;

@@ -1,5 +1,5 @@
 -- What a judged event comes to, by what the judge of a commit says and what went out to the disk.
-use Rattle.std.proofs.Common.{◌≡◌, ℕ, ◌+◌, ◌*◌, ◌≤◌, inl, inr, Bool, IsErr, Result, Ok, Err, List, Option, Some, None, IfSome, refl, sym, ap, ◌∙◌, subst}
+use Rattle.std.proofs.Common.{◌≡◌, ℕ, ◌+◌, ◌*◌, ◌≤◌, inl, inr, Bool, IsErr, Result, Ok, Err, List, Option, Some, None, IfSome, refl, sym, ap, ◌∙◌, subst, length}
 use Rattle.std.specs.Option.{IsSomeAnd}
 use Rattle.std.specs.Ordering.{nat_cmp}
 use Rattle.std.specs.FinMap.{FinMap}
@@ -14,8 +14,8 @@ use Rattle.recon_disk.specs.Keeping.{IsCounted}
 use Rattle.write_cache.specs.Cache.{overlaid}
 use Rattle.records.specs.FullCheck.{full_check}
 use Rattle.commit_judge.specs.Counts.{blocks_between, hot_between}
-use Rattle.commit_judge.specs.Index.{IndexStands}
-use Rattle.commit_judge.specs.Judged.{IsJudgement, IsPassed, IsRejected}
+use Rattle.commit_judge.specs.Index.{HasPlaceOf, IndexStands}
+use Rattle.commit_judge.specs.Judged.{HasRoom, IsJudgement, IsPassed, IsPlaceAfter, IsRejected, MovesPlace}
 use Rattle.commit_judge.specs.declared.index.Index.{Index}
 use Rattle.commit_judge.specs.declared.judge.Judged.{Judged}
 use Rattle.commit_judge.specs.declared.judge.Judged.TheVariants.{Passed as passes, Rejected as rejects}
@@ -95,27 +95,38 @@ reads_passed (Some image) m before after judged first second last generation blo
     let few : second ≤ first + 2 * blocks = passed.reads in
     subst (λ n. n ≤ first + 2 * blocks) (sym same) few
 
--- the calls that went out
-pub sent_passed : {L : Type 0} (old : Option (List ℕ)) (m : FinMap nat_cmp ℕ) (before after : Index L) (first second generation blocks hot : ℕ)
-    (begun last : Option (List Sent))
-    → IfSome old (λ image. IndexStands image before
-    → PassedAnd m after first second generation blocks hot (λ i. HasSentOut m (overlaid m 0 i) begun last) image)
-    → HasSentBy (λ image. IndexStands image before) (Passed generation blocks hot) m old begun last
-unfolding HasSentBy
-sent_passed old m before after first second generation blocks hot begun last h =
-    if_some_then (λ image. IndexStands image before) _ _ old (λ image both. both.sent) h
+-- what is sent by the superblock place that the index then has, where it had the bytes of the place of an image before
+pub placed : {L : Type 0} (Q : List ℕ → Type 0) (old mid : Option (List ℕ)) (len : ℕ) (m : FinMap nat_cmp ℕ) (before after : Index L) (judged : Judged)
+    (place : List ℕ) (generation blocks hot : ℕ)
+    → judged ≡ passes generation blocks hot → mid ≡ old → place ≡ after.raw
+    → IfSome old (λ image. length image ≡ len) → HasRoom len judged → MovesPlace before.raw m after.raw judged
+    → IfSome mid (λ image. IsPlaceOf m place image → Q image)
+    → IfSome old (λ image. HasPlaceOf before image → Q image)
+placed Q None mid len m before after judged place generation blocks hot is same place_is size room moves sent = tt
+placed Q (Some image) mid len m before after judged place generation blocks hot is same place_is size room moves sent = λ has.
+    let sends : IsPlaceOf m place image → Q image = subst (λ o. IfSome o (λ i. IsPlaceOf m place i → Q i)) same sent in
+    let fits : 69632 ≤ len = subst (HasRoom len) is room in
+    let long : 69632 ≤ length image = subst (λ n. 69632 ≤ n) (sym size) fits in
+    let moved : IsPlaceAfter before.raw m after.raw = subst (MovesPlace before.raw m after.raw) is moves in
+    sends (place_is ∙ moved image long has)
 
-pub part_passed : {L : Type 0} (old mid : Option (List ℕ)) (m : FinMap nat_cmp ℕ) (before after : Index L) (judged : Judged) (place : List ℕ)
-    (first second generation blocks hot : ℕ) (begun same last : Option (List Sent))
+-- the calls that went out
+pub sent_passed : {L : Type 0} (old : Option (List ℕ)) (m : FinMap nat_cmp ℕ) (before : Index L) (generation blocks hot : ℕ) (begun last : Option (List Sent))
+    → IfSome old (λ image. HasPlaceOf before image → HasSentOut m (overlaid m 0 image) begun last)
+    → HasSentBy (HasPlaceOf before) (Passed generation blocks hot) m old begun last
+unfolding HasSentBy
+sent_passed old m before generation blocks hot begun last h = h
+
+pub part_passed : {L : Type 0} (old mid : Option (List ℕ)) (len : ℕ) (m : FinMap nat_cmp ℕ) (before after : Index L) (judged : Judged) (place : List ℕ)
+    (generation blocks hot : ℕ) (begun same last : Option (List Sent))
     → judged ≡ passes generation blocks hot → mid ≡ old → place ≡ after.raw → same ≡ begun
-    → IfSome old (λ image. IndexStands image before → IsJudgement image m after first second judged)
-    → HasSentPart (IsPlaceOf m place) m mid same last → HasSentPart (λ image. IndexStands image before) m old begun last
+    → IfSome old (λ image. length image ≡ len) → HasRoom len judged → MovesPlace before.raw m after.raw judged
+    → HasSentPart (IsPlaceOf m place) m mid same last → HasSentPart (HasPlaceOf before) m old begun last
 unfolding HasSentPart
-part_passed old mid m before after judged place first second generation blocks hot begun same last is told place_is sent_is says part =
+part_passed old mid len m before after judged place generation blocks hot begun same last is told place_is sent_is size room moves part =
     elim (subst (λ o. HasSentPart (IsPlaceOf m place) m mid o last) sent_is part) [
       | inl none ↦ inl none
-      | inr some ↦ inr (if_some_then (λ image. IndexStands image before) _ _ old (λ image both. both.sent)
-          (passed_and _ old mid m before after judged place first second generation blocks hot is told place_is says some))
+      | inr some ↦ inr (placed _ old mid len m before after judged place generation blocks hot is told place_is size room moves some)
     ]
 
 -- the same where it has a finding

@@ -51,7 +51,7 @@ impl<L> Checker<L> {
     ghost use Rattle.recon_core.specs.Judged.{Judges};
     ghost use Rattle.recon_core.specs.Order.{HasSentBy, HasSentPart, judged_with};
     ghost use Rattle.recon_core.specs.Reads.{HasBegun, HasReads, HasStarted};
-    ghost use Rattle.commit_judge.specs.Index.{IndexStands};
+    ghost use Rattle.commit_judge.specs.Index.{HasPlaceOf};
 
     /// A checker over the disk, where the full check accepts its image. The disk's bytes stay. The superblock is one
     /// read of the disk, and each block of the trees at most two. Its stops are `DiskFault` and `NoMemory`.
@@ -158,12 +158,13 @@ impl<L> Checker<L> {
             (λ answer. HasReads answer (D.reads disk.old) (D.reads disk.new)) }
 
         // What a passed event sends to the disk, call by call, that no other answer sends anything, and
-        // what an event sends that has no answer. The calls are said where the index stands for the disk's image.
+        // what an event sends that has no answer. The calls are said where the index has the bytes of the
+        // superblock place of the disk's image, as it has from the start on.
         ensures order { IfOk result (λ answer.
-            HasSentBy (λ image. IndexStands image self.old.index) answer (judged_with self.old.cache ev)
+            HasSentBy (HasPlaceOf self.old.index) answer (judged_with self.old.cache ev)
             (D.bytes disk.old) (D.sent disk.old) (D.sent disk.new)) }
         ensures part { OnErr result
-            (HasSentPart (λ image. IndexStands image self.old.index) (judged_with self.old.cache ev)
+            (HasSentPart (HasPlaceOf self.old.index) (judged_with self.old.cache ev)
             (D.bytes disk.old) (D.sent disk.old) (D.sent disk.new)) }
 
         // What the other refusals leave.
@@ -233,9 +234,9 @@ impl<L> Checker<L> {
         ensures judged { Judges D.Disk disk.old disk.new
             self.old.cache self.old.index self.new.index result (is_disk_fault result) }
         ensures order { IfOk result (λ answer.
-            HasSentBy (λ image. IndexStands image self.old.index) answer
+            HasSentBy (HasPlaceOf self.old.index) answer
             self.old.cache (D.bytes disk.old) (D.sent disk.old) (D.sent disk.new)) }
-        ensures part { OnErr result (HasSentPart (λ image. IndexStands image self.old.index)
+        ensures part { OnErr result (HasSentPart (HasPlaceOf self.old.index)
             self.old.cache (D.bytes disk.old) (D.sent disk.old) (D.sent disk.new)) }
         ensures memory { IsErrOf result Stop.NoMemory → D.bytes disk.new ≡ D.bytes disk.old }
         ensures unsent { IsErrOf result Stop.NoMemory → D.sent disk.new ≡ D.sent disk.old }
@@ -280,10 +281,10 @@ impl<L> Checker<L> {
             (with_bytes self.old.cache write.at write.bytes)
             self.old.index self.new.index result (is_disk_fault result) }
         ensures order { IfOk result (λ answer.
-            HasSentBy (λ image. IndexStands image self.old.index) answer
+            HasSentBy (HasPlaceOf self.old.index) answer
             (with_bytes self.old.cache write.at write.bytes)
             (D.bytes disk.old) (D.sent disk.old) (D.sent disk.new)) }
-        ensures part { OnErr result (HasSentPart (λ image. IndexStands image self.old.index)
+        ensures part { OnErr result (HasSentPart (HasPlaceOf self.old.index)
             (with_bytes self.old.cache write.at write.bytes)
             (D.bytes disk.old) (D.sent disk.old) (D.sent disk.new)) }
         ensures memory { IsErrOf result Stop.NoMemory → D.bytes disk.new ≡ D.bytes disk.old }

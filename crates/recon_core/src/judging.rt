@@ -3,7 +3,7 @@
 ghost use Rattle.std.specs.Prelude.{◌≡◌, IfOk, OnOk, OnErr, IsErrOf};
 ghost use Rattle.std.specs.FinMap as map;
 ghost use Rattle.block_source.specs.Gives.{is_disk_fault};
-ghost use Rattle.commit_judge.specs.Index.{IndexStands};
+ghost use Rattle.commit_judge.specs.Index.{HasPlaceOf};
 ghost use Rattle.recon_core.specs.Standing.{IsBelow, IsJudgement};
 ghost use Rattle.recon_core.specs.Judged.{Judges};
 ghost use Rattle.recon_core.specs.Order.{HasSentBy, HasSentPart};
@@ -34,10 +34,10 @@ pub fn judge_waiting<D: Disk, L>(
     ensures judged { Judges D.Disk disk.old disk.new
         cache.old index.old index.new result (is_disk_fault result) }
     ensures order { IfOk result (λ answer.
-        HasSentBy (λ image. IndexStands image index.old) answer
+        HasSentBy (HasPlaceOf index.old) answer
         cache.old (D.bytes disk.old) (D.sent disk.old) (D.sent disk.new)) }
     ensures memory { IsErrOf result Fault.NoMemory → D.bytes disk.new ≡ D.bytes disk.old }
-    ensures part { OnErr result (HasSentPart (λ image. IndexStands image index.old)
+    ensures part { OnErr result (HasSentPart (HasPlaceOf index.old)
         cache.old (D.bytes disk.old) (D.sent disk.old) (D.sent disk.new)) }
     ensures unsent { IsErrOf result Fault.NoMemory → D.sent disk.new ≡ D.sent disk.old }
     ensures empty { OnOk result (cache.new ≡ map.empty) }

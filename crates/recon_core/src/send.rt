@@ -1,42 +1,17 @@
 //! How what waits goes out to the disk once it is let through.
 
 ghost use Rattle.std.specs.Prelude.{ℕ, ◌≡◌, ◌+◌, ◌^◌, ◌<◌, ◌≤◌, List, length, IfSome, OnOk, OnErr};
-ghost use Rattle.verdict.specs.Image.{written};
-ghost use Rattle.recon_disk.specs.Calls.{and_sent};
+ghost use Rattle.recon_disk.specs.Calls.{HasSentFront, and_sent};
 ghost use Rattle.write_cache.specs.Cache.{overlaid};
 ghost use Rattle.recon_core.specs.Standing.{IsBelow};
 ghost use Rattle.recon_core.specs.Stops.{IsPartlySent};
 ghost use Rattle.recon_core.specs.Order.{HasSentOut, HasSentPart, piece_calls};
-ghost use Rattle.recon_disk.specs.Calls.{HasSentFront, run_calls};
 ghost use Rattle.recon_core.specs.Sent.{HasSentRuns, HasSentSomeRuns, IsPlaceOf, LetsThrough, StaysButForPiece, sent_piece, with_place_of};
-ghost use Rattle.recon_disk.specs.Sending.{Sends, StaysOutside};
+ghost use Rattle.recon_disk.specs.Sending.{Sends};
 
-use recon_disk::{Disk, Failed, WRITE_MAX};
+use recon_disk::{Disk, Failed, write_all_at};
 use verdict::{SUPERBLOCK_AT, SUPERBLOCK_SIZE};
 use write_cache::WriteCache;
-
-// Writes any number of bytes from byte `at` of the disk on, as `recon_disk::write_all_at` does, of which no contract says that it
-// does not read.
-fn send_run<D: Disk>(disk: &mut D, at: u64, bytes: &[u8]) -> Result<(), Failed>
-    requires inside { at + length bytes.now ≤ D.len disk.old }
-    requires fits { at + length bytes.now < 2 ^ 64 }
-    ensures device { Sends D.Disk disk.old disk.new result
-        (λ image. written image at bytes.now)
-        (StaysOutside at (length bytes.now)) }
-    ensures order { OnOk result (D.sent disk.new ≡
-        and_sent (D.sent disk.old) (run_calls at bytes.now)) }
-    ensures part { OnErr result
-        (HasSentFront (run_calls at bytes.now) (D.sent disk.old) (D.sent disk.new)) }
-    ensures reads { D.reads disk.new ≡ D.reads disk.old }
-{
-    let mut done = 0;
-    while done < bytes.len() {
-        let n = WRITE_MAX.min(bytes.len() - done);
-        disk.write(at + done as u64, &bytes[done..done + n])?;
-        done += n;
-    }
-    Ok(())
-}
 
 // Writes the bytes of a piece before the superblock place, and then those behind it.
 fn send_piece<D: Disk>(disk: &mut D, at: u64, bytes: &[u8]) -> Result<(), Failed>
@@ -56,8 +31,8 @@ fn send_piece<D: Disk>(disk: &mut D, at: u64, bytes: &[u8]) -> Result<(), Failed
     let behind = (SUPERBLOCK_AT + SUPERBLOCK_SIZE)
         .saturating_sub(at)
         .min(len);
-    send_run(disk, at, &bytes[..before as usize])?;
-    send_run(disk, at + behind, &bytes[behind as usize..])
+    write_all_at(disk, at, &bytes[..before as usize])?;
+    write_all_at(disk, at + behind, &bytes[behind as usize..])
 }
 
 // Writes the bytes of all that waits outside the superblock place, in rising order.

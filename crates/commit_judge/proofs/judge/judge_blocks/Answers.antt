@@ -12,4 +12,4 @@ returns-clause-told g c =
     (λ image. IsPlanOf image c.args.cache.now (known c.args.index.now) before after c.in_ok-plan.plan)
     (λ image. IsJudgement image c.args.cache.now c.judge_plan.new.index before after c.in_ok-judge_plan.field-0)
     (g.met.D.Disk.told_length c.args.disk.now) c.requires c.in_ok-plan.ensures.told
-    (λ image stands size plan. c.in_ok-judge_plan.ensures image before after stands size plan)
+    (λ image stands size plan. c.in_ok-judge_plan.ensures.judged image before after stands size plan)

@@ -12,8 +12,8 @@ use Rattle.commit_judge.specs.Plan.{commit_in}
 use Rattle.commit_judge.proofs.JJudge.{hot_on, reads_of, same_known}
 use Rattle.commit_judge.proofs.judge.judge_plan.Goals as goal
 
-pub returns-in-Some : goal.returns-in-Some
-returns-in-Some g c image before after stands size plan =
+pub returns-in-Some-clause-judged : goal.returns-in-Some-clause-judged
+returns-in-Some-clause-judged g c image before after stands size plan =
     let k = known c.args.index.now in
     let sums = sums_of c.apply.new.totals in
     let spans = times_of c.apply.new.spans in
@@ -37,8 +37,8 @@ returns-in-Some g c image before after stands size plan =
       };
     }
 
-pub returns : goal.returns
-returns g c image before after stands size plan =
+pub returns-clause-judged : goal.returns-clause-judged
+returns-clause-judged g c image before after stands size plan =
     let k = known c.args.index.now in
     let d = commit_in c.args.plan in
     let says =
@@ -65,3 +65,6 @@ returns g c image before after stands size plan =
       hot_are = hot_on k d c.args.cache.now _ c.args.end c.hot_in-hot.result _ size c.hot_in-hot.ensures counts.1;
       reads = reads_of before after _ c.blocks_in-blocks.result c.blocks_in-blocks.ensures plan.reads;
     }
+
+pub returns-clause-place : goal.returns-clause-place
+returns-clause-place g c follows image room same = c.in_ok-pass.ensures.raw ∙ follows image room same

@@ -1,3 +1,4 @@
+use Rattle.std.proofs.Common.{◌∙◌}
 use Rattle.commit_judge.proofs.EPlan.{planned, super_found, tree_found}
 use Rattle.commit_judge.proofs.plan.plan_of.Goals as goal
 
@@ -19,3 +20,7 @@ returns-in-Found-clause-told g c =
     tree_found c.args.index.now c.args.cache.now (g.D.Disk.bytes c.args.disk.now) c.in_ok-fresh.fresh (g.D.Disk.reads c.args.disk.now)
     (g.D.Disk.reads c.difference.new.disk) c.in_ok-change.field-0 c.in-Found.finding c.in_ok-fresh.ensures
     c.in-Found.is c.in_ok-change.ensures.gives.told
+
+pub returns-in_ok-plan_by-in-Change-clause-place : goal.returns-in_ok-plan_by-in-Change-clause-place
+returns-in_ok-plan_by-in-Change-clause-place g c image room same =
+    c.in_ok-plan_by-in-Change.ensures.bytes ∙ (c.in_ok-fresh.ensures image room same).0

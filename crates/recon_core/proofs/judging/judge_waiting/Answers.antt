@@ -4,7 +4,7 @@ use Rattle.recon_disk.proofs.Sending.{if_err}
 use Rattle.write_cache.specs.Cache.{overlaid}
 use Rattle.recon_core.specs.Order.{HasSentOut}
 use Rattle.recon_core.specs.Sent.{IsAllOrPart, IsPlaceOf}
-use Rattle.recon_core.proofs.Settling.{judges_err, left_passed, left_unsent, part_passed, passed_and, reads_passed, reads_rejected, sent_passed, settled_passed, settled_rejected}
+use Rattle.recon_core.proofs.Settling.{judges_err, left_passed, left_unsent, part_passed, passed_and, placed, reads_passed, reads_rejected, sent_passed, settled_passed, settled_rejected}
 use Rattle.recon_core.proofs.judging.judge_waiting.Goals as goal
 
 pub returns-in_err-judged-clause-judged : goal.returns-in_err-judged-clause-judged
@@ -47,11 +47,11 @@ returns-in_err-let_through-in-Passed-clause-judged g c =
 pub returns-in_err-let_through-in-Passed-clause-part : goal.returns-in_err-let_through-in-Passed-clause-part
 returns-in_err-let_through-in-Passed-clause-part g c =
     if_err c.from_residual-in_err-let_through-in-Passed.result
-    (part_passed (g.D.Disk.bytes c.args.disk.now) (g.D.Disk.bytes c.judge_within.new.disk) c.args.cache.now c.args.index.now
-    c.judge_within.new.index c.in_ok-judged.judged c.superblock.result.now
-    (g.D.Disk.reads c.args.disk.now) (g.D.Disk.reads c.judge_within.new.disk) c.in-Passed.generation c.in-Passed.blocks c.in-Passed.hot
+    (part_passed (g.D.Disk.bytes c.args.disk.now) (g.D.Disk.bytes c.judge_within.new.disk) (g.D.Disk.len c.args.disk.now) c.args.cache.now
+    c.args.index.now c.judge_within.new.index c.in_ok-judged.judged c.superblock.result.now c.in-Passed.generation c.in-Passed.blocks c.in-Passed.hot
     (g.D.Disk.sent c.args.disk.now) (g.D.Disk.sent c.judge_within.new.disk) (g.D.Disk.sent c.let_through.new.disk)
-    c.in-Passed.is c.judge_within.ensures.kept.bytes c.superblock.ensures c.judge_within.ensures.kept.sent c.in_ok-judged.ensures.told
+    c.in-Passed.is c.judge_within.ensures.kept.bytes c.superblock.ensures c.judge_within.ensures.kept.sent
+    (g.met.D.Disk.told_length c.args.disk.now) c.in_ok-judged.ensures.room c.in_ok-judged.ensures.place
     c.in_err-let_through-in-Passed.ensures.part)
 
 pub returns-in_ok-let_through-in-Passed-clause-judged : goal.returns-in_ok-let_through-in-Passed-clause-judged
@@ -79,16 +79,13 @@ returns-in_ok-let_through-in-Passed-clause-judged g c =
 pub returns-in_ok-let_through-in-Passed-clause-order : goal.returns-in_ok-let_through-in-Passed-clause-order
 returns-in_ok-let_through-in-Passed-clause-order g c =
     let m = c.args.cache.now in
-    let first = g.D.Disk.reads c.args.disk.now in
-    let second = g.D.Disk.reads c.judge_within.new.disk in
     let begun = g.D.Disk.sent c.args.disk.now in
     let last = g.D.Disk.sent c.let_through.new.disk in
-    sent_passed (g.D.Disk.bytes c.args.disk.now) m c.args.index.now c.judge_within.new.index first second c.in-Passed.generation c.in-Passed.blocks
-    c.in-Passed.hot begun last
-    (passed_and (λ image. HasSentOut m (overlaid m 0 image) begun last) (g.D.Disk.bytes c.args.disk.now) (g.D.Disk.bytes c.judge_within.new.disk) m
-    c.args.index.now c.judge_within.new.index c.in_ok-judged.judged
-    c.superblock.result.now first second c.in-Passed.generation c.in-Passed.blocks c.in-Passed.hot c.in-Passed.is c.judge_within.ensures.kept.bytes
-    c.superblock.ensures c.in_ok-judged.ensures.told
+    sent_passed (g.D.Disk.bytes c.args.disk.now) m c.args.index.now c.in-Passed.generation c.in-Passed.blocks c.in-Passed.hot begun last
+    (placed (λ image. HasSentOut m (overlaid m 0 image) begun last) (g.D.Disk.bytes c.args.disk.now) (g.D.Disk.bytes c.judge_within.new.disk)
+    (g.D.Disk.len c.args.disk.now) m c.args.index.now c.judge_within.new.index c.in_ok-judged.judged
+    c.superblock.result.now c.in-Passed.generation c.in-Passed.blocks c.in-Passed.hot c.in-Passed.is c.judge_within.ensures.kept.bytes
+    c.superblock.ensures (g.met.D.Disk.told_length c.args.disk.now) c.in_ok-judged.ensures.room c.in_ok-judged.ensures.place
     (subst (λ sent. IfSome (g.D.Disk.bytes c.judge_within.new.disk)
     (λ image. IsPlaceOf m c.superblock.result.now image → HasSentOut m (overlaid m 0 image) sent last)) c.judge_within.ensures.kept.sent
     c.in_ok-let_through-in-Passed.ensures.order))

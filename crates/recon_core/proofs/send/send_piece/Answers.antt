@@ -8,12 +8,12 @@ use Rattle.recon_disk.proofs.Sending.{if_err, sends_err}
 use Rattle.recon_core.proofs.Ordered.{front_in_part, piece_out, rest_in_part}
 use Rattle.recon_core.proofs.send.send_piece.Goals as goal
 
-pub returns-in_err-send_run-clause-device : goal.returns-in_err-send_run-clause-device
-returns-in_err-send_run-clause-device g c =
-    sends_err g.D.Disk c.args.disk.now c.send_run.new.disk c.from_residual.result (λ image. sent_piece image c.args.at c.args.bytes.now) (StaysButForPiece c.args.at (length c.args.bytes.now)) c.from_residual.ensures.0
-    (front_fails (g.D.Disk.bytes c.args.disk.now) (g.D.Disk.bytes c.send_run.new.disk) c.args.at c.args.bytes.now (take c.min-before.result c.args.bytes.now)
-    (ap (λ k. take k c.args.bytes.now) (omega arith)) c.in_err-send_run.ensures.device.left)
-    c.send_run.ensures.device.len c.in_err-send_run.ensures.device.cause.grows c.in_err-send_run.ensures.device.cause.failed
+pub returns-in_err-write_all_at-clause-device : goal.returns-in_err-write_all_at-clause-device
+returns-in_err-write_all_at-clause-device g c =
+    sends_err g.D.Disk c.args.disk.now c.write_all_at.new.disk c.from_residual.result (λ image. sent_piece image c.args.at c.args.bytes.now) (StaysButForPiece c.args.at (length c.args.bytes.now)) c.from_residual.ensures.0
+    (front_fails (g.D.Disk.bytes c.args.disk.now) (g.D.Disk.bytes c.write_all_at.new.disk) c.args.at c.args.bytes.now (take c.min-before.result c.args.bytes.now)
+    (ap (λ k. take k c.args.bytes.now) (omega arith)) c.in_err-write_all_at.ensures.device.left)
+    c.write_all_at.ensures.device.len c.in_err-write_all_at.ensures.device.cause.grows c.in_err-write_all_at.ensures.device.cause.failed
 
 pub returns-clause-device : goal.returns-clause-device
 returns-clause-device g c =
@@ -22,31 +22,31 @@ returns-clause-device g c =
     let rest : take (length bytes - c.min-behind.result) (drop c.min-behind.result bytes) ≡ drop (min (69632 - c.args.at) (length bytes)) bytes =
     take_rest bytes c.min-behind.result ∙ ap (λ k. drop k bytes) (omega arith) in
     record {
-      made = on_ok_weaker c.send_run-2.result (λ l. piece_sent (g.D.Disk.bytes c.args.disk.now) (g.D.Disk.bytes c.send_run.new.disk) (g.D.Disk.bytes c.send_run-2.new.disk) c.args.at bytes (take c.min-before.result bytes)
-          (take (length bytes - c.min-behind.result) (drop c.min-behind.result bytes)) (c.args.at + c.min-behind.result) front rest (omega arith) c.in_ok-send_run.ensures.device.made l) c.send_run-2.ensures.device.made;
-      left = on_err_weaker c.send_run-2.result (λ h. rest_fails (g.D.Disk.bytes c.args.disk.now) (g.D.Disk.bytes c.send_run.new.disk) (g.D.Disk.bytes c.send_run-2.new.disk) (g.D.Disk.len c.args.disk.now) c.args.at bytes (take c.min-before.result bytes)
-          (take (length bytes - c.min-behind.result) (drop c.min-behind.result bytes)) (c.args.at + c.min-behind.result) (g.met.D.Disk.told_length c.args.disk.now) c.requires.inside front rest (omega arith) c.in_ok-send_run.ensures.device.made h) c.send_run-2.ensures.device.left;
-      len = c.send_run-2.ensures.device.len ∙ c.send_run.ensures.device.len;
-      cause = subst (λ k. HasCause k (g.D.Disk.faults c.send_run-2.new.disk) c.send_run-2.result) c.in_ok-send_run.ensures.device.cause.fine c.send_run-2.ensures.device.cause;
+      made = on_ok_weaker c.write_all_at-2.result (λ l. piece_sent (g.D.Disk.bytes c.args.disk.now) (g.D.Disk.bytes c.write_all_at.new.disk) (g.D.Disk.bytes c.write_all_at-2.new.disk) c.args.at bytes (take c.min-before.result bytes)
+          (take (length bytes - c.min-behind.result) (drop c.min-behind.result bytes)) (c.args.at + c.min-behind.result) front rest (omega arith) c.in_ok-write_all_at.ensures.device.made l) c.write_all_at-2.ensures.device.made;
+      left = on_err_weaker c.write_all_at-2.result (λ h. rest_fails (g.D.Disk.bytes c.args.disk.now) (g.D.Disk.bytes c.write_all_at.new.disk) (g.D.Disk.bytes c.write_all_at-2.new.disk) (g.D.Disk.len c.args.disk.now) c.args.at bytes (take c.min-before.result bytes)
+          (take (length bytes - c.min-behind.result) (drop c.min-behind.result bytes)) (c.args.at + c.min-behind.result) (g.met.D.Disk.told_length c.args.disk.now) c.requires.inside front rest (omega arith) c.in_ok-write_all_at.ensures.device.made h) c.write_all_at-2.ensures.device.left;
+      len = c.write_all_at-2.ensures.device.len ∙ c.write_all_at.ensures.device.len;
+      cause = subst (λ k. HasCause k (g.D.Disk.faults c.write_all_at-2.new.disk) c.write_all_at-2.result) c.in_ok-write_all_at.ensures.device.cause.fine c.write_all_at-2.ensures.device.cause;
     }
 
 pub returns-clause-order : goal.returns-clause-order
 returns-clause-order g c =
     let bytes = c.args.bytes.now in
-    on_ok_weaker c.send_run-2.result (λ l. piece_out (g.D.Disk.sent c.args.disk.now) (g.D.Disk.sent c.send_run.new.disk) (g.D.Disk.sent c.send_run-2.new.disk) c.args.at (c.args.at + c.min-behind.result) bytes
+    on_ok_weaker c.write_all_at-2.result (λ l. piece_out (g.D.Disk.sent c.args.disk.now) (g.D.Disk.sent c.write_all_at.new.disk) (g.D.Disk.sent c.write_all_at-2.new.disk) c.args.at (c.args.at + c.min-behind.result) bytes
     (take c.min-before.result bytes) (take (length bytes - c.min-behind.result) (drop c.min-behind.result bytes))
-    (ap (λ k. take k bytes) (omega arith)) (take_rest bytes c.min-behind.result ∙ ap (λ k. drop k bytes) (omega arith)) (omega arith) c.in_ok-send_run.ensures.order l)
-    c.send_run-2.ensures.order
+    (ap (λ k. take k bytes) (omega arith)) (take_rest bytes c.min-behind.result ∙ ap (λ k. drop k bytes) (omega arith)) (omega arith) c.in_ok-write_all_at.ensures.order l)
+    c.write_all_at-2.ensures.order
 
-pub returns-in_err-send_run-clause-part : goal.returns-in_err-send_run-clause-part
-returns-in_err-send_run-clause-part g c =
-    if_err c.from_residual.result (front_in_part (g.D.Disk.sent c.args.disk.now) (g.D.Disk.sent c.send_run.new.disk) c.args.at c.args.bytes.now (take c.min-before.result c.args.bytes.now)
-    (ap (λ k. take k c.args.bytes.now) (omega arith)) c.in_err-send_run.ensures.part)
+pub returns-in_err-write_all_at-clause-part : goal.returns-in_err-write_all_at-clause-part
+returns-in_err-write_all_at-clause-part g c =
+    if_err c.from_residual.result (front_in_part (g.D.Disk.sent c.args.disk.now) (g.D.Disk.sent c.write_all_at.new.disk) c.args.at c.args.bytes.now (take c.min-before.result c.args.bytes.now)
+    (ap (λ k. take k c.args.bytes.now) (omega arith)) c.in_err-write_all_at.ensures.part)
 
 pub returns-clause-part : goal.returns-clause-part
 returns-clause-part g c =
     let bytes = c.args.bytes.now in
-    on_err_weaker c.send_run-2.result (λ h. rest_in_part (g.D.Disk.sent c.args.disk.now) (g.D.Disk.sent c.send_run.new.disk) (g.D.Disk.sent c.send_run-2.new.disk) c.args.at (c.args.at + c.min-behind.result) bytes
+    on_err_weaker c.write_all_at-2.result (λ h. rest_in_part (g.D.Disk.sent c.args.disk.now) (g.D.Disk.sent c.write_all_at.new.disk) (g.D.Disk.sent c.write_all_at-2.new.disk) c.args.at (c.args.at + c.min-behind.result) bytes
     (take c.min-before.result bytes) (take (length bytes - c.min-behind.result) (drop c.min-behind.result bytes))
-    (ap (λ k. take k bytes) (omega arith)) (take_rest bytes c.min-behind.result ∙ ap (λ k. drop k bytes) (omega arith)) (omega arith) c.in_ok-send_run.ensures.order h)
-    c.send_run-2.ensures.part
+    (ap (λ k. take k bytes) (omega arith)) (take_rest bytes c.min-behind.result ∙ ap (λ k. drop k bytes) (omega arith)) (omega arith) c.in_ok-write_all_at.ensures.order h)
+    c.write_all_at-2.ensures.part
