@@ -2,3 +2,4 @@ pub mod KeptLaws
 pub mod EntryLaws
 pub mod PlaceLaws
 pub mod LedgerLaws
+pub mod JudgedLaws

@@ -1,8 +1,8 @@
 //! Sums by accounts in a few bytes.
 
-ghost use Rattle.std.specs.Prelude.{◌≡◌, ◌<◌, ℕ, IsTrue, None, OnOk, OnErr};
+ghost use Rattle.std.specs.Prelude.{◌≡◌, ◌<◌, ℕ, IsTrue, false, None, IfOk, OnOk, OnErr};
 ghost use Rattle.accounts.specs.Sums.{sum_in};
-ghost use Rattle.ledger_index.specs.Sums.{lower, raise};
+ghost use Rattle.ledger_index.specs.Sums.{greatest, lower, raise};
 ghost use Rattle.ledger_index.specs.Kept.{sums_at};
 ghost use Rattle.ledger_index.specs.Entries.{AreTidy, Changes, Stays, by_key};
 
@@ -59,19 +59,28 @@ impl<K: Exact> Table<K> {
         }
     }
 
-    /// Adds an amount to a sum of an account, or as much of it as there is room for in 128 bits. Out of memory, all
-    /// sums stay.
+    /// The entries, in any order.
+    pub(crate) fn entries(&self) -> &IndexMap<K, Kept, Seeded>
+        ensures { result.now ≡ self.now.entries }
+    {
+        &self.entries
+    }
+
+    /// Adds an amount to a sum of an account, or as much of it as there is room for in 128 bits, and tells whether the
+    /// sum stands at the greatest number of 128 bits then. Out of memory, all sums stay.
     pub(crate) fn add(
         &mut self,
         alloc: Global,
         key: &K,
         field: u8,
         amount: u64,
-    ) -> Result<(), NoMemory>
+    ) -> Result<bool, NoMemory>
         requires named { field < 9 }
         requires more { 0 < amount }
         ensures ok { OnOk result (Changes K.eq raise (by_key K.eq self.old.entries)
             (by_key K.eq self.new.entries) key.now field amount) }
+        ensures full { IfOk result (λ full. full ≡ false →
+            sums_at (by_key K.eq self.new.entries key.now) field < greatest) }
         ensures err { OnErr result
             (Stays (by_key K.eq self.old.entries) (by_key K.eq self.new.entries)) }
     {
@@ -80,7 +89,7 @@ impl<K: Exact> Table<K> {
         }
         let kept = Kept::one(alloc, field, amount)?;
         match self.entries.insert(*key, kept) {
-            Ok(_) => Ok(()),
+            Ok(_) => Ok(false),
             Err(_) => Err(NoMemory),
         }
     }
