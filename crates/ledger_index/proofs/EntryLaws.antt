@@ -142,3 +142,12 @@ stays_after old mid new first is = λ q n. is q n ∙ ap (λ o. sums_at o n) (fi
 pub full_as : {E : Type 0} (result : Result Bool E) (a b : ℕ) → a ≡ b → IfOk result (λ full. full ≡ false → a < greatest) → IfOk result (λ full. full ≡ false → b < greatest)
 full_as (Ok full) a b same is = λ none. subst (λ n. n < greatest) same (is none)
 full_as (Err e) a b same is = is
+
+-- what is left of an entry, by the entry
+pub lowered_had : (entry : Option Kept) (was is : Kept) (field amount : ℕ) → ((k : ℕ) → kept_sum is k ≡ lower (amount_at field amount k) (kept_sum was k))
+    → entry ≡ Some was → (k : ℕ) → kept_sum is k ≡ lower (amount_at field amount k) (sums_at entry k)
+lowered_had entry was is field amount less had k = less k ∙ ap (λ o. lower (amount_at field amount k) (sums_at o k)) (sym had)
+
+pub lowered_away : (entry : Option Kept) (was is : Kept) (field amount : ℕ) → ((k : ℕ) → kept_sum is k ≡ lower (amount_at field amount k) (kept_sum was k))
+    → entry ≡ Some was → IsZero is → (k : ℕ) → sums_at None k ≡ lower (amount_at field amount k) (sums_at entry k)
+lowered_away entry was is field amount less had none k = sym (none k) ∙ lowered_had entry was is field amount less had k

@@ -3,3 +3,4 @@ pub mod EntryLaws
 pub mod PlaceLaws
 pub mod LedgerLaws
 pub mod JudgedLaws
+pub mod PlacedLaws

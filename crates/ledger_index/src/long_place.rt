@@ -51,6 +51,10 @@ impl Eq for LongPlace {
 
 impl Exact for LongPlace {
     ghost exact = { same_long };
+
+    fn kind(&self) -> u8 {
+        LongPlace::kind(self)
+    }
 }
 
 impl Hash for LongPlace {

@@ -106,6 +106,10 @@ impl Eq for Place {
 
 impl Exact for Place {
     ghost exact = { same_place };
+
+    fn kind(&self) -> u8 {
+        Place::kind(self)
+    }
 }
 
 impl Hash for Place {
