@@ -1,9 +1,9 @@
 -- What entries say once that under one key is changed.
 use Rattle.std.proofs.Common.{◌≡◌, ℕ, ◌<◌, ◌^◌, ◌==◌, ◌&&◌, Bool, true, false, cond, refl, ap, sym, ◌∙◌, subst, arith}
-use Rattle.std.specs.Prelude.{Option, Some, None, Result, Ok, Err, OnOk, OnErr, nat_lt}
+use Rattle.std.specs.Prelude.{Option, Some, None, Result, Ok, Err, IfOk, OnOk, OnErr, nat_lt}
 use Rattle.std.proofs.lemmas.Bool.{lt-ltb}
 use Rattle.ledger_index.specs.declared.kept.Kept.{Kept}
-use Rattle.ledger_index.specs.Sums.{amount_at, lower, raise}
+use Rattle.ledger_index.specs.Sums.{amount_at, greatest, lower, raise}
 use Rattle.ledger_index.specs.Kept.{IsZero, kept_sum, sums_at}
 use Rattle.ledger_index.specs.Entries.{AreTidy, Changes, Entries, Stays}
 
@@ -137,3 +137,17 @@ changes_after same how old mid new key field amount first is = λ q n.
 
 pub stays_after : {K : Type 0} (old mid new : Entries K) → ((q : K) → mid q ≡ old q) → Stays mid new → Stays old new
 stays_after old mid new first is = λ q n. is q n ∙ ap (λ o. sums_at o n) (first q)
+
+-- where a sum stays below the greatest, so does the same sum by another name
+pub full_as : {E : Type 0} (result : Result Bool E) (a b : ℕ) → a ≡ b → IfOk result (λ full. full ≡ false → a < greatest) → IfOk result (λ full. full ≡ false → b < greatest)
+full_as (Ok full) a b same is = λ none. subst (λ n. n < greatest) same (is none)
+full_as (Err e) a b same is = is
+
+-- what is left of an entry, by the entry
+pub lowered_had : (entry : Option Kept) (was is : Kept) (field amount : ℕ) → ((k : ℕ) → kept_sum is k ≡ lower (amount_at field amount k) (kept_sum was k))
+    → entry ≡ Some was → (k : ℕ) → kept_sum is k ≡ lower (amount_at field amount k) (sums_at entry k)
+lowered_had entry was is field amount less had k = less k ∙ ap (λ o. lower (amount_at field amount k) (sums_at o k)) (sym had)
+
+pub lowered_away : (entry : Option Kept) (was is : Kept) (field amount : ℕ) → ((k : ℕ) → kept_sum is k ≡ lower (amount_at field amount k) (kept_sum was k))
+    → entry ≡ Some was → IsZero is → (k : ℕ) → sums_at None k ≡ lower (amount_at field amount k) (sums_at entry k)
+lowered_away entry was is field amount less had none k = sym (none k) ∙ lowered_had entry was is field amount less had k

@@ -2,3 +2,5 @@ pub mod KeptLaws
 pub mod EntryLaws
 pub mod PlaceLaws
 pub mod LedgerLaws
+pub mod JudgedLaws
+pub mod PlacedLaws

@@ -1,7 +1,7 @@
 -- Tables of what is kept, by keys of some kind. It serves to state what private functions keep.
-use Rattle.std.specs.Prelude.{◌≡◌, ℕ, Bool, ◌&&◌, ◌==◌, nat_lt, Option, Some, if◌then◌else◌}
+use Rattle.std.specs.Prelude.{◌≡◌, ℕ, Bool, ◌&&◌, ◌==◌, nat_lt, Option, Some, IsSome, slice_get, if◌then◌else◌}
 use Rattle.std.specs.BTreeMap as map
-use Rattle.indexmap.specs.IndexMap.{IndexMap, get}
+use Rattle.indexmap.specs.IndexMap.{IndexMap, get, keys, values}
 use Rattle.accounts.specs.declared.account.Account.{Account}
 use Rattle.accounts.specs.Order.{account_cmp}
 use Rattle.ledger_index.specs.declared.kept.Kept.{Kept}
@@ -32,3 +32,9 @@ by_account entries account = map.get account_cmp entries account
 -- the entries of a map by other keys
 abbrev pub by_key : {K S : Type 0} → (K → K → Bool) → IndexMap K Kept S → Entries K
 by_key same entries key = get same entries key
+
+-- the entry of a key stands at an index
+pub record StandsAt {K S : Type 0} (same : K → K → Bool) (entries : IndexMap K Kept S) (i : ℕ) (k : K) : Type 0 where
+  pub key : slice_get (keys entries) i ≡ Some k
+  pub value : slice_get (values entries) i ≡ by_key same entries k
+  pub there : IsSome (slice_get (values entries) i)

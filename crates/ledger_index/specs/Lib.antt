@@ -6,3 +6,4 @@ pub mod LongPlace
 pub mod LongPlaceLaws
 pub mod Entries
 pub mod Ledger
+pub mod Judged

@@ -1,8 +1,8 @@
 //! What is kept of the nine sums of one account.
 
-ghost use Rattle.std.specs.Prelude.{◌≡◌, ◌<◌, ◌≤◌, ◌+◌, ◌↔◌, ℕ, IsTrue, IfSome, IfOk, OnOk, OnErr, slice_index};
+ghost use Rattle.std.specs.Prelude.{◌≡◌, ◌<◌, ◌≤◌, ◌+◌, ◌-◌, ◌↔◌, ℕ, IsTrue, true, false, IfSome, IfOk, OnOk, OnErr, slice_index};
 ghost use Rattle.accounts.specs.Sums.{sum_in};
-ghost use Rattle.ledger_index.specs.Sums.{amount_at, lower, raise};
+ghost use Rattle.ledger_index.specs.Sums.{amount_at, greatest, lower, raise};
 ghost use Rattle.ledger_index.specs.Kept.{IsZero, kept_sum};
 ghost use Rattle.ledger_index.specs.declared.kept.Kept.TheVariants.{Long};
 
@@ -71,22 +71,45 @@ impl Kept {
         Kept::of(alloc, totals)
     }
 
-    /// Adds an amount to a sum, or as much of it as there is room for in 128 bits. Out of memory, the sums stay.
+    /// Adds an amount to a sum, or as much of it as there is room for in 128 bits, and tells whether the sum stands at the
+    /// greatest number of 128 bits then. Out of memory, the sums stay.
     #[tactic(auto, unfolding(crate::specs::Kept::kept_sum))]
-    pub(crate) fn raise(&mut self, alloc: Global, field: u8, amount: u64) -> Result<(), NoMemory>
+    pub(crate) fn raise(&mut self, alloc: Global, field: u8, amount: u64) -> Result<bool, NoMemory>
         requires { field < 9 }
         ensures ok { OnOk result ((n : ℕ) →
             kept_sum self.new n ≡ raise (amount_at field amount n) (kept_sum self.old n)) }
+        ensures full { IfOk result (λ full. full ≡ false → kept_sum self.new field < greatest) }
         ensures err { OnErr result ((n : ℕ) → kept_sum self.new n ≡ kept_sum self.old n) }
     {
+        let field = usize::from(field);
+        if self.raise_in_place(field, amount) {
+            return Ok(false);
+        }
         if let Kept::Whole(totals) = self {
-            raise_sum(totals, usize::from(field), amount);
-            return Ok(());
+            return Ok(raise_sum(totals, field, amount));
         }
         let mut totals = self.totals();
-        raise_sum(&mut totals, usize::from(field), amount);
+        let full = raise_sum(&mut totals, field, amount);
         *self = Kept::of(alloc, totals)?;
-        Ok(())
+        Ok(full)
+    }
+
+    // Adds an amount to a sum where there is room for it in the bytes in which the sum is kept, and tells whether there
+    // is. Else the sums stay.
+    #[tactic(auto, unfolding(crate::specs::Kept::kept_sum), using(crate::proofs::KeptLaws::long_by))]
+    fn raise_in_place(&mut self, field: usize, amount: u64) -> bool
+        requires { field < 9 }
+        ensures raised { result ≡ true → (n : ℕ) →
+            kept_sum self.new n ≡ raise (amount_at field amount n) (kept_sum self.old n) }
+        ensures small { result ≡ true → kept_sum self.new field < greatest }
+        ensures stays { result ≡ false → (n : ℕ) → kept_sum self.new n ≡ kept_sum self.old n }
+    {
+        match self {
+            Kept::Few(few) => raise_few(few, field, amount),
+            Kept::Long(few, _) if field < 7 => raise_first(few, field, amount),
+            Kept::Long(_, long) => raise_last(long, field, amount),
+            Kept::Whole(_) => false,
+        }
     }
 
     /// Takes an amount from a sum, or all of it where it is less.
@@ -109,17 +132,120 @@ impl Kept {
     pub(crate) fn is_zero(&self) -> bool
         ensures { IsTrue result ↔ IsZero self.now }
     {
-        self.totals().f.iter().all(|sum| *sum == 0)
+        match self {
+            Kept::Few(few) => are_zero(few),
+            Kept::Long(few, long) => are_zero_long(few, long),
+            Kept::Whole(totals) => are_zero_whole(totals),
+        }
     }
 }
 
-// Adds an amount to a sum, or as much of it as there is room for in 128 bits.
-fn raise_sum(totals: &mut Totals, field: usize, amount: u64)
+// Whether nine sums are all zero.
+fn are_zero_whole(totals: &Totals) -> bool
+    ensures { IsTrue result ↔ ((n : ℕ) → sum_in totals.now n ≡ 0) }
+{
+    totals.f.iter().all(|sum| *sum == 0)
+}
+
+// Whether seven small sums and two longer ones are all zero.
+fn are_zero_long(few: &[u8; 7], long: &[u32; 2]) -> bool
+    ensures { IsTrue result ↔ IsZero (Long few.now long.now) }
+{
+    if long[0] != 0 || long[1] != 0 {
+        return false;
+    }
+    are_zero(few)
+}
+
+// Whether some bytes are all zero.
+fn are_zero(bytes: &[u8]) -> bool
+    ensures { IsTrue result ↔ ((n : ℕ) → slice_index bytes.now n ≡ 0) }
+{
+    bytes.iter().all(|byte| *byte == 0)
+}
+
+// Adds an amount to a sum, or as much of it as there is room for in 128 bits, and tells whether the sum stands at the
+// greatest number of 128 bits then.
+fn raise_sum(totals: &mut Totals, field: usize, amount: u64) -> bool
     requires { field < 9 }
-    ensures { (n : ℕ) →
+    ensures raised { (n : ℕ) →
         sum_in totals.new n ≡ raise (amount_at field amount n) (sum_in totals.old n) }
+    ensures full { result ≡ false → sum_in totals.new field < greatest }
 {
     totals.f[field] = totals.f[field].saturating_add(u128::from(amount));
+    totals.f[field] == u128::MAX
+}
+
+// Adds an amount to one of nine small sums, where there is room for it in a byte, and tells whether there is.
+fn raise_few(few: &mut [u8; 9], field: usize, amount: u64) -> bool
+    requires { field < 9 }
+    ensures raised { result ≡ true → (n : ℕ) →
+        slice_index few.new n ≡ raise (amount_at field amount n) (slice_index few.old n) }
+    ensures small { result ≡ true → slice_index few.new field < greatest }
+    ensures stays { result ≡ false → few.new ≡ few.old }
+{
+    match raised_byte(few[field], amount) {
+        Some(sum) => {
+            few[field] = sum;
+            true
+        }
+        None => false,
+    }
+}
+
+// Adds an amount to one of seven small sums, where there is room for it in a byte, and tells whether there is.
+fn raise_first(few: &mut [u8; 7], field: usize, amount: u64) -> bool
+    requires { field < 7 }
+    ensures raised { result ≡ true → (n : ℕ) → n < 7 →
+        slice_index few.new n ≡ raise (amount_at field amount n) (slice_index few.old n) }
+    ensures small { result ≡ true → slice_index few.new field < greatest }
+    ensures stays { result ≡ false → few.new ≡ few.old }
+{
+    match raised_byte(few[field], amount) {
+        Some(sum) => {
+            few[field] = sum;
+            true
+        }
+        None => false,
+    }
+}
+
+// Adds an amount to sum 7 or 8, where there is room for it in 32 bits, and tells whether there is.
+fn raise_last(long: &mut [u32; 2], field: usize, amount: u64) -> bool
+    requires last { 7 ≤ field }
+    requires named { field < 9 }
+    ensures raised { result ≡ true → (n : ℕ) →
+        slice_index long.new n ≡ raise (amount_at field amount (n + 7)) (slice_index long.old n) }
+    ensures small { result ≡ true → slice_index long.new (field - 7) < greatest }
+    ensures stays { result ≡ false → long.new ≡ long.old }
+{
+    match raised(long[field - 7], amount) {
+        Some(sum) => {
+            long[field - 7] = sum;
+            true
+        }
+        None => false,
+    }
+}
+
+// A number with an amount more, where that is below 2^8.
+fn raised_byte(sum: u8, amount: u64) -> Option<u8>
+    ensures { IfSome result (λ more. more ≡ sum + amount) }
+{
+    match u8::try_from(amount) {
+        Ok(amount) => sum.checked_add(amount),
+        Err(_) => None,
+    }
+}
+
+// A number with an amount more, where that is below 2^32.
+fn raised(sum: u32, amount: u64) -> Option<u32>
+    ensures { IfSome result (λ more. more ≡ sum + amount) }
+{
+    match u32::try_from(amount) {
+        Ok(amount) => sum.checked_add(amount),
+        Err(_) => None,
+    }
 }
 
 // Takes an amount from a sum, or all of it where it is less.

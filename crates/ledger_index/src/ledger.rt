@@ -1,18 +1,22 @@
 //! The ledger.
 
-ghost use Rattle.std.specs.Prelude.{◌≡◌, ℕ, ◌+◌, ◌≤◌, IfOk, OnOk, OnErr, nat_lt};
+ghost use Rattle.std.specs.Prelude.{◌≡◌, ℕ, ◌+◌, ◌<◌, ◌≤◌, [], false, IfOk, OnOk, OnErr, nat_lt};
+ghost use Rattle.std.specs.BTreeMap.{btree_map_len};
+ghost use Rattle.indexmap.specs.IndexMap.{index_map_len};
 ghost use Rattle.accounts.specs.Broken.{is_broken};
 ghost use Rattle.accounts.specs.Least.{IsLeastBroken};
 ghost use Rattle.accounts.specs.Sums.{sum_in};
 ghost use Rattle.accounts.specs.Tally.{no_sums};
 ghost use Rattle.recon_disk.specs.Outside.{counted};
-ghost use Rattle.ledger_index.specs.Sums.{changed, lower, raise};
+ghost use Rattle.ledger_index.specs.Sums.{changed, greatest, lower, raise};
+ghost use Rattle.ledger_index.specs.Judged.{IsLeastBut, is_later, lesser_of};
 
+use crate::judged::{breaks, stand_in, stands_before};
 use crate::long_place::LongPlace;
 use crate::place::Place;
 use crate::table::Table;
-use crate::whole::Whole;
-use accounts::{Account, Totals};
+use crate::whole::{Whole, copy_of};
+use accounts::{Account, Totals, broken};
 use recon_disk::Steps;
 use std::alloc::Global;
 use std::marker::PhantomData;
@@ -55,6 +59,13 @@ impl<L> LedgerIndex<L> {
         ensures looks { steps.new ≡ counted steps.old }
     {
         steps.look();
+        self.totals_of(account)
+    }
+
+    // The totals of an account, by a look that is not counted.
+    fn totals_of(&self, account: &Account) -> Totals
+        ensures { (n : ℕ) → sum_in result n ≡ sums_of self.now account.now n }
+    {
         if let Some(place) = Place::of(account) {
             return self.short.get(&place);
         }
@@ -66,7 +77,6 @@ impl<L> LedgerIndex<L> {
 
     /// Adds an amount to the sum of an account with this number. A sum that would pass the greatest number of 128 bits
     /// stays at that number. A field above 8 names no sum, and changes nothing. Out of memory, the ledger stays.
-    #[tactic(auto, using(crate::proofs::LedgerLaws::is_tidy))]
     pub fn add(
         &mut self,
         account: &Account,
@@ -80,10 +90,32 @@ impl<L> LedgerIndex<L> {
         ensures entries { IsTidy self.new }
         ensures looks { steps.new ≡ counted steps.old }
     {
+        self.add_saturating(account, field, amount, steps)?;
+        Ok(())
+    }
+
+    /// Adds as `add` does, and tells whether the sum stands at the greatest number of 128 bits then, where a part of the
+    /// amount may be lost. A field above 8 names no sum: false.
+    #[tactic(auto, using(crate::proofs::LedgerLaws::is_tidy))]
+    pub fn add_saturating(
+        &mut self,
+        account: &Account,
+        field: u8,
+        amount: u64,
+        steps: &mut Steps<L>,
+    ) -> Result<bool, NoMemory>
+        ensures ok { OnOk result
+            (sums_of self.new ≡ changed raise (sums_of self.old) account.now field amount) }
+        ensures full { IfOk result (λ full. full ≡ false →
+            sums_of self.new account.now field < greatest) }
+        ensures err { OnErr result (sums_of self.new ≡ sums_of self.old) }
+        ensures entries { IsTidy self.new }
+        ensures looks { steps.new ≡ counted steps.old }
+    {
         // A call that changes nothing is a look too.
         steps.look();
         if !names_a_sum(field) || amount == 0 {
-            return Ok(());
+            return Ok(is_full(&self.totals_of(account), field));
         }
         if let Some(place) = Place::of(account) {
             self.short.seed(self.alloc, &steps.seed());
@@ -121,14 +153,89 @@ impl<L> LedgerIndex<L> {
         }
     }
 
-    /// The least account that its totals break, `None` exactly where no account is broken. It goes through all entries, each of which
-    /// is a look. The account takes its memory from the ledger's allocator.
+    /// The least account that its totals break, `None` exactly where no account is broken. It goes through all entries,
+    /// each of which is a look. The account takes its memory from the ledger's allocator.
+    #[tactic(auto, using(crate::proofs::JudgedLaws::least_ok), unfolding(crate::specs::Ledger::entries_of))]
     pub fn least_broken(&self, steps: &mut Steps<L>) -> Result<Option<Account>, NoMemory>
         ensures least { IfOk result (IsLeastBroken
             (λ account. is_broken account (sums_of self.now account))) }
         ensures looks { steps.new ≤ steps.old + entries_of self.now }
     {
-        Err(NoMemory)
+        let least = self.least_short(steps)?;
+        let least = self.least_long(least, steps)?;
+        self.least_whole(least, steps)
+    }
+
+    // The least broken one of the accounts with short places.
+    fn least_short(&self, steps: &mut Steps<L>) -> Result<Option<Account>, NoMemory>
+        ensures least { IfOk result (IsLeastBut (sums_of self.now)
+            (is_later [] self.now.long.entries.entries self.now.whole.entries.entries)) }
+        ensures looks { steps.new ≤ steps.old + index_map_len self.now.short.entries }
+    {
+        let mut stand_in = stand_in(self.alloc);
+        let mut least = None;
+        for (place, kept) in self.short.entries() {
+            steps.look();
+            if breaks(place.kind(), kept, &mut stand_in) {
+                least = self.lesser(place.account(self.alloc)?, least);
+            }
+        }
+        Ok(least)
+    }
+
+    // The least broken one of those with long places, and of an account that is the least with a short one.
+    fn least_long(
+        &self,
+        first: Option<Account>,
+        steps: &mut Steps<L>,
+    ) -> Result<Option<Account>, NoMemory>
+        ensures least { IsLeastBut (sums_of self.now)
+            (is_later [] self.now.long.entries.entries self.now.whole.entries.entries) first →
+            IfOk result (IsLeastBut (sums_of self.now)
+            (is_later [] [] self.now.whole.entries.entries)) }
+        ensures looks { steps.new ≤ steps.old + index_map_len self.now.long.entries }
+    {
+        let mut stand_in = stand_in(self.alloc);
+        let mut least = first;
+        for (place, kept) in self.long.entries() {
+            steps.look();
+            if breaks(place.kind(), kept, &mut stand_in) {
+                least = self.lesser(place.account(self.alloc)?, least);
+            }
+        }
+        Ok(least)
+    }
+
+    // The least broken one of those without places, and of an account that is the least with one.
+    fn least_whole(
+        &self,
+        first: Option<Account>,
+        steps: &mut Steps<L>,
+    ) -> Result<Option<Account>, NoMemory>
+        ensures least { IsLeastBut (sums_of self.now) (is_later [] [] self.now.whole.entries.entries) first →
+            IfOk result (IsLeastBut (sums_of self.now) (is_later [] [] [])) }
+        ensures looks { steps.new ≤ steps.old + btree_map_len self.now.whole.entries }
+    {
+        let mut stand_in = stand_in(self.alloc);
+        let mut least = first;
+        for (account, kept) in self.whole.entries() {
+            steps.look();
+            if breaks(account.kind, kept, &mut stand_in) {
+                least = self.lesser(copy_of(self.alloc, account)?, least);
+            }
+        }
+        Ok(least)
+    }
+
+    // An account, where the ledger breaks it and it stands before another, or else the other.
+    fn lesser(&self, account: Account, other: Option<Account>) -> Option<Account>
+        ensures { result
+            ≡ lesser_of (is_broken account (sums_of self.now account)) account other }
+    {
+        if broken(&account, &self.totals_of(&account)) && stands_before(&account, &other) {
+            return Some(account);
+        }
+        other
     }
 }
 
@@ -137,4 +244,14 @@ fn names_a_sum(field: u8) -> bool
     ensures { result ≡ nat_lt field 9 }
 {
     field < 9
+}
+
+// Whether a sum stands at the greatest number of 128 bits. A field above 8 names no sum.
+fn is_full(totals: &Totals, field: u8) -> bool
+    ensures { result ≡ false → sum_in totals.now field < greatest }
+{
+    match totals.f.get(usize::from(field)) {
+        Some(sum) => *sum == u128::MAX,
+        None => false,
+    }
 }

@@ -1,6 +1,7 @@
 //! The ledger of an accepted image: the totals of its accounts. Each look into it is counted.
 #![tactic(auto)]
 
+mod judged;
 mod kept;
 mod ledger;
 mod long_place;

@@ -1,13 +1,15 @@
 //! Accounts in 56 bytes.
 
-ghost use Rattle.std.specs.Prelude.{◌≡◌, ◌≤◌, length};
+ghost use Rattle.std.specs.Prelude.{◌≡◌, ◌≤◌, IfOk, length};
 ghost use Rattle.ledger_index.specs.LongPlace as spec;
 ghost use Rattle.ledger_index.specs.LongPlaceLaws.{long_equiv, long_fed_alike, long_per, same_long};
 
-use crate::place::{head_of, two_of};
+use crate::place::{front_of, head_of, two_of};
 use crate::table::Exact;
 use accounts::Account;
+use std::alloc::Global;
 use std::hash::{Hash, Hasher};
+use verdict::{Key, NoMemory};
 
 /// An account of no block whose numbers are below 2^32, with the `length` bytes of its tail and zeros behind them. The
 /// kind of its key is its sort.
@@ -49,6 +51,10 @@ impl Eq for LongPlace {
 
 impl Exact for LongPlace {
     ghost exact = { same_long };
+
+    fn kind(&self) -> u8 {
+        LongPlace::kind(self)
+    }
 }
 
 impl Hash for LongPlace {
@@ -95,6 +101,31 @@ impl LongPlace {
             offset,
             detail,
             tail: padded(tail),
+        })
+    }
+
+    /// The kind of the account.
+    pub(crate) fn kind(&self) -> u8
+        ensures { result ≡ self.now.kind }
+    {
+        self.kind
+    }
+
+    /// The account that has this place.
+    pub(crate) fn account(&self, alloc: Global) -> Result<Account, NoMemory>
+        ensures { IfOk result (λ account. account ≡ spec.account_of self.now) }
+    {
+        Ok(Account {
+            kind: self.kind,
+            tree: u64::from(self.tree),
+            block: 0,
+            key: Key {
+                objectid: u64::from(self.objectid),
+                kind: self.sort,
+                offset: u64::from(self.offset),
+            },
+            detail: u64::from(self.detail),
+            tail: front_of(alloc, &self.tail, self.length)?,
         })
     }
 }

@@ -1,12 +1,14 @@
 //! Accounts in 32 bytes.
 
-ghost use Rattle.std.specs.Prelude.{◌≡◌, ◌≤◌, length};
+ghost use Rattle.std.specs.Prelude.{◌≡◌, ◌≤◌, IfOk, length, take};
 ghost use Rattle.ledger_index.specs.Place as spec;
 ghost use Rattle.ledger_index.specs.PlaceLaws.{fed_alike, place_equiv, place_per, same_place};
 
 use crate::table::Exact;
 use accounts::Account;
+use std::alloc::Global;
 use std::hash::{Hash, Hasher};
+use verdict::{Bytes, Key, NoMemory};
 
 /// An account in 32 bytes, as each is that the records of a usual image post to. The kind of its key is its sort.
 #[derive(Clone, Copy, Debug)]
@@ -104,6 +106,10 @@ impl Eq for Place {
 
 impl Exact for Place {
     ghost exact = { same_place };
+
+    fn kind(&self) -> u8 {
+        Place::kind(self)
+    }
 }
 
 impl Hash for Place {
@@ -159,6 +165,13 @@ pub(crate) fn two_of(low: u32, high: u32) -> u64
     u64::from(low) + 4294967296 * u64::from(high)
 }
 
+/// So many first bytes, or all where there are less.
+pub(crate) fn front_of(alloc: Global, bytes: &[u8], length: u8) -> Result<Bytes, NoMemory>
+    ensures { IfOk result (λ front. front ≡ take length bytes.now) }
+{
+    Bytes::of(alloc, &bytes[..usize::from(length).min(bytes.len())])
+}
+
 const _: () = prove!(size_of::<Place>() == 32);
 
 impl Place {
@@ -170,6 +183,64 @@ impl Place {
         match Place::plain(account) {
             Some(place) => Some(place),
             None => Place::named(account),
+        }
+    }
+
+    /// The kind of the account.
+    pub(crate) fn kind(&self) -> u8
+        ensures { result ≡ (spec.account_of self.now).kind }
+    {
+        match self {
+            Place::Plain { kind, .. } => *kind,
+            Place::Named { kind, .. } => *kind,
+        }
+    }
+
+    /// The account that has this place.
+    pub(crate) fn account(&self, alloc: Global) -> Result<Account, NoMemory>
+        ensures { IfOk result (λ account. account ≡ spec.account_of self.now) }
+    {
+        match self {
+            Place::Plain {
+                kind,
+                sort,
+                tree,
+                block,
+                objectid,
+                offset,
+            } => Ok(Account {
+                kind: *kind,
+                tree: u64::from(*tree),
+                block: *block,
+                key: Key {
+                    objectid: *objectid,
+                    kind: *sort,
+                    offset: *offset,
+                },
+                detail: 0,
+                tail: Bytes::from(Vec::new(alloc)),
+            }),
+            Place::Named {
+                length,
+                kind,
+                sort,
+                tree,
+                objectid,
+                offset,
+                detail,
+                tail,
+            } => Ok(Account {
+                kind: *kind,
+                tree: u64::from(*tree),
+                block: 0,
+                key: Key {
+                    objectid: u64::from(*objectid),
+                    kind: *sort,
+                    offset: u64::from(*offset),
+                },
+                detail: u64::from(*detail),
+                tail: front_of(alloc, tail, *length)?,
+            }),
         }
     }
 

@@ -1,10 +1,10 @@
 //! Sums by accounts in a few bytes.
 
-ghost use Rattle.std.specs.Prelude.{◌≡◌, ◌<◌, ℕ, IsTrue, None, OnOk, OnErr};
+ghost use Rattle.std.specs.Prelude.{◌≡◌, ◌<◌, ℕ, IsTrue, false, None, IfSome, IfOk, OnOk, OnErr};
 ghost use Rattle.accounts.specs.Sums.{sum_in};
-ghost use Rattle.ledger_index.specs.Sums.{lower, raise};
+ghost use Rattle.ledger_index.specs.Sums.{greatest, lower, raise};
 ghost use Rattle.ledger_index.specs.Kept.{sums_at};
-ghost use Rattle.ledger_index.specs.Entries.{AreTidy, Changes, Stays, by_key};
+ghost use Rattle.ledger_index.specs.Entries.{AreTidy, Changes, StandsAt, Stays, by_key};
 
 use crate::kept::Kept;
 use crate::seeded::Seeded;
@@ -16,6 +16,9 @@ use verdict::NoMemory;
 
 /// Keys of which equal ones are one and the same.
 pub(crate) trait Exact: Eq + Hash + Copy {
+    /// The kind of the account.
+    fn kind(&self) -> u8;
+
     ghost exact: { (x y : Self) → IsTrue (Self.eq x y) → x ≡ y };
 }
 
@@ -24,6 +27,8 @@ pub(crate) trait Exact: Eq + Hash + Copy {
 pub(crate) struct Table<K: Exact> {
     entries: IndexMap<K, Kept, Seeded>,
     is_seeded: bool,
+    // Where the entry stood that was last found for an account of a kind, by the kind modulo 32: a hint, and no more.
+    near: [usize; 32],
     ghost tidy: { AreTidy (by_key K.eq entries) },
 }
 
@@ -35,6 +40,7 @@ impl<K: Exact> Table<K> {
         Table {
             entries: IndexMap::with_hasher(alloc, Seeded::of(&[0; 16])),
             is_seeded: false,
+            near: [0; 32],
         }
     }
 
@@ -59,28 +65,41 @@ impl<K: Exact> Table<K> {
         }
     }
 
-    /// Adds an amount to a sum of an account, or as much of it as there is room for in 128 bits. Out of memory, all
-    /// sums stay.
+    /// The entries, in any order.
+    pub(crate) fn entries(&self) -> &IndexMap<K, Kept, Seeded>
+        ensures { result.now ≡ self.now.entries }
+    {
+        &self.entries
+    }
+
+    /// Adds an amount to a sum of an account, or as much of it as there is room for in 128 bits, and tells whether the
+    /// sum stands at the greatest number of 128 bits then. Out of memory, all sums stay.
     pub(crate) fn add(
         &mut self,
         alloc: Global,
         key: &K,
         field: u8,
         amount: u64,
-    ) -> Result<(), NoMemory>
+    ) -> Result<bool, NoMemory>
         requires named { field < 9 }
         requires more { 0 < amount }
         ensures ok { OnOk result (Changes K.eq raise (by_key K.eq self.old.entries)
             (by_key K.eq self.new.entries) key.now field amount) }
+        ensures full { IfOk result (λ full. full ≡ false →
+            sums_at (by_key K.eq self.new.entries key.now) field < greatest) }
         ensures err { OnErr result
             (Stays (by_key K.eq self.old.entries) (by_key K.eq self.new.entries)) }
     {
-        if let Some(kept) = self.entries.get_mut(key) {
+        if let Some(at) = self.index_of(key) {
+            let kept = self.entries.get_index_mut(at).unwrap();
             return kept.raise(alloc, field, amount);
         }
         let kept = Kept::one(alloc, field, amount)?;
-        match self.entries.insert(*key, kept) {
-            Ok(_) => Ok(()),
+        match self.entries.insert_full(*key, kept) {
+            Ok((at, _)) => {
+                self.near[slot_of(key)] = at;
+                Ok(false)
+            }
             Err(_) => Err(NoMemory),
         }
     }
@@ -91,12 +110,38 @@ impl<K: Exact> Table<K> {
         ensures { Changes K.eq lower (by_key K.eq self.old.entries)
             (by_key K.eq self.new.entries) key.now field amount }
     {
-        let Some(kept) = self.entries.get_mut(key) else {
+        let Some(at) = self.index_of(key) else {
             return;
         };
+        let kept = self.entries.get_index_mut(at).unwrap();
         kept.lower(field, amount);
         if kept.is_zero() {
             self.entries.swap_remove(key);
         }
     }
+
+    // Where the entry of an account stands, or `None` where it has none. The entry that was last found for an account of
+    // its kind is looked at first, without a hash.
+    fn index_of(&mut self, key: &K) -> Option<usize>
+        ensures entries { self.new.entries ≡ self.old.entries }
+        ensures found { IfSome result (λ i. StandsAt K.eq self.old.entries i key.now) }
+        ensures none { result ≡ None → by_key K.eq self.old.entries key.now ≡ None }
+    {
+        let near = self.near[slot_of(key)];
+        if let Some((there, _)) = self.entries.get_index(near) {
+            if *there == *key {
+                return Some(near);
+            }
+        }
+        let (at, _, _) = self.entries.get_full(key)?;
+        self.near[slot_of(key)] = at;
+        Some(at)
+    }
+}
+
+// The slot of a key among the hints, by the kind of its account.
+fn slot_of<K: Exact>(key: &K) -> usize
+    ensures { result < 32 }
+{
+    usize::from(key.kind() % 32)
 }

@@ -1,9 +1,9 @@
 //! Sums by whole accounts.
 
-ghost use Rattle.std.specs.Prelude.{◌≡◌, ◌<◌, ℕ, None, IfOk, OnOk, OnErr};
+ghost use Rattle.std.specs.Prelude.{◌≡◌, ◌<◌, ℕ, false, None, IfOk, OnOk, OnErr};
 ghost use Rattle.accounts.specs.declared.account.Account.{Account as AnAccount};
 ghost use Rattle.accounts.specs.Sums.{is_same, sum_in};
-ghost use Rattle.ledger_index.specs.Sums.{lower, raise};
+ghost use Rattle.ledger_index.specs.Sums.{greatest, lower, raise};
 ghost use Rattle.ledger_index.specs.Kept.{sums_at};
 ghost use Rattle.ledger_index.specs.Entries.{AreTidy, Changes, Stays, by_account};
 
@@ -41,19 +41,28 @@ impl Whole {
         }
     }
 
-    /// Adds an amount to a sum of an account, or as much of it as there is room for in 128 bits. Out of memory, all
-    /// sums stay.
+    /// The entries, in the order of their accounts.
+    pub(crate) fn entries(&self) -> &BTreeMap<Account, Kept>
+        ensures { result.now ≡ self.now.entries }
+    {
+        &self.entries
+    }
+
+    /// Adds an amount to a sum of an account, or as much of it as there is room for in 128 bits, and tells whether the
+    /// sum stands at the greatest number of 128 bits then. Out of memory, all sums stay.
     pub(crate) fn add(
         &mut self,
         alloc: Global,
         account: &Account,
         field: u8,
         amount: u64,
-    ) -> Result<(), NoMemory>
+    ) -> Result<bool, NoMemory>
         requires named { field < 9 }
         requires more { 0 < amount }
         ensures ok { OnOk result (Changes is_same raise (by_account self.old.entries)
             (by_account self.new.entries) account.now field amount) }
+        ensures full { IfOk result (λ full. full ≡ false →
+            sums_at (by_account self.new.entries account.now) field < greatest) }
         ensures err { OnErr result
             (Stays (by_account self.old.entries) (by_account self.new.entries)) }
     {
@@ -63,7 +72,7 @@ impl Whole {
         let kept = Kept::one(alloc, field, amount)?;
         let account = copy_of(alloc, account)?;
         match self.entries.insert(account, kept) {
-            Ok(_) => Ok(()),
+            Ok(_) => Ok(false),
             Err(_) => Err(NoMemory),
         }
     }
@@ -84,8 +93,8 @@ impl Whole {
     }
 }
 
-// A copy of an account.
-fn copy_of(alloc: Global, account: &Account) -> Result<Account, NoMemory>
+/// A copy of an account.
+pub(crate) fn copy_of(alloc: Global, account: &Account) -> Result<Account, NoMemory>
     ensures { IfOk result (λ copy. copy ≡ account.now) }
 {
     Ok(Account {

@@ -1,15 +1,13 @@
 //! A ledger, changed by lists of postings.
 
-ghost use Rattle.std.specs.Prelude.{◌≡◌, ◌+◌, ◌*◌, ◌<◌, ◌≤◌, ◌++◌, false, List, length, OnOk};
+ghost use Rattle.std.specs.Prelude.{◌≡◌, ◌+◌, ◌≤◌, ◌++◌, List, length, OnOk};
 ghost use Rattle.std.specs.Option.{option_copied};
-ghost use Rattle.accounts.specs.Sums.{sum_in};
 ghost use Rattle.accounts.specs.declared.postings.Posting.{Posting};
 ghost use Rattle.ledger_index.specs.Ledger.{IsTidy, sums_of};
-ghost use Rattle.ledger_index.specs.Sums.{greatest};
 ghost use Rattle.touched_accounts.specs.Least.{IsLeastTouched, stands_before};
 ghost use Rattle.touched_accounts.specs.Sums.{less_all, with_all};
 
-use accounts::{Account, Postings, Totals, broken};
+use accounts::{Account, Postings, broken};
 use ledger_index::LedgerIndex;
 use recon_disk::Steps;
 use verdict::NoMemory;
@@ -24,27 +22,15 @@ pub fn put_all<L>(
     ensures sums { OnOk result
         (sums_of ledger.new ≡ with_all (sums_of ledger.old) postings.now) }
     ensures entries { IsTidy ledger.old → IsTidy ledger.new }
-    ensures looks { steps.new ≤ steps.old + 2 * length postings.now }
+    ensures looks { steps.new ≤ steps.old + length postings.now }
 {
     for posting in postings.as_slice() {
-        ledger.add(&posting.account, posting.field, posting.amount, steps)?;
-        let totals = ledger.get(&posting.account, steps);
-        if is_full(&totals, posting.field) {
+        let full = ledger.add_saturating(&posting.account, posting.field, posting.amount, steps)?;
+        if full {
             return Err(NoMemory);
         }
     }
     Ok(())
-}
-
-// Whether a sum stands at the greatest number of 128 bits, where a part of what was added may be lost. A field above 8
-// names no sum.
-fn is_full(totals: &Totals, field: u8) -> bool
-    ensures { result ≡ false → sum_in totals.now field < greatest }
-{
-    match totals.f.get(usize::from(field)) {
-        Some(sum) => *sum == u128::MAX,
-        None => false,
-    }
 }
 
 /// Takes each of some postings from a ledger, or all that stands where less does. An entry stands for exactly the accounts

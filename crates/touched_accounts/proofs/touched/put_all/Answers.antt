@@ -1,6 +1,5 @@
-use Rattle.std.proofs.Common.{◌<◌, sym, subst, arith}
+use Rattle.std.proofs.Common.{sym, arith, rules}
 use Rattle.ledger_index.specs.Ledger.{sums_of}
-use Rattle.ledger_index.specs.Sums.{greatest}
 use Rattle.touched_accounts.proofs.Changed.{put_next, with_none}
 use Rattle.touched_accounts.proofs.touched.put_all.Goals as goal
 
@@ -10,11 +9,10 @@ loop-posting-init g c = record { sums = sym (with_none (sums_of c.args.ledger.no
 pub loop-posting-preserved : goal.loop-posting-preserved
 loop-posting-preserved g c =
     let p = c.posting-item.result in
-    let room : sums_of c.add.new.self p.account p.field < greatest =
-    subst (λ k. k < greatest) (c.get-totals.ensures.sums p.field) (c.is_full.ensures c.if-is_full.false) in
     record {
-      sums = put_next (sums_of c.args.ledger.now) (sums_of c.loop-posting.ledger) (sums_of c.add.new.self) c.as_slice-posting-items.result.now
-          c.loop-posting.posting-index p p c.loop-posting-test.true c.posting-item.is c.loop-posting.invariant.sums c.in_ok-add.ensures.ok room;
-      entries = λ _. c.add.ensures.entries;
-      looks = omega (arith, c.add.ensures.looks, c.get-totals.ensures.looks, c.loop-posting.invariant.looks);
+      sums = put_next (sums_of c.args.ledger.now) (sums_of c.loop-posting.ledger) (sums_of c.add_saturating.new.self) c.as_slice-posting-items.result.now
+          c.loop-posting.posting-index p p c.loop-posting-test.true c.posting-item.is c.loop-posting.invariant.sums
+          c.in_ok-full.ensures.ok (c.in_ok-full.ensures.full (search rules));
+      entries = λ _. c.add_saturating.ensures.entries;
+      looks = omega (arith, c.add_saturating.ensures.looks, c.loop-posting.invariant.looks);
     }

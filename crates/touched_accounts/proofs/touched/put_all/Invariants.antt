@@ -1,12 +1,12 @@
-use Rattle.std.proofs.Common.{◌≡◌, ◌+◌, ◌*◌, ◌≤◌, take}
+use Rattle.std.proofs.Common.{◌≡◌, ◌+◌, ◌≤◌, take}
 use Rattle.ledger_index.specs.Ledger.{IsTidy, sums_of}
 use Rattle.touched_accounts.specs.Sums.{with_all}
 use Rattle.touched_accounts.proofs.touched.put_all.Given as goal
 
--- the postings so far are added, with two looks each
+-- the postings so far are added, with a look each
 abbrev pub invariant-loop-posting : goal.invariant-loop-posting
 invariant-loop-posting g l = record {
   sums : sums_of l.ledger ≡ with_all (sums_of l.fn.ledger) (take l.posting-index l.posting-items);
   entries : IsTidy l.fn.ledger → IsTidy l.ledger;
-  looks : l.steps ≤ l.fn.steps + 2 * l.posting-index;
+  looks : l.steps ≤ l.fn.steps + l.posting-index;
 }

@@ -1,12 +1,16 @@
-use Rattle.std.proofs.Common.{◌≡◌, sym, ◌∙◌, rules, length, get_or, ⊎_elim}
-use Rattle.std.specs.Prelude.{IsTrue, ◌↔◌, EachIndex}
-use Rattle.std.proofs.lemmas.Bool.{cases_lt}
-use Rattle.std.proofs.lemmas.List.{get_or_past}
+use Rattle.std.proofs.Common.{◌≡◌, ap, sym, ◌∙◌}
+use Rattle.std.specs.Prelude.{ℕ}
+use Rattle.accounts.specs.Sums.{sum_in}
+use Rattle.ledger_index.specs.Kept.{kept_sum}
+use Rattle.ledger_index.proofs.KeptLaws.{zero_few}
 use Rattle.ledger_index.proofs.kept.Kept.is_zero.Goals as goal
 
-pub returns : goal.returns
-returns c =
-    let each : IsTrue c.all.result ↔ EachIndex c.totals.result.f (λ n. get_or c.totals.result.f n 0 ≡ 0) = search rules in (
-      λ is n. sym (c.totals.ensures n) ∙ ⊎_elim (λ lt. each.0 is n lt) (λ le. get_or_past c.totals.result.f n 0 le) (cases_lt n (length c.totals.result.f)),
-      λ zero. each.1 (λ n lt. c.totals.ensures n ∙ zero n),
-    )
+pub returns-in-Few : goal.returns-in-Few
+returns-in-Few c = zero_few c.args.self.now c.in-Few.few c.are_zero.result c.in-Few.is c.are_zero.ensures
+
+pub returns-in-Whole : goal.returns-in-Whole
+unfolding kept_sum
+returns-in-Whole c =
+    let e : (n : ℕ) → kept_sum c.args.self.now n ≡ sum_in c.deref.result.now n =
+    λ n. ap (λ k. kept_sum k n) c.in-Whole.is ∙ ap (λ t. sum_in t n) (sym c.deref.ensures) in
+    (λ is n. e n ∙ c.are_zero_whole.ensures.0 is n, λ none. c.are_zero_whole.ensures.1 (λ n. sym (e n) ∙ none n))

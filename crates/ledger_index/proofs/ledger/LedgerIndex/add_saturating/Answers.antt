@@ -3,9 +3,9 @@ use Rattle.ledger_index.specs.Sums.{raise}
 use Rattle.ledger_index.specs.Entries.{by_key}
 use Rattle.ledger_index.specs.LongPlace.{is_same_long}
 use Rattle.ledger_index.specs.Place.{is_same_place}
-use Rattle.ledger_index.proofs.EntryLaws.{changes_after, on_err, on_ok, raise_none, stays_after}
-use Rattle.ledger_index.proofs.LedgerLaws.{all_stay, changed_above, changed_nothing, long_changed, short_changed, whole_changed}
-use Rattle.ledger_index.proofs.ledger.LedgerIndex.add.Goals as goal
+use Rattle.ledger_index.proofs.EntryLaws.{changes_after, full_as, on_err, on_ok, raise_none, stays_after}
+use Rattle.ledger_index.proofs.LedgerLaws.{all_stay, at_long, at_place, at_whole, changed_above, changed_nothing, long_changed, short_changed, whole_changed}
+use Rattle.ledger_index.proofs.ledger.LedgerIndex.add_saturating.Goals as goal
 
 pub returns-then-not-names_a_sum-clause-ok : goal.returns-then-not-names_a_sum-clause-ok
 returns-then-not-names_a_sum-clause-ok g c =
@@ -44,3 +44,13 @@ returns-in-None-clause-ok g c =
 
 pub returns-in-None-clause-err : goal.returns-in-None-clause-err
 returns-in-None-clause-err g c = on_err c.add-in-None.result (λ is. all_stay _ _ (λ p n. refl) (λ l n. refl) is) c.add-in-None.ensures.err
+
+pub returns-in-Some-clause-full : goal.returns-in-Some-clause-full
+returns-in-Some-clause-full g c = full_as c.add.result _ _ (at_place _ _ _ c.in-Some.ensures c.args.field) c.add.ensures.full
+
+pub returns-in-Some-of-clause-full : goal.returns-in-Some-of-clause-full
+returns-in-Some-of-clause-full g c =
+    full_as c.add-in-Some-of.result _ _ (at_long _ _ _ c.in_default.ensures c.in-Some-of.ensures c.args.field) c.add-in-Some-of.ensures.full
+
+pub returns-in-None-clause-full : goal.returns-in-None-clause-full
+returns-in-None-clause-full g c = full_as c.add-in-None.result _ _ (at_whole _ _ c.in_default.ensures c.in-None.ensures c.args.field) c.add-in-None.ensures.full

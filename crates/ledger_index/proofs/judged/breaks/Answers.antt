@@ -1,0 +1,9 @@
+use Rattle.std.proofs.Common.{ap, ◌∙◌}
+use Rattle.std.proofs.Math.Path.{fun_ext}
+use Rattle.accounts.specs.Broken.{is_broken}
+use Rattle.ledger_index.specs.Judged.{breaks}
+use Rattle.ledger_index.proofs.judged.breaks.Goals as goal
+
+pub returns : goal.returns
+unfolding breaks is_broken
+returns c = c.broken.ensures ∙ ap (breaks c.args.kind) (fun_ext c.totals.ensures)
