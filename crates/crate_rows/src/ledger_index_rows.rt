@@ -82,7 +82,8 @@ fn keeps_accounts_apart(rt: HostRuntime) -> Result<(), NoMemory> {
     let mut ledger = LedgerIndex::new(alloc);
     let lengths = [0, 1, 12, 13, 30, 36, 37, 255];
     for length in lengths {
-        ledger.add(&entry(alloc, length)?, 0, length as u64 + 1, &mut steps)?;
+        let more = length as u64 + 1;
+        assert!(rt; !ledger.add_saturating(&entry(alloc, length)?, 0, more, &mut steps)?);
         ledger.add(
             &wide(alloc, length as u64),
             1,
