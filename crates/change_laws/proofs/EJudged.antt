@@ -31,7 +31,7 @@ use Rattle.span_index.specs.declared.span.Span.{Span}
 use Rattle.span_index.specs.Sectors.{adds, adds_to, counts, is_bad, sector_sum}
 use Rattle.span_index.specs.Spans.{end_of}
 use Rattle.change_records.specs.Spans.{IsLawfulIn, shown_span, span_in, span_of}
-use Rattle.change_laws.specs.Judged.{IsLeastBad, JudgedLaw, first_of}
+use Rattle.change_laws.specs.Judged.{IsLeastBad, JudgedLaw}
 use Rattle.change_laws.specs.Sectors.{AreSound}
 use Rattle.change_laws.specs.Steps.{all_posts, posts_of, spans_of}
 use Rattle.change_laws.proofs.ESectors.{adds_in, four, same_rest, sectors, some_extent, space_alone, sum_more}
@@ -155,16 +155,10 @@ least_sector context records (Some least) sound is = (
       (keeps_off context records address sound) (λ on. is.2 address (eqb-true (address % 4096) 0 on) less),
 )
 
-chosen_first : (bad : Option ℕ) (least : Option Account) → chosen bad least ≡ first_of bad least
-chosen_first None least = refl
-chosen_first (Some address) None = refl
-chosen_first (Some address) (Some account) = refl
-
 pub judged : JudgedLaw
 judged context records bad least sound is_bad_first is_least =
     ap (option_map broken_finding)
     (sym (joined (all_postings context records) (all_posts context records) (sector_sum context (spans_of context.nodesize records)) least bad
     (are_sums context records sound)
     (one_least (is_broken_by (all_posts context records)) least (least_broken (all_posts context records)) is_least (least_is_least (all_posts context records)))
-    (least_sector context records bad sound is_bad_first))
-    ∙ chosen_first bad least)
+    (least_sector context records bad sound is_bad_first)))

@@ -31,7 +31,8 @@ use Rattle.touched_accounts.proofs.Moved.{moves}
 use Rattle.tree_change.specs.Merging.{root_at}
 use Rattle.write_cache.specs.Cache.{overlaid}
 use Rattle.change_laws.specs.Commit.{Commit, CommitLaw, Decides, IsCommit, IsJudged, IsKnown, IsMoved, Known, came_by, context_by, gone_by}
-use Rattle.change_laws.specs.Judged.{IsLeastBad, first_of}
+use Rattle.account_sums.specs.Kept.{chosen}
+use Rattle.change_laws.specs.Judged.{IsLeastBad}
 use Rattle.change_laws.specs.Same.{HoldsWalked, records_of}
 use Rattle.change_laws.specs.Sectors.{AreSound}
 use Rattle.change_laws.specs.Steps.{all_posts, spans_of, step_posts}
@@ -173,7 +174,7 @@ module _ (laws : Laws) (image : List ℕ) (pending : FinMap nat_cmp ℕ) (old ne
 
       -- the finding of the accounts of the next image
       fault_is : (runs : List Run) (bad : Option ℕ) (least : Option Account) → IsJudged k now next runs bad least
-          → account_fault (context_at new) (records_of new) ≡ option_map broken_finding (first_of bad least)
+          → account_fault (context_at new) (records_of new) ≡ option_map broken_finding (chosen bad least)
       fault_is runs bad least is =
           let step = by.step in
           let posts = laws.posts (context_at old) (context_at new) (records_of old) (records_of new) (gone_by k now) (came_by now) c.refs step in
@@ -225,11 +226,11 @@ module _ (laws : Laws) (image : List ℕ) (pending : FinMap nat_cmp ℕ) (old ne
           )
 
       decided : (moved : Known) (runs : List Run) (bad : Option ℕ) (least : Option Account) → IsMoved k now moved → IsJudged k now moved runs bad least
-          → Decides judged_image now moved (first_of bad least)
+          → Decides judged_image now moved (chosen bad least)
       decided moved runs bad least is judged =
           let same : moved ≡ next = next_is moved is in
-          subst (λ (n : Known). Decides judged_image now n (first_of bad least)) (sym same)
-          (decide (first_of bad least)
+          subst (λ (n : Known). Decides judged_image now n (chosen bad least)) (sym same)
+          (decide (chosen bad least)
           (fault_is runs bad least (subst (λ (n : Known). IsJudged k now n runs bad least) same judged)))
 
 -- ---- what is known and what changes, by the walks
@@ -262,7 +263,7 @@ known_same image k old held known was holds is =
 -- a promise of what is known and what changes
 abbrev IsDecided : List ℕ → FinMap nat_cmp ℕ → Known → Known → List Run → Option ℕ → Option Account → Commit → Type 0
 IsDecided image pending k next runs bad least c =
-    IsCommit image pending k c → IsMoved k c next → IsJudged k c next runs bad least → Decides (overlaid pending 0 image) c next (first_of bad least)
+    IsCommit image pending k c → IsMoved k c next → IsJudged k c next runs bad least → Decides (overlaid pending 0 image) c next (chosen bad least)
 
 pub commit : Laws → CommitLaw
 commit laws image pending k next c runs bad least known is moved judged =

@@ -37,7 +37,7 @@ use Rattle.tree_change.specs.declared.change.Change.{Change}
 use Rattle.tree_change.specs.declared.change.Diff.TheVariants.{Change as Changed}
 use Rattle.volume_items.specs.declared.root_at.RootAt.{RootAt}
 use Rattle.write_cache.specs.Cache.{overlaid}
-use Rattle.change_laws.specs.Judged.{first_of}
+use Rattle.account_sums.specs.Kept.{chosen}
 use Rattle.change_laws.specs.Paired.{SayChanges, came_items, gone_items}
 use Rattle.change_laws.specs.Sectors.{AreInside}
 use Rattle.change_laws.specs.Steps.{all_posts, change_records, spans_of, step_posts}
@@ -133,4 +133,4 @@ Decides judged c next None = (full_check judged ≡ Accept c.fresh.generation) �
 abbrev pub CommitLaw : Type 0
 CommitLaw = (image : List ℕ) (pending : FinMap nat_cmp ℕ) (k next : Known) (c : Commit) (runs : List Run) (bad : Option ℕ) (least : Option Account)
     → IsKnown image k → IsCommit image pending k c → IsMoved k c next → IsJudged k c next runs bad least
-    → Decides (overlaid pending 0 image) c next (first_of bad least)
+    → Decides (overlaid pending 0 image) c next (chosen bad least)

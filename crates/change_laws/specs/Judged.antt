@@ -1,8 +1,8 @@
 -- The finding of the accounts of an image, by the sums of all accounts but sectors and by the spans.
-use Rattle.std.specs.Prelude.{◌≡◌, ℕ, ◌%◌, ◌<◌, Bool, true, false, nat_lt, List, Option, Some, None, option_map, if◌then◌else◌}
+use Rattle.std.specs.Prelude.{◌≡◌, ℕ, ◌%◌, ◌<◌, Bool, true, false, List, Option, Some, None, option_map}
+use Rattle.account_sums.specs.Kept.{chosen}
 use Rattle.accounts.specs.Broken.{broken_finding, is_broken}
 use Rattle.accounts.specs.Context.{Context}
-use Rattle.accounts.specs.Kinds.{sector}
 use Rattle.accounts.specs.Least.{IsLeastBroken}
 use Rattle.accounts.specs.Sums.{total_of}
 use Rattle.accounts.specs.declared.account.Account.{Account}
@@ -18,17 +18,10 @@ IsLeastBad bad None = (address : ℕ) → address % 4096 ≡ 0 → bad address �
 IsLeastBad bad (Some least) =
     (least % 4096 ≡ 0) × (bad least ≡ true) × ((address : ℕ) → address % 4096 ≡ 0 → address < least → bad address ≡ false)
 
--- the lesser of a sector and an account that is none of a sector, if there are such: the accounts A1 to A4 come before sectors, A6 and later
--- ones behind
-abbrev pub first_of : Option ℕ → Option Account → Option Account
-first_of None least = least
-first_of (Some address) None = Some (sector address)
-first_of (Some address) (Some account) = if nat_lt account.kind 5 then Some account else Some (sector address)
-
 -- the finding of the accounts of sound records is that of the lesser of the least broken sector and the least broken account among the others
 abbrev pub JudgedLaw : Type 0
 JudgedLaw = (context : Context) (records : List Located) (bad : Option ℕ) (least : Option Account)
     → AreSound context.nodesize records
     → IsLeastBad (is_bad context (spans_of context.nodesize records)) bad
     → IsLeastBroken (λ account. is_broken account (total_of (all_posts context records) account)) least
-    → account_fault context records ≡ option_map broken_finding (first_of bad least)
+    → account_fault context records ≡ option_map broken_finding (chosen bad least)

@@ -23,7 +23,7 @@ use Rattle.tree_change.specs.Merging.{IsSortedOf, named_before, root_at, roots_l
 use Rattle.volume_items.specs.declared.root_at.RootAt.{RootAt}
 use Rattle.write_cache.specs.Cache.{overlaid}
 use Rattle.change_laws.specs.Commit.{Commit, CommitLaw, Decides, IsCommit, IsJudged, IsKnown, IsMoved, Known, came_by, context_by, gone_by}
-use Rattle.change_laws.specs.Judged.{first_of}
+use Rattle.account_sums.specs.Kept.{chosen}
 use Rattle.change_laws.specs.Same.{HeldLaw}
 use Rattle.change_laws.specs.Sectors.{AreInside}
 use Rattle.change_laws.specs.Sound.{AscendLaw, IsSound, KnownSpansLaw, SoundLaw}
@@ -108,7 +108,7 @@ module _ (laws : Laws) (image : List ℕ) (pending : FinMap nat_cmp ℕ) (k : Kn
         (subst (λ (p : List Posting). IsLeastTouched sums (moves.gone ++ p) t.found.least) t.moves_are.came t.found.least_is);
   }
 
-  decided : Decides (overlaid pending 0 image) c next (first_of t.found.bad t.found.least)
+  decided : Decides (overlaid pending 0 image) c next (chosen t.found.bad t.found.least)
   decided = laws.commit image pending k next c moves.runs.items t.found.bad t.found.least known commit moved judged
 
   sums_back : with_all (less_all sums moves.came) moves.gone ≡ k.sums
@@ -133,7 +133,7 @@ module _ (laws : Laws) (image : List ℕ) (pending : FinMap nat_cmp ℕ) (k : Kn
   says : TriedSays (overlaid pending 0 image) k c roots moves sums table finding
   says =
       subst (λ (f : Option Finding). TriedSays (overlaid pending 0 image) k c roots moves sums table f) (sym t.found.found)
-      (by (first_of t.found.bad t.found.least) decided)
+      (by (chosen t.found.bad t.found.least) decided)
 
 pub tried : Laws → TriedLaw
 tried laws image pending k c roots moves sums table finding known commit sorted t =

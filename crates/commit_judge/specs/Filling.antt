@@ -12,7 +12,7 @@ use Rattle.accounts.specs.Tally.{Sums, no_sums}
 use Rattle.accounts.specs.declared.account.Account.{Account}
 use Rattle.block_source.specs.declared.halt.Halt.{Halt}
 use Rattle.block_source.specs.declared.halt.Halt.TheVariants.{Found, Disk, NoMemory}
-use Rattle.change_laws.specs.Judged.{first_of}
+use Rattle.account_sums.specs.Kept.{chosen}
 use Rattle.change_laws.specs.Steps.{all_posts, posts_of, spans_of}
 use Rattle.change_records.specs.Affected.{context_with}
 use Rattle.change_records.specs.Spans.{span_of}
@@ -102,7 +102,7 @@ pub record IsFoundBy (sums : Sums) (table : Table) (context : Context) (finding 
   pub times : (span : Span) → times_of_span spans span ≡ table span
   pub bad_is : IsFirstBad (is_bad context spans) all_sectors bad
   pub least_is : IsLeastBroken (λ account. is_broken account (sums account)) least
-  pub found : finding ≡ option_map broken_finding (first_of bad least)
+  pub found : finding ≡ option_map broken_finding (chosen bad least)
 
 -- why an image has no index: its full check has this finding, or a step had a fault
 abbrev pub IsRefusal : List ℕ → Halt → Type 0

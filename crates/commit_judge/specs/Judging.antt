@@ -25,7 +25,7 @@ use Rattle.tree_change.specs.Merging.{IsSortedOf, named_before, roots_left}
 use Rattle.volume_items.specs.declared.root_at.RootAt.{RootAt}
 use Rattle.write_cache.specs.Cache.{overlaid}
 use Rattle.change_laws.specs.Commit.{Commit, IsCommit, IsKnown, Known}
-use Rattle.change_laws.specs.Judged.{first_of}
+use Rattle.account_sums.specs.Kept.{chosen}
 use Rattle.commit_judge.specs.Counts.{blocks_between, hot_between}
 use Rattle.commit_judge.specs.Moves.{AreMovesOf, context_after}
 use Rattle.commit_judge.specs.Tables.{with_spans, without_spans}
@@ -51,7 +51,7 @@ pub record IsLeastOf (sums : Sums) (table : Table) (context : Context) (moves : 
   pub times : (span : Span) → times_of_span spans span ≡ table span
   pub bad_is : IsFirstBad (is_bad context spans) moves.runs.items bad
   pub least_is : IsLeastTouched sums (moves.gone ++ moves.came) least
-  pub found : finding ≡ option_map broken_finding (first_of bad least)
+  pub found : finding ≡ option_map broken_finding (chosen bad least)
 
 -- the moves of a commit, what they make of sums and spans, and the finding then
 pub record IsTried (k : Known) (c : Commit) (moves : Moves) (sums : Sums) (table : Table) (finding : Option Finding) : Type 0 where
