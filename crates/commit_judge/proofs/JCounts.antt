@@ -1,9 +1,7 @@
 -- The blocks that a commit changes, and those that a stop may harm.
-use Rattle.std.proofs.Common.{◌≡◌, ℕ, ◌+◌, List, length, map, refl, ap, sym, ◌∙◌}
+use Rattle.std.proofs.Common.{◌≡◌, ℕ, ◌+◌, List, length, map, ap, sym, ◌∙◌}
 use Rattle.std.specs.Prelude.{◌||◌, not, Ok}
 use Rattle.std.specs.List.{count_by}
-use Rattle.std.specs.Ordering.{nat_cmp}
-use Rattle.std.specs.FinMap.{FinMap}
 use Rattle.std.proofs.lemmas.List.Sorted.{length_permutation}
 use Rattle.live_index.specs.declared.live.Live.{Live}
 use Rattle.records.specs.Contents.{Contents, contents}
@@ -11,10 +9,9 @@ use Rattle.shared_trees.specs.LivePairs.{Walked, live_in, walked}
 use Rattle.shared_trees.specs.Shared.{unshared_in}
 use Rattle.super_reader.specs.declared.Super.{Super}
 use Rattle.touched_pairs.specs.Touched.{Written, stays_in_place, touches_block, written_in}
-use Rattle.tree_change.specs.Change.{IsChange}
 use Rattle.verdict.specs.declared.place.Chunk.{Chunk}
 use Rattle.write_cache.specs.Cache.{overlaid}
-use Rattle.change_laws.specs.Commit.{Commit, IsCommit, IsKnown, Known}
+use Rattle.change_laws.specs.Commit.{IsKnown, Known}
 use Rattle.change_laws.specs.Flags.{HotLaw, hot_of, is_hot}
 use Rattle.change_laws.specs.Same.{HeldLaw}
 use Rattle.commit_judge.specs.Counts.{blocks_between, hot_between, may_be_harmed, over_walks}

@@ -1,5 +1,5 @@
 -- What a commit does to accounts and to spans.
-use Rattle.std.proofs.Common.{◌≡◌, ℕ, ◌<◌, ◌≤◌, Bool, true, List, [], ◌∷◌, refl, ap, sym, ◌∙◌, subst, inl, inr, arith}
+use Rattle.std.proofs.Common.{◌≡◌, ℕ, ◌<◌, List, [], ◌∷◌, sym, ◌∙◌, subst, inl, inr}
 use Rattle.std.specs.List.{All, Contains, filter_map}
 use Rattle.std.proofs.lemmas.List.Elements.{All-contains, Contains-push_cases}
 use Rattle.accounts.specs.Context.{Context}
@@ -13,18 +13,16 @@ use Rattle.live_index.specs.Pairs.{Pairs}
 use Rattle.live_index.specs.declared.live.Live.{Live}
 use Rattle.records.specs.Part.{IsLawful, Located}
 use Rattle.records.specs.declared.owned.ItemAt.{ItemAt}
-use Rattle.span_index.specs.Sectors.{AreRunsFrom, has_sector, is_inside, times_of_span}
 use Rattle.span_index.specs.declared.span.Run.{Run}
 use Rattle.span_index.specs.declared.span.Span.{Span}
 use Rattle.super_reader.specs.declared.Super.{Super}
-use Rattle.change_laws.specs.Commit.{AreNamedInside, Commit, Known, came_by, context_by, gone_by}
+use Rattle.change_laws.specs.Commit.{Commit, Known, came_by, gone_by}
 use Rattle.change_laws.specs.Sectors.{AreInside, AreSound}
 use Rattle.change_laws.specs.Sound.{IsSound, IsWhole, SpansStand}
 use Rattle.change_laws.specs.Steps.{change_records, spans_of, step_posts}
 use Rattle.change_laws.proofs.WNamed.{each_of}
 use Rattle.change_laws.proofs.XWhole.{span_whole}
-use Rattle.commit_judge.specs.Moves.{AreMovesOf, AreSpansMoved, context_after}
-use Rattle.commit_judge.specs.declared.moves.Moves.{Moves}
+use Rattle.commit_judge.specs.Moves.{AreSpansMoved}
 
 -- the spans of sound records are whole
 pub spans_whole : (n : ℕ) (records : List Located) → AreSound n records → All IsWhole (spans_of n records)

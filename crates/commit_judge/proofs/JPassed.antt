@@ -1,5 +1,5 @@
 -- What is known once a commit passed.
-use Rattle.std.proofs.Common.{◌≡◌, ℕ, Bool, List, refl, ap, sym, ◌∙◌}
+use Rattle.std.proofs.Common.{◌≡◌, ℕ, Bool, List, ◌∙◌}
 use Rattle.std.proofs.Math.Path.{fun_ext}
 use Rattle.accounts.specs.Tally.{Sums}
 use Rattle.change_records.specs.SumFree.{flags_after}

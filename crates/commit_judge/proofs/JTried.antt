@@ -14,7 +14,6 @@ use Rattle.chunk_map.specs.Roots.{KeysAscend}
 use Rattle.records.specs.Contents.{Contents, contents}
 use Rattle.span_index.specs.Sectors.{times_of_span}
 use Rattle.span_index.specs.Spans.{Table}
-use Rattle.span_index.specs.declared.span.Run.{Run}
 use Rattle.span_index.specs.declared.span.Span.{Span}
 use Rattle.touched_accounts.specs.Least.{IsLeastTouched}
 use Rattle.touched_accounts.specs.Sums.{less_all, with_all}

@@ -8,6 +8,8 @@ use Rattle.records.specs.Contents.{contents}
 use Rattle.block_source.specs.declared.halt.Halt.{Halt}
 use Rattle.block_source.specs.declared.halt.Halt.TheVariants.{Found, Disk, NoMemory}
 use Rattle.change_laws.specs.Commit.{Commit, IsCommit, Known}
+use Rattle.change_records.specs.Made.{IsMade}
+use Rattle.change_records.specs.declared.made.Made.{Made}
 use Rattle.commit_judge.specs.declared.plan.Plan.{Plan}
 
 -- what a plan says that a commit changes
@@ -26,3 +28,7 @@ IsPlanned image pending k before after (Ok plan) = IsPlanOf image pending k befo
 IsPlanned image pending k before after (Err (Found finding)) = contents (overlaid pending 0 image) ≡ Err finding
 IsPlanned image pending k before after (Err Disk) = Unit {0}
 IsPlanned image pending k before after (Err NoMemory) = Unit {0}
+
+-- what the changes of a plan make of the flags of inodes
+abbrev pub IsMadeOf : Plan → Made → Type 0
+IsMadeOf plan made = IsMade plan.change.old_items.items plan.change.new_items.items plan.changes.items made

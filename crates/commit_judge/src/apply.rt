@@ -24,7 +24,8 @@ pub(crate) fn apply<L>(
     ensures sums { OnOk result (sums_of totals.new ≡
         with_all (less_all (sums_of totals.old) moves.now.gone) moves.now.came) }
     ensures spans { OnOk result (times_of spans.new ≡
-        with_spans (without_spans (times_of spans.old) moves.now.gone_spans.items) moves.now.came_spans.items) }
+        with_spans (without_spans (times_of spans.old) moves.now.gone_spans.items)
+        moves.now.came_spans.items) }
     ensures entries { IsTidy totals.old → IsTidy totals.new }
 {
     take_all(totals, &moves.gone, steps);
@@ -43,7 +44,8 @@ pub(crate) fn undo<L>(
     ensures sums { OnOk result (sums_of totals.new ≡
         with_all (less_all (sums_of totals.old) moves.now.came) moves.now.gone) }
     ensures spans { OnOk result (times_of spans.new ≡
-        with_spans (without_spans (times_of spans.old) moves.now.came_spans.items) moves.now.gone_spans.items) }
+        with_spans (without_spans (times_of spans.old) moves.now.came_spans.items)
+        moves.now.gone_spans.items) }
     ensures entries { IsTidy totals.old → IsTidy totals.new }
 {
     take_all(totals, &moves.came, steps);

@@ -150,7 +150,8 @@ impl<'m, 's, L> Filling<'m, 's, L> {
         ensures live { IfOk result (λ tables.
             pairs_of tables.live ≡ table_of (finished (held_in lives))) }
         ensures sums { IfOk result (λ tables. sums_of tables.totals ≡ (filled_in self.entry).sums) }
-        ensures spans { IfOk result (λ tables. times_of tables.spans ≡ (filled_in self.entry).spans) }
+        ensures spans { IfOk result (λ tables.
+            times_of tables.spans ≡ (filled_in self.entry).spans) }
         ensures free { IfOk result (λ tables. free_in tables.free ≡ (filled_in self.entry).free) }
     {
         let Filling {

@@ -4,7 +4,6 @@ ghost use Rattle.std.specs.Prelude.{ℕ, ◌≡◌, ◌+◌, ◌≤◌, List, le
 ghost use Rattle.std.specs.List.{count_by};
 ghost use Rattle.recon_disk.specs.Keeping.{Kept};
 ghost use Rattle.block_source.specs.Gives.{is_disk_fault, is_disk_halt};
-ghost use Rattle.change_records.specs.Made.{IsMade};
 ghost use Rattle.chunk_map.specs.Roots.{KeysAscend};
 ghost use Rattle.ledger_index.specs.Ledger.{sums_of};
 ghost use Rattle.span_index.specs.Sectors.{AreRunsFrom};
@@ -16,7 +15,7 @@ ghost use Rattle.commit_judge.specs.Judged.{HasRoom, IsJudgement, IsPlaceAfter, 
 ghost use Rattle.commit_judge.specs.Judging.{IsLeastOf, is_hot_by, next_of};
 ghost use Rattle.commit_judge.specs.Decided.{IsDecided};
 ghost use Rattle.commit_judge.specs.Moves.{context_after};
-ghost use Rattle.commit_judge.specs.Plan.{IsPlanOf, IsPlanned, commit_in};
+ghost use Rattle.commit_judge.specs.Plan.{IsMadeOf, IsPlanOf, IsPlanned, commit_in};
 
 use crate::apply::{apply, undo};
 use crate::hot::count_hot;
@@ -67,8 +66,9 @@ pub fn judge_commit<D: Disk, L>(
     index: &mut Index<L>,
     steps: &mut Steps<L>,
 ) -> Result<Judged, Fault>
-    ensures told { IfOk result (λ judged. IfSome (D.bytes disk.old) (λ image. IndexStands image index.old →
-        IsJudgement image cache.now index.new (D.reads disk.old) (D.reads disk.new) judged)) }
+    ensures told { IfOk result (λ judged. IfSome (D.bytes disk.old)
+        (λ image. IndexStands image index.old → IsJudgement image cache.now
+        index.new (D.reads disk.old) (D.reads disk.new) judged)) }
     ensures place { IfOk result (MovesPlace index.old.raw cache.now index.new.raw) }
     ensures room { IfOk result (HasRoom (D.len disk.old)) }
     ensures kept { Kept D.Disk disk.old disk.new (is_disk_fault result) }
@@ -87,8 +87,9 @@ pub fn judge_within<D: Disk, L>(
     steps: &mut Steps<L>,
 ) -> Result<Judged, Fault>
     requires { end ≡ D.len disk.old }
-    ensures told { IfOk result (λ judged. IfSome (D.bytes disk.old) (λ image. IndexStands image index.old →
-        IsJudgement image cache.now index.new (D.reads disk.old) (D.reads disk.new) judged)) }
+    ensures told { IfOk result (λ judged. IfSome (D.bytes disk.old)
+        (λ image. IndexStands image index.old → IsJudgement image cache.now
+        index.new (D.reads disk.old) (D.reads disk.new) judged)) }
     ensures place { IfOk result (MovesPlace index.old.raw cache.now index.new.raw) }
     ensures room { IfOk result (HasRoom (D.len disk.old)) }
     ensures kept { Kept D.Disk disk.old disk.new (is_disk_fault result) }
@@ -110,7 +111,8 @@ fn judge_blocks<D: Disk, L>(
 ) -> Result<Judged, Halt>
     requires { end ≡ D.len disk.old }
     ensures told { IfSome (D.bytes disk.old) (λ image. IndexStands image index.old →
-        IsDecided image cache.now index.old index.new (D.reads disk.old) (D.reads disk.new) result) }
+        IsDecided image cache.now index.old index.new
+        (D.reads disk.old) (D.reads disk.new) result) }
     ensures place { IfOk result (MovesPlace index.old.raw cache.now index.new.raw) }
     ensures room { OnOk result (69632 ≤ end) }
     ensures kept { Kept D.Disk disk.old disk.new (is_disk_halt result) }
@@ -180,7 +182,7 @@ fn judge_plan<L>(
 
 // What the changes of a plan make of the flags of inodes.
 fn made_by(alloc: Global, plan: &Plan) -> Result<Made, NoMemory>
-    ensures { IfOk result (λ made. IsMade plan.now.change.old_items.items plan.now.change.new_items.items plan.now.changes.items made) }
+    ensures { IfOk result (λ made. IsMadeOf plan.now made) }
 {
     let change = &plan.change;
     Made::of(
@@ -195,7 +197,8 @@ fn made_by(alloc: Global, plan: &Plan) -> Result<Made, NoMemory>
 fn roots_after<L>(alloc: Global, index: &Index<L>, plan: &Plan) -> Result<Vec<RootAt>, NoMemory>
     ensures { IfOk result (λ roots. IsSortedOf named_before
         (roots_left index.now.roots.items
-        (map located_item plan.now.change.old_items.items) (map located_item plan.now.change.new_items.items)) roots.items) }
+        (map located_item plan.now.change.old_items.items)
+        (map located_item plan.now.change.new_items.items)) roots.items) }
 {
     let change = &plan.change;
     merge_roots(
@@ -216,7 +219,7 @@ fn finding_by<L>(
     moves: &Moves,
     steps: &mut Steps<L>,
 ) -> Option<Finding>
-    requires made { IsMade plan.now.change.old_items.items plan.now.change.new_items.items plan.now.changes.items made.now }
+    requires made { IsMadeOf plan.now made.now }
     requires runs { AreRunsFrom 0 moves.now.runs.items }
     ensures { IsLeastOf (sums_of index.now.totals) (times_of index.now.spans)
         (context_after (known index.now) (commit_in plan.now)) moves.now result }
@@ -258,7 +261,7 @@ fn pass<L>(
     roots: &[RootAt],
     steps: &mut Steps<L>,
 ) -> Result<(), NoMemory>
-    requires { IsMade plan.change.old_items.items plan.change.new_items.items plan.changes.items made.now }
+    requires { IsMadeOf plan made.now }
     ensures known { KeysAscend roots.now → OnOk result (known index.new ≡
         next_of (known index.old) (commit_in plan) roots.now
         (sums_of index.old.totals) (times_of index.old.spans)) }

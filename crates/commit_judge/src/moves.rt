@@ -2,11 +2,11 @@
 
 ghost use Rattle.std.specs.Prelude.{◌≡◌, IfOk};
 ghost use Rattle.change_records.specs.Affected.{context_with};
-ghost use Rattle.change_records.specs.Made.{IsMade, flag_by};
+ghost use Rattle.change_records.specs.Made.{flag_by};
 ghost use Rattle.commit_judge.specs.Flags.{free_in};
 ghost use Rattle.commit_judge.specs.Index.{known};
 ghost use Rattle.commit_judge.specs.Moves.{AreMovesOf, context_after};
-ghost use Rattle.commit_judge.specs.Plan.{commit_in};
+ghost use Rattle.commit_judge.specs.Plan.{IsMadeOf, commit_in};
 
 use crate::context::{After, Before};
 use crate::index::Index;
@@ -42,7 +42,7 @@ pub(crate) fn moves_of<L>(
     made: &Made,
     steps: &mut Steps<L>,
 ) -> Result<Moves, NoMemory>
-    requires { IsMade plan.now.change.old_items.items plan.now.change.new_items.items plan.now.changes.items made.now }
+    requires { IsMadeOf plan.now made.now }
     ensures { IfOk result (λ moves. AreMovesOf (known index.now) (commit_in plan.now) moves) }
 {
     let (was, is) = (&index.sup, &plan.sup);
@@ -95,7 +95,7 @@ pub(crate) fn moves_of<L>(
 
 /// The context of the judged image, by the index of the accepted one and the plan.
 pub(crate) fn after<'a, L>(index: &'a Index<L>, plan: &'a Plan, made: &'a Made) -> After<'a>
-    requires { IsMade plan.now.change.old_items.items plan.now.change.new_items.items plan.now.changes.items made.now }
+    requires { IsMadeOf plan.now made.now }
     ensures { context_with result.map.now result.nodesize
         (λ tree ino. flag_by result.made.now tree ino (free_in result.free.now tree ino))
         ≡ context_after (known index.now) (commit_in plan.now) }

@@ -74,7 +74,8 @@ fn plan_by<L>(
         SayChanges (are_read_alike (index.now).sup plan.sup)
         plan.change.old_items.items plan.change.new_items.items plan.changes.items) }
     ensures refs { IfOk result (λ plan.
-        AreTheAffected (are_read_alike (index.now).sup plan.sup) (known index.now) (commit_in plan)) }
+        AreTheAffected (are_read_alike (index.now).sup plan.sup)
+        (known index.now) (commit_in plan)) }
 {
     let alike = are_read_alike(&index.sup, &fresh.sup);
     let changes = changes_in(alloc, alike, &change)?;

@@ -52,7 +52,8 @@ pub(crate) fn ascending(alloc: Global, roots: &[RootAt]) -> Result<Vec<RootAt>, 
 // Whether the key of a root item is greater than all of some that ascend: than the last of these.
 fn stands_behind(list: &[RootAt], root: &RootAt) -> bool
     requires { KeysAscend list.now }
-    ensures { IsTrue result ↔ AllByRecursion (λ (one : ARoot). key_below one.key (root.now).key ≡ true) list.now }
+    ensures { IsTrue result ↔
+        AllByRecursion (λ (one : ARoot). key_below one.key (root.now).key ≡ true) list.now }
 {
     match list.last() {
         Some(last) => last.key.is_below(&root.key),

@@ -103,8 +103,8 @@ pub(crate) fn gone_spans(
     changes: &[ItemChange],
 ) -> Result<Vec<Span>, NoMemory>
     ensures { (sup : ASuper) (blocks : List ALive) →
-        AreSound nodesize (change_records sup blocks (gone_items items.now changes.now)) → IfOk result (λ spans.
-        spans.items ≡ spans_of nodesize (change_records sup blocks (gone_items items.now changes.now))) }
+        let records = change_records sup blocks (gone_items items.now changes.now) in
+        AreSound nodesize records → IfOk result (λ spans. spans.items ≡ spans_of nodesize records) }
 {
     let mut spans = Vec::new(alloc);
     for change in changes {
@@ -121,8 +121,8 @@ pub(crate) fn came_spans(
     changes: &[ItemChange],
 ) -> Result<Vec<Span>, NoMemory>
     ensures { (sup : ASuper) (blocks : List ALive) →
-        AreSound nodesize (change_records sup blocks (came_items items.now changes.now)) → IfOk result (λ spans.
-        spans.items ≡ spans_of nodesize (change_records sup blocks (came_items items.now changes.now))) }
+        let records = change_records sup blocks (came_items items.now changes.now) in
+        AreSound nodesize records → IfOk result (λ spans. spans.items ≡ spans_of nodesize records) }
 {
     let mut spans = Vec::new(alloc);
     for change in changes {
@@ -189,9 +189,10 @@ pub(crate) fn found_spans<L>(
     refs: &[ItemRef],
     steps: &mut Steps<L>,
 ) -> Result<Vec<Span>, NoMemory>
-    ensures found { AreLawful nodesize (times_of table.now) → AreAlone (times_of table.now) → IfOk result (λ found.
-        (pairs : Pairs) (span : ASpan) (at : ARef) →
-        0 < times_of table.now span → SpanNames pairs span at → Contains refs.now at → Contains found.items span) }
+    ensures found { AreLawful nodesize (times_of table.now) → AreAlone (times_of table.now) →
+        IfOk result (λ found. (pairs : Pairs) (span : ASpan) (at : ARef) →
+        0 < times_of table.now span → SpanNames pairs span at → Contains refs.now at →
+        Contains found.items span) }
     ensures stand { IfOk result (λ found.
         (span : ASpan) → Contains found.items span → 0 < times_of table.now span) }
 {
@@ -209,8 +210,8 @@ fn named_span<L>(
     at: &ItemRef,
     steps: &mut Steps<L>,
 ) -> Option<Span>
-    ensures found { AreLawful nodesize (times_of table.now) → AreAlone (times_of table.now) → (pairs : Pairs) (span : ASpan) →
-        0 < times_of table.now span → SpanNames pairs span at.now → result ≡ Some span }
+    ensures found { AreLawful nodesize (times_of table.now) → AreAlone (times_of table.now) →
+        (pairs : Pairs) (span : ASpan) → 0 < times_of table.now span → SpanNames pairs span at.now → result ≡ Some span }
     ensures stands { IfSome result (λ span. 0 < times_of table.now span) }
 {
     let key = at.key;
@@ -233,7 +234,8 @@ fn owned_span<L>(
     of_data: bool,
     steps: &mut Steps<L>,
 ) -> Option<Span>
-    ensures found { let owned : ASpan = record { first = first; sectors = sectors; sort = OwnedSort of_data } in
+    ensures found { let owned : ASpan =
+        record { first = first; sectors = sectors; sort = OwnedSort of_data } in
         0 < sectors → 0 < times_of table.now owned → result ≡ Some owned }
     ensures stands { IfSome result (λ span. 0 < times_of table.now span) }
 {
@@ -248,7 +250,11 @@ fn owned_span<L>(
 
 // The greatest span of an extent below that of another, of data or a tree block.
 fn span_below(first: u64, sectors: u64, of_data: bool) -> Span
-    ensures { result ≡ record { first = first; sectors = (if of_data then sectors else sectors - 1); sort = OwnedSort (not of_data) } }
+    ensures { result ≡ record {
+      first = first;
+      sectors = (if of_data then sectors else sectors - 1);
+      sort = OwnedSort (not of_data);
+    } }
 {
     let sectors = if of_data {
         sectors
