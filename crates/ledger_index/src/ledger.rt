@@ -212,7 +212,8 @@ impl<L> LedgerIndex<L> {
         first: Option<Account>,
         steps: &mut Steps<L>,
     ) -> Result<Option<Account>, NoMemory>
-        ensures least { IsLeastBut (sums_of self.now) (is_later [] [] self.now.whole.entries.entries) first →
+        ensures least { IsLeastBut (sums_of self.now)
+            (is_later [] [] self.now.whole.entries.entries) first →
             IfOk result (IsLeastBut (sums_of self.now) (is_later [] [] [])) }
         ensures looks { steps.new ≤ steps.old + btree_map_len self.now.whole.entries }
     {
