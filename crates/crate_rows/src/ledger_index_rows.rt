@@ -106,3 +106,34 @@ fn keeps_accounts_apart(rt: HostRuntime) -> Result<(), NoMemory> {
     assert!(rt; ledger.get(&other, &mut steps) == two(0, 0));
     Ok(())
 }
+
+// An account of names without a file, of this tree, with a tail of this many bytes.
+fn named(alloc: Global, tree: u64, length: usize) -> Result<Account, NoMemory> {
+    let mut account = entry(alloc, length)?;
+    account.kind = 12;
+    account.tree = tree;
+    Ok(account)
+}
+
+#[test]
+fn finds_the_least_broken_account(rt: HostRuntime) -> Result<(), NoMemory> {
+    let alloc = rt.alloc();
+    let mut steps = Steps::new(());
+    let mut ledger = LedgerIndex::new(alloc);
+    assert!(rt; ledger.least_broken(&mut steps)?.is_none());
+    for length in [0, 12, 30, 36, 37, 255] {
+        let whole = entry(alloc, length)?;
+        ledger.add(&whole, 0, 5, &mut steps)?;
+        ledger.add(&whole, 1, 5, &mut steps)?;
+    }
+    assert!(rt; ledger.least_broken(&mut steps)?.is_none());
+    assert!(rt; steps.looks() == 18);
+    for (tree, length) in [(8, 255), (7, 12), (6, 30), (5, 0), (4, 200), (3, 13)] {
+        let broken = named(alloc, tree, length)?;
+        assert!(rt; !ledger.add_saturating(&broken, 1, 1, &mut steps)?);
+        assert!(rt; ledger.least_broken(&mut steps)? == Some(broken));
+    }
+    ledger.take(&named(alloc, 3, 13)?, 1, 1, &mut steps);
+    assert!(rt; ledger.least_broken(&mut steps)? == Some(named(alloc, 4, 200)?));
+    Ok(())
+}
