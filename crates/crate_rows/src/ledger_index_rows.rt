@@ -82,8 +82,7 @@ fn keeps_accounts_apart(rt: HostRuntime) -> Result<(), NoMemory> {
     let mut ledger = LedgerIndex::new(alloc);
     let lengths = [0, 1, 12, 13, 30, 36, 37, 255];
     for length in lengths {
-        let more = length as u64 + 1;
-        assert!(rt; !ledger.add_saturating(&entry(alloc, length)?, 0, more, &mut steps)?);
+        ledger.add(&entry(alloc, length)?, 0, length as u64 + 1, &mut steps)?;
         ledger.add(
             &wide(alloc, length as u64),
             1,
@@ -96,10 +95,6 @@ fn keeps_accounts_apart(rt: HostRuntime) -> Result<(), NoMemory> {
         assert!(rt; named == two(length as u128 + 1, 0));
         let plain = ledger.get(&wide(alloc, length as u64), &mut steps);
         assert!(rt; plain == two(0, length as u128 + 2));
-    }
-    match ledger.least_broken(&mut steps)? {
-        Some(account) => assert!(rt; account == wide(alloc, 0)),
-        None => panic!(rt; "each of these accounts is broken"),
     }
     let mut other = entry(alloc, 30)?;
     other.key.offset = 2;
