@@ -16,7 +16,7 @@ use Rattle.accounts.specs.Sums.{is_same, total_of}
 use Rattle.accounts.proofs.First.{least_is_least, one_least, unposted}
 use Rattle.accounts.proofs.Kept.{total_joined}
 use Rattle.sector_runs.specs.Runs.{IsLeastBroken as IsLeastSector}
-use Rattle.account_sums.specs.Kept.{AreSumsOf, chosen}
+use Rattle.account_sums.specs.Kept.{AreSumsOf}
 use Rattle.account_sums.proofs.Families.{rest_none}
 use Rattle.account_sums.proofs.Joined.{joined}
 use Rattle.records.specs.Part.{IsLawful, Located, Part}

@@ -34,7 +34,7 @@ use Rattle.change_laws.specs.Flags.{FlagsLaw, RootsLaw}
 use Rattle.change_laws.specs.Items.{ItemsLaw, ItemsStand, items_of}
 use Rattle.change_laws.specs.Judged.{JudgedLaw}
 use Rattle.change_laws.specs.Kept.{FoundLaw}
-use Rattle.change_laws.specs.Paired.{AllChangesLaw, SayChanges, all_changes, came_items, gone_items}
+use Rattle.change_laws.specs.Paired.{AllChangesLaw, SayChanges, came_items, gone_items}
 use Rattle.change_laws.specs.Same.{HeldLaw, records_of}
 use Rattle.change_laws.specs.Sectors.{RunsLaw, SectorsLaw}
 use Rattle.change_laws.specs.Steps.{IsStep, PostsLaw, SpansLaw, StepLaw, WholeStepLaw, all_posts, change_records, spans_of}

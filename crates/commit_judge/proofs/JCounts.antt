@@ -1,5 +1,5 @@
 -- The blocks that a commit changes, and those that a stop may harm.
-use Rattle.std.proofs.Common.{◌≡◌, ℕ, ◌+◌, List, length, map, ap, sym, ◌∙◌}
+use Rattle.std.proofs.Common.{◌≡◌, ℕ, ◌+◌, List, length, ap, sym, ◌∙◌}
 use Rattle.std.specs.Prelude.{◌||◌, not, Ok}
 use Rattle.std.specs.List.{count_by}
 use Rattle.std.proofs.lemmas.List.Sorted.{length_permutation}
