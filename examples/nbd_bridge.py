@@ -68,6 +68,10 @@ class Pending:
             self.ends = self.ends[1::2] + self.ends[len(self.ends) & ~1:]
             self.starts = self.starts[::2]
 
+    def meet(self, start, end):
+        at = bisect_right(self.ends, start)
+        return at < len(self.starts) and self.starts[at] < end
+
     def parts(self, start, end):
         """The parts of a range in their order: where each starts and ends, and whether it is pending."""
         parts, at = [], bisect_right(self.ends, start)
@@ -190,20 +194,22 @@ class Bridge:
     def read(self, into, offset):
         if self.ended:
             raise OSError(f'no more is read since: {self.stopped}')
-        for start, end, pending in self.pending.parts(offset, offset + len(into)):
-            part = into[start - offset:end - offset]
-            if not pending:
-                self.read_image(part, start)
-            else:
-                for at in range(0, len(part), MOST_WRITE):
-                    self.fetch(part[at:at + MOST_WRITE], start + at)
+        if not self.pending.meet(offset, offset + len(into)):
+            self.read_image(into, offset)
+        else:
+            for start, end, pending in self.pending.parts(offset, offset + len(into)):
+                part = into[start - offset:end - offset]
+                if not pending:
+                    self.read_image(part, start)
+                else:
+                    for at in range(0, len(part), MOST_WRITE):
+                        self.fetch(part[at:at + MOST_WRITE], start + at)
         # Only now: where `recon` still runs, it had IMAGE locked while the bytes were read.
         if self.unasked.poll(0):
             self.end(os.read(self.child.stdout.fileno(), 200))
 
     def read_image(self, into, offset):
-        while into:
-            got = os.preadv(self.image, [into], offset)
+        while (got := os.preadv(self.image, (into,), offset)) < len(into):
             if not got:
                 raise OSError('IMAGE is shorter than it was')
             into, offset = into[got:], offset + got
