@@ -35,6 +35,7 @@ pub mod SStep
 pub mod SSteps
 pub mod SWhole
 pub mod Separate
+pub mod VFrame
 pub mod WCommit
 pub mod WNamed
 pub mod WSpans

@@ -1,6 +1,7 @@
 pub mod Blocks
 pub mod Commit
 pub mod Flags
+pub mod Frame
 pub mod Items
 pub mod Judged
 pub mod Kept

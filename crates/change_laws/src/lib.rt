@@ -4,6 +4,7 @@
 
 mod commit;
 mod flags;
+mod frame;
 mod items;
 mod paired;
 mod same;
@@ -13,6 +14,7 @@ mod steps;
 
 pub use commit::commit_law;
 pub use flags::{flags_law, hot_law, roots_law, table_moved_law};
+pub use frame::frame_law;
 pub use items::{blocks_law, items_law};
 pub use paired::{all_changes_law, found_law, paired_law};
 pub use same::{held_law, records_law};

@@ -1,5 +1,6 @@
 //! Laws of the judge. Each stands on a function that does nothing.
 
+ghost use Rattle.change_laws.specs.Frame.{FrameLaw};
 ghost use Rattle.commit_judge.specs.Judging.{CountsLaw, TriedLaw};
 
 use change_laws::{ascend_law, commit_law, held_law, hot_law, known_spans_law, sound_law};
@@ -21,4 +22,13 @@ pub(crate) fn counts_law()
 {
     held_law();
     hot_law();
+}
+
+/// The frame law: an image of the same length as an accepted one, with the same 4,096 bytes from byte 65,536 on and the same bytes in each
+/// copy of the block of each live pair, has the same full check and the same walks. The same is known of both, so that an index that stands
+/// for the one stands for the other. No other byte of a device matters.
+pub fn frame_law()
+    ensures { FrameLaw }
+{
+    change_laws::frame_law();
 }

@@ -1,6 +1,7 @@
 //! Leaves and nodes that the tests build, and what they become with a field or two changed.
 
-ghost use Rattle.std.specs.Prelude.{◌≡◌, length, true};
+ghost use Rattle.std.specs.Prelude.{◌≡◌, ◌≤◌, drop, length, true};
+ghost use Rattle.recon_crc.specs.Checksum.{crc32c_of};
 ghost use Rattle.verdict.specs.Trees.{is_node_size};
 
 use node_reader::{Expect, Pointer, read_block, read_block_summed};
@@ -247,13 +248,21 @@ fn fills_a_large_block(rt: HostRuntime) {
     }
 }
 
+/// The checksum of a block.
+fn sum_of(bytes: &[u8]) -> u32
+    requires { 32 ≤ length bytes.now }
+    ensures { result ≡ crc32c_of (drop 0x20 bytes.now) }
+{
+    crc32c(&bytes[0x20..])
+}
+
 #[test]
 fn lends_what_a_block_holds(rt: HostRuntime) {
     let mut bytes = [0; 4096];
     put_leaf(&mut bytes, 3, 2);
     put(&mut bytes, 4092, 2, 0x0201);
     put_sum(&mut bytes);
-    let sum = crc32c(&bytes[0x20..]);
+    let sum = sum_of(&bytes);
     let Ok(leaf) = read_block_summed(&bytes, &FSID, &expected(0, false), sum) else {
         panic!(rt; "the leaf breaks no rule");
     };
