@@ -3,8 +3,9 @@
 # - A settle that rewrites one leaf of the file tree with its own bytes, on a volume of 2,000 small files and on one of 200,000: microseconds
 #   each, and the ratio.
 # - The start of a replay beside `recon check`: seconds, peak memory, and the ratio; the bytes of the index beside those of the metadata.
-# - A made workload of 200 commits, replayed, beside reading its trace and writing its bytes.
-# Usage: bench/commits.sh [FOLDER]    FOLDER has, or gets, the two volumes few.img and many.img. It wants btrfs-progs and python3.
+# - A made workload of 200 commits, replayed, beside a program in C that reads its trace, writes its bytes and flushes as often: processor
+#   time, the least of five runs of each in turns.
+# Usage: bench/commits.sh [FOLDER]    FOLDER has, or gets, the two volumes few.img and many.img. It wants btrfs-progs, python3 and gcc.
 set -eu
 cd "$(dirname "$0")/.."
 scratch=$(mktemp -d)
@@ -21,6 +22,32 @@ if [ ! -e "$folder/few.img" ]; then
   bench/volume.sh "$folder/few.img" "$scratch/files"
 fi
 [ -e "$folder/many.img" ] || bench/volume.sh "$folder/many.img"
+cat > "$scratch/plain.c" <<'C'
+#include <fcntl.h>
+#include <stdint.h>
+#include <stdio.h>
+#include <stdlib.h>
+#include <string.h>
+#include <unistd.h>
+
+/* Writes each record of a trace when it comes, and flushes twice at each that touches the superblock. */
+int main(int words, char **word) {
+    static unsigned char head[16], data[1 << 20];
+    int image = words > 1 ? open(word[1], O_WRONLY) : -1, kind;
+    if (image < 0 || fread(head, 1, 16, stdin) != 16) return 2;
+    while ((kind = getchar()) == 1) {
+        uint64_t at;
+        uint32_t len;
+        if (fread(head, 1, 14, stdin) != 14) return 2;
+        memcpy(&at, head + 2, 8);
+        memcpy(&len, head + 10, 4);
+        if (len > sizeof data || fread(data, 1, len, stdin) != len || pwrite(image, data, len, at) != len) return 2;
+        if (at < 69632 && at + len > 65536 && (fdatasync(image) || fdatasync(image))) return 2;
+    }
+    return kind != 255;
+}
+C
+gcc -O2 -o "$scratch/plain" "$scratch/plain.c"
 python3 - "$program" "$folder" "$scratch" <<'PYTHON'
 import os
 import struct
@@ -102,14 +129,22 @@ with open(trace, 'wb') as out:
     subprocess.run([program, 'make', '7', '200', image], stdout=out, check=True)
 with open(image, 'rb') as given:
     first = given.read()
-least = None
-for _ in range(3):
-    with open(image, 'wb') as out:
-        out.write(first)
-    with open(trace, 'rb') as given:
-        child = subprocess.Popen([program, 'replay', image], stdin=given, stdout=subprocess.DEVNULL)
-        used = os.wait4(child.pid, 0)[2]
-    spent = used.ru_utime + used.ru_stime
-    least = spent if least is None else min(least, spent)
-print(f'200 commits of a made workload: {least:.3f} s of processor time, trace of {os.path.getsize(trace) / 2**20:.1f} MiB')
+least = {}
+for _ in range(5):
+    for side, words in ('replay', [program, 'replay', image]), ('plain', [f'{scratch}/plain', image]):
+        with open(image, 'wb') as out:
+            out.write(first)
+        with open(trace, 'rb') as given:
+            child = subprocess.Popen(words, stdin=given, stdout=subprocess.DEVNULL)
+            used = os.wait4(child.pid, 0)
+        if used[1]:
+            sys.exit(f'commits.sh: {side} ended with {used[1]}')
+        spent = used[2].ru_utime + used[2].ru_stime
+        least[side] = min(least.get(side, spent), spent)
+        with open(image, 'rb') as left:
+            least[side + ' left'] = left.read()
+if least['replay left'] != least['plain left']:
+    sys.exit('commits.sh: the two sides left other images')
+print(f'200 commits of a made workload: {least["replay"]:.3f} s of processor time, a plain reader and writer {least["plain"]:.3f}: '
+      f'{least["replay"] / least["plain"]:.2f} times; trace of {os.path.getsize(trace) / 2**20:.1f} MiB')
 PYTHON
