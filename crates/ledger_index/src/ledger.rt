@@ -23,7 +23,8 @@ use std::marker::PhantomData;
 use verdict::NoMemory;
 
 /// The totals of the accounts of an image. An entry stands for exactly the accounts whose totals are not all zero. Each
-/// call but `new` looks once into the table, and counts that.
+/// call looks once into the table and counts that, but for `new`, which does not look, and `least_broken`, which looks at
+/// most once for each entry.
 ///
 /// The mark `L` ties the table to its counter: code that is generic in `L` can make no counter of its own.
 #[derive(Drop)]

@@ -1,2 +1,4 @@
 mod Partly
+pub mod Undoing
+pub mod Stopping
 pub mod Sending

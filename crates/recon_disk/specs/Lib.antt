@@ -1,5 +1,8 @@
 pub mod Outside
+pub mod Stops
 pub mod Memory
+pub mod Stopping
+pub mod StoppingLaws
 pub mod Listed
 pub mod Keeping
 pub mod Calls

@@ -1,9 +1,10 @@
 //! A block device of fixed length.
 
-ghost use Rattle.std.specs.Prelude.{ℕ, Bool, is_err, ◌≡◌, ◌+◌, ◌<◌, ◌≤◌, List, length, Option, IfSome, IfOk, OnOk, OnErr, option_map, [], ◌∷◌};
+ghost use Rattle.std.specs.Prelude.{ℕ, Bool, is_err, ◌≡◌, ◌+◌, ◌<◌, ◌≤◌, List, length, Option, IfSome, IfOk, OnOk, OnErr, option_map, [], ◌∷◌, ◌⊎◌};
 ghost use Rattle.verdict.specs.Image.{range, written};
 ghost use Rattle.recon_disk.specs.Outside.{HasCause, MayBeWritten, counted};
 ghost use Rattle.recon_disk.specs.Calls.{Sent, Wrote, Flushed, and_sent};
+ghost use Rattle.recon_disk.specs.Stops.{Moment, RemainsNow, and_flushed, and_wrote};
 
 /// A call on the outside failed.
 #[derive(Clone, Copy, Debug, PartialEq, Eq)]
@@ -14,6 +15,10 @@ pub struct Failed;
 /// A disk may tell its bytes, as one in memory does, or not, as a real file. What a read gives and a
 /// write changes is said where they are told. It may tell the writes and flushes that answered Ok too,
 /// and whether it does never changes.
+///
+/// It may tell as well what a stop at each moment so far would have left, such as a power cut: after a flush
+/// that answered Ok what a read gives, and after that with any bytes in the ranges written since, but that a
+/// write of exactly the superblock place is whole, old or new.
 pub trait Disk {
     /// The length in bytes, which never changes.
     ghost len: { Self → ℕ };
@@ -21,6 +26,8 @@ pub trait Disk {
     ghost bytes: { Self → Option (List ℕ) };
     /// The writes and flushes that answered Ok so far, in their order, where the disk tells them.
     ghost sent: { Self → Option (List Sent) };
+    /// The moments so far at which it may stop, the newest first, where the disk tells them.
+    ghost moments: { Self → Option (List Moment) };
     /// How often `read` was called.
     ghost reads: { Self → ℕ };
     /// How often a call failed.
@@ -35,6 +42,7 @@ pub trait Disk {
         ensures len { len self.new ≡ len self.old }
         ensures bytes { bytes self.new ≡ bytes self.old }
         ensures sent { sent self.new ≡ sent self.old }
+        ensures moments { moments self.new ≡ moments self.old }
         ensures reads { reads self.new ≡ reads self.old }
         ensures cause { HasCause (faults self.old) (faults self.new) result };
 
@@ -48,6 +56,7 @@ pub trait Disk {
         ensures len { len self.new ≡ len self.old }
         ensures bytes { bytes self.new ≡ bytes self.old }
         ensures sent { sent self.new ≡ sent self.old }
+        ensures moments { moments self.new ≡ moments self.old }
         ensures reads { reads self.new ≡ counted (reads self.old) }
         ensures cause { HasCause (faults self.old) (faults self.new) result };
 
@@ -63,6 +72,9 @@ pub trait Disk {
         ensures sent { OnOk result (sent self.new ≡
             and_sent (sent self.old) (Wrote at from.now ∷ [])) }
         ensures unsent { OnErr result (sent self.new ≡ sent self.old) }
+        ensures moments { OnOk result (moments self.new ≡ and_wrote (moments self.old) at from.now) }
+        ensures perhaps { OnErr result ((moments self.new ≡ moments self.old)
+            ⊎ (moments self.new ≡ and_wrote (moments self.old) at from.now)) }
         ensures len { len self.new ≡ len self.old }
         ensures reads { reads self.new ≡ reads self.old }
         ensures cause { HasCause (faults self.old) (faults self.new) result };
@@ -73,9 +85,15 @@ pub trait Disk {
         ensures bytes { bytes self.new ≡ bytes self.old }
         ensures sent { OnOk result (sent self.new ≡ and_sent (sent self.old) (Flushed ∷ [])) }
         ensures unsent { OnErr result (sent self.new ≡ sent self.old) }
+        ensures settled { OnOk result (moments self.new ≡ and_flushed (moments self.old) (bytes self.old)) }
+        ensures unsettled { OnErr result (moments self.new ≡ moments self.old) }
         ensures reads { reads self.new ≡ reads self.old }
         ensures cause { HasCause (faults self.old) (faults self.new) result };
 
     /// Where the bytes are told, there are as many as the length says.
     ghost told_length: { (disk : Self) → IfSome (bytes disk) (λ image. length image ≡ len disk) };
+
+    /// Where bytes and moments are told, the bytes are such as a stop now may leave.
+    ghost told_moments: { (disk : Self) → IfSome (bytes disk) (λ image.
+        IfSome (moments disk) (λ ms. RemainsNow ms image)) };
 }

@@ -7,6 +7,7 @@ mod memory;
 mod sink;
 mod source;
 mod steps;
+mod stop;
 mod writing;
 
 pub use disk::{Disk, Failed};
@@ -14,4 +15,5 @@ pub use memory::{Fail, MemDisk, Op};
 pub use sink::{MemSink, Sink};
 pub use source::{MemSource, Source};
 pub use steps::Steps;
+pub use stop::StopDisk;
 pub use writing::{WRITE_MAX, write_all_at};

@@ -31,7 +31,7 @@ pub struct Fail {
     pub keep: u32,
 }
 
-/// A disk in memory, which tells its bytes, and not what was sent to it. The calls that its list
+/// A disk in memory, which tells its bytes, and neither what was sent to it nor what a stop would leave. The calls that its list
 /// names fail, and no other.
 #[derive(Drop)]
 pub struct MemDisk {
@@ -46,6 +46,8 @@ pub struct MemDisk {
 
 impl MemDisk {
     ghost use Rattle.recon_disk.specs.Memory.{bytes_in, fails_of, calls_of, no_calls, reads_of, faults_of};
+    ghost use Rattle.recon_disk.specs.Memory.{after_call};
+    ghost use Rattle.recon_disk.specs.Outside.{counted};
 
     /// A disk that holds these bytes, with the calls that are to fail. Nothing was called yet.
     pub fn new(bytes: Vec<u8>, fails: Vec<Fail>) -> MemDisk
@@ -86,6 +88,23 @@ impl MemDisk {
     {
         self.faults
     }
+
+    // Counts a call of a kind, and a fault.
+    pub(crate) fn refuse(&mut self, op: Op)
+        ensures bytes { bytes_in self.new ≡ bytes_in self.old }
+        ensures list { fails_of self.new ≡ fails_of self.old }
+        ensures calls { calls_of self.new ≡ after_call op (calls_of self.old) }
+        ensures faults { faults_of self.new ≡ counted (faults_of self.old) }
+        ensures grows { faults_of self.old ≤ faults_of self.new }
+    {
+        match op {
+            Op::Length => self.lengths = self.lengths.saturating_add(1),
+            Op::Read => self.reads = self.reads.saturating_add(1),
+            Op::Write => self.writes = self.writes.saturating_add(1),
+            Op::Flush => self.flushes = self.flushes.saturating_add(1),
+        }
+        self.faults = self.faults.saturating_add(1);
+    }
 }
 
 // The first entry of the list that names this call.
@@ -109,6 +128,8 @@ impl Disk for MemDisk {
 
     ghost sent = { λ d. None };
 
+    ghost moments = { λ d. None };
+
     ghost reads = { λ d. d.reads };
 
     ghost faults = { λ d. d.faults };
@@ -116,6 +137,8 @@ impl Disk for MemDisk {
     ghost hides_length = { λ d. is_some (fail_of_next Length d) };
 
     ghost told_length = { λ d. refl };
+
+    ghost told_moments = { λ d. tt };
 
     fn length(&mut self) -> Result<u64, Failed>
         ensures hidden { is_err result ≡ is_some (fail_of_next Op.Length self.old) }

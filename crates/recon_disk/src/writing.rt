@@ -4,6 +4,7 @@ ghost use Rattle.std.specs.Prelude.{◌≡◌, ◌+◌, ◌^◌, ◌<◌, ◌≤
 ghost use Rattle.verdict.specs.Image.{written};
 ghost use Rattle.recon_disk.specs.Calls.{HasSentFront, and_sent, run_calls};
 ghost use Rattle.recon_disk.specs.Sending.{Sends, StaysOutside};
+ghost use Rattle.recon_disk.specs.Stops.{HasWritten, LiesIn};
 
 use crate::{Disk, Failed};
 
@@ -23,6 +24,7 @@ pub fn write_all_at<D: Disk>(disk: &mut D, at: u64, bytes: &[u8]) -> Result<(), 
         and_sent (D.sent disk.old) (run_calls at bytes.now)) }
     ensures part { OnErr result
         (HasSentFront (run_calls at bytes.now) (D.sent disk.old) (D.sent disk.new)) }
+    ensures stops { HasWritten (LiesIn at (length bytes.now)) (D.moments disk.old) (D.moments disk.new) }
     ensures reads { D.reads disk.new ≡ D.reads disk.old }
 {
     let mut done = 0;

@@ -142,6 +142,8 @@ impl<F: Read + Write + Seek + OpenFile + LockFile + Drop> Disk for FileDisk<F> {
 
     ghost sent = { λ d. None };
 
+    ghost moments = { λ d. None };
+
     ghost reads = { λ d. d.reads };
 
     ghost faults = { λ d. d.faults };
@@ -149,6 +151,8 @@ impl<F: Read + Write + Seek + OpenFile + LockFile + Drop> Disk for FileDisk<F> {
     ghost hides_length = { λ d. not (is_opened d) };
 
     ghost told_length = { λ d. tt };
+
+    ghost told_moments = { λ d. tt };
 
     fn length(&mut self) -> Result<u64, Failed>
         ensures hidden { is_err result ≡ not (is_opened self.old) }
