@@ -36,6 +36,7 @@ pub mod SSteps
 pub mod SWhole
 pub mod Separate
 pub mod VFrame
+pub mod VStops
 pub mod WCommit
 pub mod WNamed
 pub mod WSpans

@@ -10,4 +10,5 @@ pub mod Same
 pub mod Sectors
 pub mod Sound
 pub mod Steps
+pub mod Stops
 pub mod Tables

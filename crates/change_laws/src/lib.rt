@@ -11,6 +11,7 @@ mod same;
 mod sectors;
 mod sound;
 mod steps;
+mod stops;
 
 pub use commit::commit_law;
 pub use flags::{flags_law, hot_law, roots_law, table_moved_law};
@@ -21,3 +22,4 @@ pub use same::{held_law, records_law};
 pub use sectors::{judged_law, runs_law, sectors_law};
 pub use sound::{ascend_law, known_spans_law, sound_law};
 pub use steps::{posts_law, spans_law, step_law, whole_step_law};
+pub use stops::stop_law;

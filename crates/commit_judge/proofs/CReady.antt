@@ -298,6 +298,7 @@ kept_both disk old between new first second = record {
   len = second.len ∙ first.len;
   bytes = second.bytes ∙ first.bytes;
   sent = second.sent ∙ first.sent;
+  moments = second.moments ∙ first.moments;
   faults = second.faults ∙ first.faults;
 }
 

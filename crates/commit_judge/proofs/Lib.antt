@@ -17,4 +17,5 @@ pub mod JJudge
 pub mod JMoves
 pub mod JPassed
 pub mod JShort
+pub mod JStops
 pub mod JTried

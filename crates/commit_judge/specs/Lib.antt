@@ -12,3 +12,4 @@ pub mod Judging
 pub mod Tables
 pub mod Start
 pub mod Filling
+pub mod Stops

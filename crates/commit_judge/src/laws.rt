@@ -2,6 +2,7 @@
 
 ghost use Rattle.change_laws.specs.Frame.{FrameLaw};
 ghost use Rattle.commit_judge.specs.Judging.{CountsLaw, TriedLaw};
+ghost use Rattle.commit_judge.specs.Stops.{SafeStops};
 
 use change_laws::{ascend_law, commit_law, held_law, hot_law, known_spans_law, sound_law};
 
@@ -31,4 +32,13 @@ pub fn frame_law()
     ensures { FrameLaw }
 {
     change_laws::frame_law();
+}
+
+/// The stop law. Where no live block is hot, what a stop may leave of a disk on which pending
+/// writes went out in part, but none in the superblock place, is as good as the image before: the
+/// full check says the same of it. The image with all pending writes over it is an accepted one.
+pub fn stop_law()
+    ensures { SafeStops }
+{
+    change_laws::stop_law();
 }
