@@ -24,7 +24,8 @@ use verdict::{Key, NoMemory};
 /// a taker, as a whole walk does. It reads no kept block, goes on to what is walked below it, and gives nothing of it. Where a kept
 /// block's greatest key is not below the high key that is expected, there is a finding at or below it: then the rest below it is walked
 /// whole up to the first. Each copy of each block that is not kept is read once. Each other kept block that it meets is held.
-/// Behind each block that it reads or meets, and all that is walked below it, it tells its greatest key.
+/// Behind each block that it reads or meets, and all that is walked below it, it tells its greatest key. `room` is kept for the next
+/// walk, and nothing is read of what it holds.
 #[tactic(auto, using(block_source::proofs::Copies::room_fits))]
 pub fn walk_changed<D: Disk, K: Keeps, T: Taker>(
     alloc: Global,
@@ -32,6 +33,7 @@ pub fn walk_changed<D: Disk, K: Keeps, T: Taker>(
     source: &BlockSource<'_>,
     keeps: &mut K,
     e: &Expect,
+    room: &mut Vec<u8>,
     into: &mut T,
 ) -> Result<(), Halt>
     requires size { is_node_size source.now.sup.now.nodesize ≡ true }
@@ -51,9 +53,22 @@ pub fn walk_changed<D: Disk, K: Keeps, T: Taker>(
         (ends_in (K.keeps keeps.old) (K.anew keeps.old) (K.lasts keeps.old) source.now.sup.now source.now.map.now e.now)) }
 {
     let size = source.sup.nodesize as usize;
-    let mut room = vec![in alloc; 0u8; (e.level as usize + 1) * size]?;
-    let mut second = vec![in alloc; 0u8; size]?;
-    walk_keeping(alloc, disk, source, keeps, e, &mut room, &mut second, into)?;
+    let levels = (e.level as usize + 1) * size;
+    let needed = levels + size;
+    if room.len() < needed {
+        room.resize(needed, 0)?;
+    }
+    let (first, rest) = room.split_at_mut(levels);
+    walk_keeping(
+        alloc,
+        disk,
+        source,
+        keeps,
+        e,
+        first,
+        &mut rest[..size],
+        into,
+    )?;
     Ok(())
 }
 

@@ -47,6 +47,7 @@ pub(crate) fn change_map<D: Disk, L>(
     both: &Compared<'_, L>,
     array: &ChunkMap,
     steps: &mut Steps<L>,
+    room: &mut Vec<u8>,
     all: &mut TreeParts,
 ) -> Result<ChunkMap, Halt>
     requires fit { FitsCompared both.now (D.len disk.old) }
@@ -84,7 +85,7 @@ pub(crate) fn change_map<D: Disk, L>(
             starts: &starts,
         },
     };
-    change_chunks(alloc, disk, &sides, steps, all)
+    change_chunks(alloc, disk, &sides, steps, room, all)
 }
 
 /// Puts what changes in all trees but the chunk tree behind other parts. They are read by these new chunks.
@@ -94,6 +95,7 @@ pub(crate) fn change_rest<D: Disk, L>(
     both: &Compared<'_, L>,
     map: &ChunkMap,
     steps: &mut Steps<L>,
+    room: &mut Vec<u8>,
     all: &mut TreeParts,
 ) -> Result<(), Halt>
     requires fit { FitsCompared both.now (D.len disk.old) }
@@ -125,5 +127,5 @@ pub(crate) fn change_rest<D: Disk, L>(
             starts: &starts,
         },
     };
-    change_others(alloc, disk, &sides, steps, both.roots, all)
+    change_others(alloc, disk, &sides, steps, room, both.roots, all)
 }

@@ -126,9 +126,10 @@ fn compare<D: Disk, L>(
     ensures kept { Kept D.Disk disk.old disk.new (is_disk_halt result) }
 {
     let array = system_chunks(alloc, both.fresh)?;
+    let mut room = Vec::new(alloc);
     let mut all = TreeParts::new(alloc);
-    let map = change_map(alloc, disk, both, &array, steps, &mut all)?;
-    change_rest(alloc, disk, both, &map, steps, &mut all)?;
+    let map = change_map(alloc, disk, both, &array, steps, &mut room, &mut all)?;
+    change_rest(alloc, disk, both, &map, steps, &mut room, &mut all)?;
     Ok(finish(alloc, all, map)?)
 }
 

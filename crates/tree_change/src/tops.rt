@@ -21,6 +21,7 @@ pub(crate) fn change_chunks<D: Disk, L>(
     disk: &mut D,
     sides: &Sides<'_, L>,
     steps: &mut Steps<L>,
+    room: &mut Vec<u8>,
     all: &mut TreeParts,
 ) -> Result<ChunkMap, Halt>
     requires fit { FitSides sides.now (D.len disk.old) }
@@ -29,7 +30,7 @@ pub(crate) fn change_chunks<D: Disk, L>(
 {
     let before = chunk_root(sides.was.sup);
     let now = chunk_root(sides.is.sup);
-    let made = change_tree(alloc, disk, sides, steps, Some(before), &now)?;
+    let made = change_tree(alloc, disk, sides, steps, room, Some(before), &now)?;
     let map = merge_chunks(alloc, sides.was.map, &made.old_items, &made.new_items)?;
     match map.map_fault(sides.is.map, sides.is.sup.devid, sides.is.end) {
         Some(found) => Err(Halt::Found(found)),
@@ -46,6 +47,7 @@ pub(crate) fn change_roots<D: Disk, L>(
     disk: &mut D,
     sides: &Sides<'_, L>,
     steps: &mut Steps<L>,
+    room: &mut Vec<u8>,
     olds: &[RootAt],
     all: &mut TreeParts,
 ) -> Result<Vec<RootAt>, Halt>
@@ -56,7 +58,7 @@ pub(crate) fn change_roots<D: Disk, L>(
 {
     let before = top_root(sides.was.sup);
     let now = top_root(sides.is.sup);
-    let made = change_tree(alloc, disk, sides, steps, Some(before), &now)?;
+    let made = change_tree(alloc, disk, sides, steps, room, Some(before), &now)?;
     let roots = merge_roots(alloc, olds, &made.old_items, &made.new_items)?;
     check_roots(alloc, sides.is.sup.compat_ro, &roots)?;
     all.add(made)?;
@@ -69,6 +71,7 @@ pub(crate) fn change_others<D: Disk, L>(
     disk: &mut D,
     sides: &Sides<'_, L>,
     steps: &mut Steps<L>,
+    room: &mut Vec<u8>,
     olds: &[RootAt],
     all: &mut TreeParts,
 ) -> Result<(), Halt>
@@ -76,7 +79,7 @@ pub(crate) fn change_others<D: Disk, L>(
     ensures tells { TellsOthers D.Disk disk.old disk.new all.old all.new sides.now olds.now result }
     ensures kept { Kept D.Disk disk.old disk.new (is_disk_halt result) }
 {
-    let roots = change_roots(alloc, disk, sides, steps, olds, all)?;
-    change_named(alloc, disk, sides, steps, olds, &roots, all)?;
-    change_all_gone(alloc, disk, sides, steps, &roots, olds, all)
+    let roots = change_roots(alloc, disk, sides, steps, room, olds, all)?;
+    change_named(alloc, disk, sides, steps, room, olds, &roots, all)?;
+    change_all_gone(alloc, disk, sides, steps, room, &roots, olds, all)
 }

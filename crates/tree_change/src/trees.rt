@@ -86,6 +86,7 @@ fn walk_before<D: Disk, L>(
     disk: &mut D,
     sides: &Sides<'_, L>,
     steps: &mut Steps<L>,
+    room: &mut Vec<u8>,
     met: &[Expect],
     before: Option<Expect>,
 ) -> Result<Gathered, Halt>
@@ -98,7 +99,7 @@ fn walk_before<D: Disk, L>(
     ensures kept { Kept D.Disk disk.old disk.new (is_disk_halt result) }
 {
     match before {
-        Some(e) => walk_old(alloc, disk, &sides.was, &sides.known, met, steps, &e),
+        Some(e) => walk_old(alloc, disk, &sides.was, &sides.known, met, steps, room, &e),
         None => Ok(Gathered::new(alloc)),
     }
 }
@@ -109,6 +110,7 @@ pub(crate) fn change_tree<D: Disk, L>(
     disk: &mut D,
     sides: &Sides<'_, L>,
     steps: &mut Steps<L>,
+    room: &mut Vec<u8>,
     before: Option<Expect>,
     now: &Expect,
 ) -> Result<TreeParts, Halt>
@@ -116,8 +118,8 @@ pub(crate) fn change_tree<D: Disk, L>(
     ensures tells { TellsParts D.Disk disk.old disk.new result (parts_in sides.now before now.now) }
     ensures kept { Kept D.Disk disk.old disk.new (is_disk_halt result) }
 {
-    let new = walk_new(alloc, disk, &sides.is, &sides.known, steps, now)?;
-    let old = walk_before(alloc, disk, sides, steps, &new.met, before)?;
+    let new = walk_new(alloc, disk, &sides.is, &sides.known, steps, room, now)?;
+    let old = walk_before(alloc, disk, sides, steps, room, &new.met, before)?;
     let mut old_blocks = Vec::new(alloc);
     add_known(sides.table, steps, &old.blocks, &mut old_blocks)?;
     let mut new_blocks = Vec::new(alloc);
@@ -147,13 +149,23 @@ fn change_gone<D: Disk, L>(
     disk: &mut D,
     sides: &Sides<'_, L>,
     steps: &mut Steps<L>,
+    room: &mut Vec<u8>,
     before: &Expect,
 ) -> Result<TreeParts, Halt>
     requires fit { FitSides sides.now (D.len disk.old) }
     ensures tells { TellsParts D.Disk disk.old disk.new result (gone_in sides.now before.now) }
     ensures kept { Kept D.Disk disk.old disk.new (is_disk_halt result) }
 {
-    let old = walk_old(alloc, disk, &sides.was, &sides.known, &[], steps, before)?;
+    let old = walk_old(
+        alloc,
+        disk,
+        &sides.was,
+        &sides.known,
+        &[],
+        steps,
+        room,
+        before,
+    )?;
     let mut old_blocks = Vec::new(alloc);
     add_known(sides.table, steps, &old.blocks, &mut old_blocks)?;
     Ok(TreeParts {
@@ -171,6 +183,7 @@ pub(crate) fn change_named<D: Disk, L>(
     disk: &mut D,
     sides: &Sides<'_, L>,
     steps: &mut Steps<L>,
+    room: &mut Vec<u8>,
     olds: &[RootAt],
     news: &[RootAt],
     all: &mut TreeParts,
@@ -187,6 +200,7 @@ pub(crate) fn change_named<D: Disk, L>(
             disk,
             sides,
             steps,
+            room,
             ids.root_of(root.key.objectid),
             &named_at(root),
         )?;
@@ -201,6 +215,7 @@ pub(crate) fn change_all_gone<D: Disk, L>(
     disk: &mut D,
     sides: &Sides<'_, L>,
     steps: &mut Steps<L>,
+    room: &mut Vec<u8>,
     news: &[RootAt],
     olds: &[RootAt],
     all: &mut TreeParts,
@@ -213,7 +228,7 @@ pub(crate) fn change_all_gone<D: Disk, L>(
     let ids = ids_of(alloc, news)?;
     for root in olds {
         if !ids.has(root.key.objectid) {
-            let made = change_gone(alloc, disk, sides, steps, &named_at(root))?;
+            let made = change_gone(alloc, disk, sides, steps, room, &named_at(root))?;
             all.add(made)?;
         }
     }

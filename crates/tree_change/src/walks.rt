@@ -51,6 +51,7 @@ pub(crate) fn walk_new<D: Disk, L>(
     source: &BlockSource<'_>,
     known: &KnownTrees<'_, L>,
     steps: &mut Steps<L>,
+    room: &mut Vec<u8>,
     e: &Expect,
 ) -> Result<NewTree, Halt>
     requires size { is_node_size source.now.sup.now.nodesize ≡ true }
@@ -71,7 +72,7 @@ pub(crate) fn walk_new<D: Disk, L>(
         met: Vec::new(alloc),
         ended: Vec::new(alloc),
     };
-    walk_changed(alloc, disk, source, &mut keeps, e, &mut read)?;
+    walk_changed(alloc, disk, source, &mut keeps, e, room, &mut read)?;
     Ok(NewTree {
         read,
         met: keeps.met,
@@ -88,6 +89,7 @@ pub(crate) fn walk_old<D: Disk, L>(
     known: &KnownTrees<'_, L>,
     met: &[Expect],
     steps: &mut Steps<L>,
+    room: &mut Vec<u8>,
     e: &Expect,
 ) -> Result<Gathered, Halt>
     requires size { is_node_size source.now.sup.now.nodesize ≡ true }
@@ -107,6 +109,6 @@ pub(crate) fn walk_old<D: Disk, L>(
         starts: known.starts,
         steps: &mut *steps,
     };
-    walk_changed(alloc, disk, source, &mut keeps, e, &mut read)?;
+    walk_changed(alloc, disk, source, &mut keeps, e, room, &mut read)?;
     Ok(read)
 }
