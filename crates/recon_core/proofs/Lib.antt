@@ -6,3 +6,5 @@ pub mod Settling
 pub mod Nothing
 pub mod Ordered
 pub mod HeldOrder
+pub mod Moments
+pub mod Safe

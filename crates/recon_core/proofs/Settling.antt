@@ -11,6 +11,7 @@ use Rattle.verdict.specs.declared.machine.Answer.TheVariants.{Passed, Rejected}
 use Rattle.recon_disk.specs.declared.disk.Disk.{Ghosts}
 use Rattle.recon_disk.specs.Calls.{Sent}
 use Rattle.recon_disk.specs.Keeping.{IsCounted}
+use Rattle.recon_disk.specs.Stops.{Moment}
 use Rattle.write_cache.specs.Cache.{overlaid}
 use Rattle.records.specs.FullCheck.{full_check}
 use Rattle.commit_judge.specs.Counts.{blocks_between, hot_between}
@@ -23,8 +24,10 @@ use Rattle.recon_core.specs.Judged.{IsLeftOf, IsSettled, Judges}
 use Rattle.recon_core.specs.Machine.{answer_to, image_by}
 use Rattle.recon_core.specs.Order.{HasSentBy, HasSentOut, HasSentPart}
 use Rattle.recon_core.specs.Reads.{HasReads}
-use Rattle.recon_core.specs.Sent.{IsAllOrPart, IsPlaceOf}
+use Rattle.recon_core.specs.Moments.{IsFlushedAs, LeavesAfter}
+use Rattle.recon_core.specs.Sent.{IsAllOrPart, IsPlaceOf, LeavesBy}
 use Rattle.recon_core.specs.Stops.{IsLeftBy}
+use Rattle.recon_core.proofs.Moments.{leaves_wider}
 use Rattle.recon_core.proofs.Steps.{each_some}
 use Rattle.recon_core.proofs.Told.{nothing_sent}
 
@@ -82,6 +85,19 @@ pub left_passed : {L : Type 0} (old last : Option (List ℕ)) (m : FinMap nat_cm
 left_passed old last m before after first second generation blocks hot h =
     if_some_then (λ image. IndexStands image before) _ _ old (λ image both. each_some {P = IsAllOrPart m image} {Q = IsLeftOf m image} last
     (λ left part. subst (λ v. IsLeftBy v m (overlaid m 0 image) image left) (sym both.passed.accepted) part) both.sent) h
+
+-- what a stop may leave
+pub stops_passed : {L : Type 0} (old : Option (List ℕ)) (m : FinMap nat_cmp ℕ) (before after : Index L) (first second generation blocks hot : ℕ)
+    (begun now : Option (List Moment))
+    → IfSome old (λ image. IndexStands image before → PassedAnd m after first second generation blocks hot
+    (λ i. IfSome begun (λ moments. IsFlushedAs i moments → LeavesAfter (IsAllOrPart m i) moments now)) image)
+    → LeavesBy (λ image. IndexStands image before) (IsLeftOf m) old begun now
+stops_passed None m before after first second generation blocks hot begun now h = tt
+stops_passed (Some image) m before after first second generation blocks hot None now h = λ stands. tt
+stops_passed (Some image) m before after first second generation blocks hot (Some moments) now h = λ stands flushed.
+    let both = h stands in
+    leaves_wider (IsAllOrPart m image) (IsLeftOf m image) moments now
+    (λ left part. subst (λ v. IsLeftBy v m (overlaid m 0 image) image left) (sym both.passed.accepted) part) (both.sent flushed)
 
 -- how often the disk was read
 pub reads_passed : {L : Type 0} (old : Option (List ℕ)) (m : FinMap nat_cmp ℕ) (before after : Index L) (judged : Judged)

@@ -1,35 +1,43 @@
 -- What the machine's steps come to, by the cache of what waits.
-use Rattle.std.proofs.Common.{◌≡◌, ℕ, ◌+◌, ◌≤◌, inl, inr, Bool, true, false, List, [], ◌∷◌, ◌++◌, length, take, drop, Option, Some, None, IfSome, IsSome, Result, Ok, Err, OnOk, OnErr, IfOk, IfErr, IsErrOf, refl, sym, ap, ◌∙◌, arith, subst, cond}
+use Rattle.std.proofs.Common.{◌≡◌, ℕ, ◌+◌, ◌≤◌, inl, inr, Bool, true, false, List, [], ◌∷◌, ◌++◌, length, take, drop, Option, Some, None, IfSome, IsSome, Result, Ok, Err, OnOk, OnErr, IfOk, IfErr, IsErrOf, refl, sym, ap, ◌∙◌, arith, subst, cond, if◌then◌else◌, nat_lt}
 use Rattle.std.specs.Ordering.{nat_cmp}
 use Rattle.std.specs.FinMap.{FinMap, get, empty, get-empty}
 use Rattle.std.proofs.lemmas.List.{take_at}
-use Rattle.std.proofs.lemmas.Bool.{cases_lt}
+use Rattle.std.proofs.lemmas.Bool.{cases_lt, lt-ltb}
+use Rattle.verdict.specs.declared.machine.Event.{Event}
 use Rattle.verdict.specs.declared.machine.Event.TheVariants.{Write, Settle, Fetch}
+use Rattle.verdict.specs.declared.machine.Stop.{Stop}
+use Rattle.verdict.specs.declared.machine.Stop.TheVariants.{Closed, PastEnd}
 use Rattle.verdict.specs.declared.machine.Answer.{Answer}
 use Rattle.verdict.specs.declared.machine.Answer.TheVariants.{Held, Fetched}
 use Rattle.std.specs.Bool.{MatchBool}
 use Rattle.std.specs.Option.{IsSomeAnd}
-use Rattle.verdict.specs.Events.{meets_superblock}
+use Rattle.verdict.specs.Events.{begin_of, end_of, length_of, meets_superblock}
 use Rattle.verdict.specs.Image.{range, applied}
 use Rattle.verdict.specs.declared.machine.HeldWrite.{HeldWrite}
 use Rattle.verdict.specs.declared.finding.Finding.{Finding}
 use Rattle.write_cache.specs.Cache.{with_bytes, cache_of, overlaid}
 use Rattle.write_cache.proofs.CacheLaws.{length-overlaid, overlaid-applied, cache_of-push, cache_of-none, AllInside-push, get-with_bytes_before, get-with_bytes_behind}
+use Rattle.recon_disk.specs.Stops.{Moment}
 use Rattle.records.specs.FullCheck.{full_check}
 use Rattle.verdict.specs.declared.finding.Verdict.{Verdict}
 use Rattle.verdict.specs.declared.finding.Verdict.TheVariants.{Accept, Found}
 use Rattle.recon_core.specs.declared.checker.Checker.{Checker}
 use Rattle.commit_judge.specs.Counts.{blocks_between, hot_between}
-use Rattle.commit_judge.specs.Index.{IndexStands}
+use Rattle.commit_judge.specs.Index.{IndexStands, known}
 use Rattle.commit_judge.specs.Start.{IsBuilt, IsReady}
 use Rattle.commit_judge.specs.declared.build.Built.{Built}
 use Rattle.commit_judge.specs.declared.build.Built.TheVariants.{Ready, Refused}
 use Rattle.commit_judge.specs.declared.index.Index.{Index}
 use Rattle.recon_core.specs.Reads.{HasReadTrees, HasReads}
 use Rattle.recon_core.specs.Machine.{MachineState, answer_to, image_by, judged_image, settle_step, machine_step, with_pending}
-use Rattle.recon_core.specs.Standing.{BeginsWith, StandsFor, IsAccepted, IsBelow, AllMissPlace, Takes}
+use Rattle.recon_core.specs.Standing.{BeginsWith, StandsFor, IsAccepted, IsBelow, AllMissPlace, Takes, refusal_of}
+use Rattle.recon_core.specs.Safe.{StopsAreSafe, hot_at}
 use Rattle.recon_core.specs.Stops.{IsLeftBy, IsJudgedStop, IsStopImage}
 use Rattle.recon_core.specs.Judged.{IsSettled, IsLeftOf}
+use Rattle.recon_core.specs.Moments.{IsFlushedAs, LeavesAfter}
+use Rattle.recon_core.specs.Sent.{LeavesBy}
+use Rattle.recon_core.proofs.Moments.{leaves_wider}
 
 -- a range that was read into a vector of that length
 pub fetched : (told : Option (List ℕ)) (m : FinMap nat_cmp ℕ) (at n k len : ℕ) (over items bytes : List ℕ)
@@ -282,3 +290,58 @@ each_ok (Err e) f h = tt
 -- a write that waits reads nothing
 pub reads_held : (said : Answer) (reads : ℕ) → said ≡ Held → HasReads said reads reads
 reads_held said reads is = subst (λ a. HasReads a reads reads) (sym is) (omega arith)
+
+-- what a stop in an event may leave, by what one in its judging may
+moments_wider : (Leaves Also : List ℕ → Type 0) (image : List ℕ) (before now : Option (List Moment)) → ((left : List ℕ) → Leaves left → Also left)
+    → IfSome before (λ moments. IsFlushedAs image moments → LeavesAfter Leaves moments now)
+    → IfSome before (λ moments. IsFlushedAs image moments → LeavesAfter Also moments now)
+moments_wider Leaves Also image None now f h = tt
+moments_wider Leaves Also image (Some moments) now f h = λ flushed. leaves_wider Leaves Also moments now f (h flushed)
+
+pub stops_none : (Leaves : List ℕ → Type 0) (image : List ℕ) (before now : Option (List Moment)) → now ≡ before
+    → IfSome before (λ moments. IsFlushedAs image moments → LeavesAfter Leaves moments now)
+stops_none Leaves image None now same = tt
+stops_none Leaves image (Some moments) now same = λ flushed. record { added = []; moments = same; each = tt }
+
+pub stops_commit : {L : Type 0} (checker : Checker L) (s : MachineState) (submitter at : ℕ) (data_ : List ℕ) (bytes : Option (List ℕ)) (before now : Option (List Moment))
+    → StandsFor checker s → at + length data_ ≤ length s.image → meets_superblock at (length data_) ≡ true → bytes ≡ Some s.image
+    → LeavesBy (λ image. IndexStands image checker.index) (IsLeftOf (with_bytes checker.cache at data_)) bytes before now
+    → IfSome before (λ moments. IsFlushedAs s.image moments → LeavesAfter (IsStopImage s (Write submitter at data_)) moments now)
+stops_commit checker s submitter at data_ bytes before now stands fits meets told leaves =
+    let w : HeldWrite = record { at = at; bytes = data_ } in
+    let m : FinMap nat_cmp ℕ = with_bytes checker.cache at data_ in
+    moments_wider (IsLeftOf m s.image) (IsStopImage s (Write submitter at data_)) s.image before now
+    (λ x h. by_true (meets_superblock at (length data_)) (IsJudgedStop (with_pending s w) x) (x ≡ s.image) meets
+    (judged_stop (with_pending s w) m x (waits_more checker s at data_ stands) (judged_more checker s at data_ stands fits) h))
+    (at_image (λ image. IndexStands image checker.index)
+    (λ image. IfSome before (λ moments. IsFlushedAs image moments → LeavesAfter (IsLeftOf m image) moments now)) bytes s.image told stands.index leaves)
+
+pub stops_settle : {L : Type 0} (checker : Checker L) (s : MachineState) (bytes : Option (List ℕ)) (before now : Option (List Moment))
+    → StandsFor checker s → bytes ≡ Some s.image
+    → LeavesBy (λ image. IndexStands image checker.index) (IsLeftOf checker.cache) bytes before now
+    → IfSome before (λ moments. IsFlushedAs s.image moments → LeavesAfter (IsStopImage s Settle) moments now)
+stops_settle checker s bytes before now stands told leaves =
+    moments_wider (IsLeftOf checker.cache s.image) (IsStopImage s Settle) s.image before now
+    (λ x h. judged_stop s checker.cache x stands.cache (judged_all checker s stands) h)
+    (at_image (λ image. IndexStands image checker.index)
+    (λ image. IfSome before (λ moments. IsFlushedAs image moments → LeavesAfter (IsLeftOf checker.cache image) moments now)) bytes s.image told stands.index leaves)
+
+-- an event that is not refused lies inside the image
+some_none : (stop : Stop) → Some stop ≡ None → ⊥
+some_none stop e = cc
+
+inside_of : (closed : Bool) (long end : ℕ) (a b : Stop) → (if closed then Some a else if nat_lt long end then Some b else None) ≡ None → end ≤ long
+inside_of true long end a b none = absurd (cc)
+inside_of false long end a b none = elim (cases_lt long end) [
+  | inl past ↦ absurd (some_none b (ap (λ t. if t then Some b else None) (sym (lt-ltb long end past)) ∙ none))
+  | inr within ↦ within
+]
+
+-- where no live block is hot, each stop image is accepted
+pub safe_by : {L : Type 0} (checker : Checker L) (event : Event) → StopsAreSafe → (s : MachineState) → StandsFor checker s → refusal_of checker event ≡ None
+    → hot_at s event ≡ 0 → (left : List ℕ) → IsStopImage s event left → IsAccepted left
+safe_by checker event law s stands none hot left stop =
+    law s event (known checker.index) left stands.lawful
+    (subst (λ n. end_of event ≤ n) stands.size
+    (inside_of checker.closed checker.length (end_of event) Closed (PastEnd (begin_of event) (length_of event) checker.length) none))
+    stands.index.known hot stop

@@ -115,6 +115,14 @@ begin_sending m (Some image) len pieces size long below apart whole = record {
 pub piece_inside : (m : FinMap nat_cmp ℕ) (first now : Option (List ℕ)) (len : ℕ) (p : Piece) (left : List Piece) → IsBelow len m → IsSending m first now (p ∷ left) → p.at + length p.bytes ≤ len
 piece_inside m first now len p left below so = first_inside len 0 p left so.apart (left_below len m (p ∷ left) so.of_map below)
 
+-- each of its bytes waits
+pub piece_waits : (m : FinMap nat_cmp ℕ) (first now : Option (List ℕ)) (p : Piece) (left : List Piece) → IsSending m first now (p ∷ left)
+    → (i : ℕ) → p.at ≤ i → i < p.at + length p.bytes → IsSome (get m i)
+piece_waits m first now p left so i low high = elim (some_or_none (get m i)) [
+  | inl here ↦ here
+  | inr none ↦ absurd (not_none (get (map_of (p ∷ left)) i) (some_is (get (map_of (p ∷ left)) i) _ (get-map_of_first p left i low high)) (so.of_map i none))
+]
+
 of_rest : (m : FinMap nat_cmp ℕ) (p : Piece) (left : List Piece) → ((i : ℕ) → get m i ≡ None → get (map_of (p ∷ left)) i ≡ None) → (i : ℕ) → get m i ≡ None
     → ((i < p.at) ⊎ (p.at + length p.bytes ≤ i)) × (get (map_of left) i ≡ None)
 of_rest m p left of_map i none = elim (ranged p.at (length p.bytes) i) [

@@ -2,6 +2,8 @@ pub mod Machine
 pub mod Standing
 pub mod Reads
 pub mod Stops
+pub mod Safe
+pub mod Moments
 pub mod Sent
 pub mod Judged
 pub mod Order

@@ -1,17 +1,18 @@
 -- These words serve private functions alone: what goes out to a disk step by step.
-use Rattle.std.specs.Prelude.{ℕ, ◌≡◌, ◌+◌, ◌-◌, ◌<◌, ◌≤◌, ◌⊎◌, List, length, take, drop, min, Option, Some, Result, OnOk, OnErr, IfSome, slice_index}
+use Rattle.std.specs.Prelude.{ℕ, ◌≡◌, ◌+◌, ◌-◌, ◌<◌, ◌≤◌, ◌⊎◌, List, length, take, drop, min, Option, Some, IsSome, Result, OnOk, OnErr, IfSome, slice_index}
 use Rattle.std.specs.Option.{IsSomeAnd}
 use Rattle.std.specs.Ordering.{nat_cmp}
-use Rattle.std.specs.FinMap.{FinMap}
+use Rattle.std.specs.FinMap.{FinMap, get}
 use Rattle.verdict.specs.Image.{range, written}
 use Rattle.recon_disk.specs.declared.disk.Disk.{Ghosts}
 use Rattle.recon_disk.specs.Outside.{HasCause}
 use Rattle.recon_disk.specs.Calls.{Sent, and_sent, HasSentFront}
+use Rattle.recon_disk.specs.Stops.{Moment, Unflushed, OfPlace, OfRange}
 use Rattle.write_cache.specs.Cache.{overlaid}
 use Rattle.write_cache.specs.Pieces.{Piece, ArePiecesOf}
+use Rattle.recon_core.specs.Moments.{IsFlushedAs, LeavesAfter}
 use Rattle.recon_core.specs.Stops.{IsPartlySent}
 use Rattle.recon_core.specs.Order.{pieces_calls}
-use Rattle.recon_disk.specs.Calls.{HasSentFront}
 use Rattle.recon_disk.specs.Sending.{StaysOutside}
 
 -- the bytes outside a range stay, and those in the superblock place
@@ -40,6 +41,21 @@ HasSentRuns waiting before now = (pieces : List Piece) × ArePiecesOf waiting pi
 -- a front of them did
 abbrev pub HasSentSomeRuns : FinMap nat_cmp ℕ → Option (List Sent) → Option (List Sent) → Type 0
 HasSentSomeRuns waiting before now = (pieces : List Piece) × ArePiecesOf waiting pieces × HasSentFront (pieces_calls pieces) before now
+
+-- a write since the last flush has its range in one of n bytes from an offset on, and touches no byte of the superblock place
+abbrev pub IsOutIn : ℕ → ℕ → Unflushed → Type 0
+IsOutIn at n (OfPlace bytes) = ⊥
+IsOutIn at n (OfRange from m) = (at ≤ from) × (from + m ≤ at + n) × ((from + m ≤ 65536) ⊎ (69632 ≤ from))
+
+-- the same of one each byte of which waits
+abbrev pub IsOut : FinMap nat_cmp ℕ → Unflushed → Type 0
+IsOut waiting (OfPlace bytes) = ⊥
+IsOut waiting (OfRange from m) = ((i : ℕ) → from ≤ i → i < from + m → IsSome (get waiting i)) × ((from + m ≤ 65536) ⊎ (69632 ≤ from))
+
+-- What a stop in a call may leave of a disk that is settled when it begins, where the disk tells its bytes and this holds of them.
+abbrev pub LeavesBy : (List ℕ → Type 0) → (List ℕ → List ℕ → Type 0) → Option (List ℕ) → Option (List Moment) → Option (List Moment) → Type 0
+LeavesBy Is Leaves bytes before now =
+    IfSome bytes (λ image. Is image → IfSome before (λ moments. IsFlushedAs image moments → LeavesAfter (Leaves image) moments now))
 
 -- the bytes are those of the superblock place of an image with the waiting bytes over it
 abbrev pub IsPlaceOf : FinMap nat_cmp ℕ → List ℕ → List ℕ → Type 0

@@ -5,6 +5,7 @@ ghost use Rattle.recon_core.specs.Judged.{stop_for};
 
 use crate::fetching::fetch;
 use crate::judging::judge_waiting;
+use crate::laws::stop_law;
 use chunk_map::Bases;
 use commit_judge::{Built, Index};
 use plain_check::Fault;
@@ -39,19 +40,22 @@ pub enum Started<L> {
 }
 
 impl<L> Checker<L> {
-    ghost use Rattle.std.specs.Prelude.{◌≡◌, ◌≢◌, ◌+◌, ◌^◌, ◌<◌, ◌≤◌, length, true, Some, None, Ok, Err, IfOk, IfErr, IfSome, OnOk, OnErr, IsSomeAnd, IsTrue, IsErrOf};
+    ghost use Rattle.std.specs.Prelude.{ℕ, ◌≡◌, ◌≢◌, ◌+◌, ◌^◌, ◌<◌, ◌≤◌, List, length, true, Some, None, Ok, Err, IfOk, IfErr, IfSome, OnOk, OnErr, IsSomeAnd, IsTrue, IsErrOf};
     ghost use Rattle.std.specs.FinMap as map;
     ghost use Rattle.verdict.specs.Events.{IsSized};
     ghost use Rattle.verdict.specs.Image.{range};
     ghost use Rattle.recon_disk.specs.Keeping.{IsCounted, Kept};
     ghost use Rattle.write_cache.specs.Cache.{overlaid, with_bytes};
     ghost use Rattle.recon_core.specs.Machine.{MachineState, machine_step};
-    ghost use Rattle.recon_core.specs.Standing.{BeginsAt, BeginsOpen, BeginsOver, BeginsWith, IsAfterWant, IsAnswerTo, IsBelow, IsFetched, IsJudgement, IsNoRefusal, StandsFor, Takes, is_disk_fault, refusal_of, waits};
+    ghost use Rattle.recon_core.specs.Standing.{BeginsAt, IsAccepted, BeginsOpen, BeginsOver, BeginsWith, IsAfterWant, IsAnswerTo, IsBelow, IsFetched, IsJudgement, IsNoRefusal, StandsFor, Takes, is_disk_fault, refusal_of, waits};
     ghost use Rattle.recon_core.specs.Stops.{IsStopImage};
-    ghost use Rattle.recon_core.specs.Judged.{Judges};
+    ghost use Rattle.recon_core.specs.Safe.{hot_at};
+    ghost use Rattle.recon_core.specs.Moments.{IsAtRest, IsFlushedAs, LeavesAfter};
+    ghost use Rattle.recon_core.specs.Sent.{LeavesBy};
+    ghost use Rattle.recon_core.specs.Judged.{IsLeftOf, Judges};
     ghost use Rattle.recon_core.specs.Order.{HasSentBy, HasSentPart, judged_with};
     ghost use Rattle.recon_core.specs.Reads.{HasBegun, HasReads, HasStarted};
-    ghost use Rattle.commit_judge.specs.Index.{HasPlaceOf};
+    ghost use Rattle.commit_judge.specs.Index.{HasPlaceOf, IndexStands};
 
     /// A checker over the disk, where the full check accepts its image. The disk's bytes stay. The superblock is one
     /// read of the disk, and each block of the trees at most two. Its stops are `DiskFault` and `NoMemory`.
@@ -167,10 +171,24 @@ impl<L> Checker<L> {
             (HasSentPart (HasPlaceOf self.old.index) (judged_with self.old.cache ev)
             (D.bytes disk.old) (D.sent disk.old) (D.sent disk.new)) }
 
+        // What a stop at any moment in the event may leave, such as a power cut, of a disk that tells it and
+        // is settled when the event begins: a stop image of the event. After an answer it is settled again.
+        // Where the event writes over no live block and moves none, each of these images is accepted.
+        ensures stops { (state : MachineState) → StandsFor self.old state →
+            D.bytes disk.old ≡ Some state.image → refusal_of self.old ev ≡ None →
+            IfSome (D.moments disk.old) (λ before. IsFlushedAs state.image before →
+            LeavesAfter (IsStopImage state ev) before (D.moments disk.new)) }
+        ensures rest { OnOk result (IsAtRest (D.bytes disk.old) (D.moments disk.old)
+            → IsAtRest (D.bytes disk.new) (D.moments disk.new)) }
+        ensures safe { (state : MachineState) → StandsFor self.old state →
+            refusal_of self.old ev ≡ None → hot_at state ev ≡ 0 →
+            (left : List ℕ) → IsStopImage state ev left → IsAccepted left }
+
         // What the other refusals leave.
         ensures memory { IsErrOf result Stop.NoMemory →
             (D.bytes disk.new ≡ D.bytes disk.old) × IsAfterWant ev self.old self.new }
         ensures unsent { IsErrOf result Stop.NoMemory → D.sent disk.new ≡ D.sent disk.old }
+        ensures unmoved { IsErrOf result Stop.NoMemory → D.moments disk.new ≡ D.moments disk.old }
         ensures fault { IsErrOf result Stop.DiskFault → self.new.closed ≡ true }
         ensures answered { OnOk result (self.new.closed ≡ self.old.closed) }
         ensures held { IsTrue (waits ev) → (disk.new ≡ disk.old) × (result ≢ Err Stop.DiskFault) }
@@ -181,6 +199,7 @@ impl<L> Checker<L> {
         ensures inside { IsBelow self.old.length self.new.cache }
         ensures len { D.len disk.new ≡ D.len disk.old }
     {
+        stop_law();
         if self.closed {
             return Err(Stop::Closed);
         }
@@ -240,6 +259,12 @@ impl<L> Checker<L> {
             self.old.cache (D.bytes disk.old) (D.sent disk.old) (D.sent disk.new)) }
         ensures memory { IsErrOf result Stop.NoMemory → D.bytes disk.new ≡ D.bytes disk.old }
         ensures unsent { IsErrOf result Stop.NoMemory → D.sent disk.new ≡ D.sent disk.old }
+        ensures leaves { LeavesBy (λ image. IndexStands image self.old.index)
+            (IsLeftOf self.old.cache)
+            (D.bytes disk.old) (D.moments disk.old) (D.moments disk.new) }
+        ensures rest { OnOk result (IsAtRest (D.bytes disk.old) (D.moments disk.old)
+            → IsAtRest (D.bytes disk.new) (D.moments disk.new)) }
+        ensures unmoved { IsErrOf result Stop.NoMemory → D.moments disk.new ≡ D.moments disk.old }
         ensures ok { OnOk result
             (self.new ≡ record self.old { cache = map.empty; index = self.new.index }) }
         ensures err { OnErr result
@@ -289,6 +314,12 @@ impl<L> Checker<L> {
             (D.bytes disk.old) (D.sent disk.old) (D.sent disk.new)) }
         ensures memory { IsErrOf result Stop.NoMemory → D.bytes disk.new ≡ D.bytes disk.old }
         ensures unsent { IsErrOf result Stop.NoMemory → D.sent disk.new ≡ D.sent disk.old }
+        ensures leaves { LeavesBy (λ image. IndexStands image self.old.index)
+            (IsLeftOf (with_bytes self.old.cache write.at write.bytes))
+            (D.bytes disk.old) (D.moments disk.old) (D.moments disk.new) }
+        ensures rest { OnOk result (IsAtRest (D.bytes disk.old) (D.moments disk.old)
+            → IsAtRest (D.bytes disk.new) (D.moments disk.new)) }
+        ensures unmoved { IsErrOf result Stop.NoMemory → D.moments disk.new ≡ D.moments disk.old }
         ensures ok { OnOk result
             (self.new ≡ record self.old { cache = map.empty; index = self.new.index }) }
         ensures err { OnErr result

@@ -3,10 +3,12 @@
 ghost use Rattle.std.specs.Prelude.{◌≡◌, IfOk, OnOk, OnErr, IsErrOf};
 ghost use Rattle.std.specs.FinMap as map;
 ghost use Rattle.block_source.specs.Gives.{is_disk_fault};
-ghost use Rattle.commit_judge.specs.Index.{HasPlaceOf};
+ghost use Rattle.commit_judge.specs.Index.{HasPlaceOf, IndexStands};
 ghost use Rattle.recon_core.specs.Standing.{IsBelow, IsJudgement};
-ghost use Rattle.recon_core.specs.Judged.{Judges};
+ghost use Rattle.recon_core.specs.Judged.{IsLeftOf, Judges};
+ghost use Rattle.recon_core.specs.Moments.{IsAtRest};
 ghost use Rattle.recon_core.specs.Order.{HasSentBy, HasSentPart};
+ghost use Rattle.recon_core.specs.Sent.{LeavesBy};
 
 use crate::send::let_through;
 use commit_judge::{Index, Judged, judge_within};
@@ -40,6 +42,11 @@ pub fn judge_waiting<D: Disk, L>(
     ensures part { OnErr result (HasSentPart (HasPlaceOf index.old)
         cache.old (D.bytes disk.old) (D.sent disk.old) (D.sent disk.new)) }
     ensures unsent { IsErrOf result Fault.NoMemory → D.sent disk.new ≡ D.sent disk.old }
+    ensures stops { LeavesBy (λ image. IndexStands image index.old) (IsLeftOf cache.old)
+        (D.bytes disk.old) (D.moments disk.old) (D.moments disk.new) }
+    ensures rest { OnOk result (IsAtRest (D.bytes disk.old) (D.moments disk.old)
+        → IsAtRest (D.bytes disk.new) (D.moments disk.new)) }
+    ensures unmoved { IsErrOf result Fault.NoMemory → D.moments disk.new ≡ D.moments disk.old }
     ensures empty { OnOk result (cache.new ≡ map.empty) }
     ensures waits { OnErr result (cache.new ≡ cache.old) }
 {

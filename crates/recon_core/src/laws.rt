@@ -1,6 +1,7 @@
-//! A law on the definition of the checking machine. The function does nothing.
+//! Laws on the definition of the checking machine. The functions do nothing.
 
 ghost use Rattle.recon_core.specs.Law.{OrderDecidesNothing};
+ghost use Rattle.recon_core.specs.Safe.{StopsAreSafe};
 
 /// Writes that wait may come in any order where their ranges do not meet. From one state, two runs of the same
 /// such writes in different orders leave states of one image, and every list of events that follows has equal
@@ -10,3 +11,12 @@ ghost use Rattle.recon_core.specs.Law.{OrderDecidesNothing};
 pub fn order_law()
     ensures { OrderDecidesNothing }
 {}
+
+/// Where an event writes over no live block of the image before it and moves none, each image that a stop in the
+/// event may leave, such as a power cut, is accepted by the full check: it is the image before the event, the
+/// judged one, or the one before with a part of the pending bytes, none of which belongs to a live block.
+pub fn stop_law()
+    ensures { StopsAreSafe }
+{
+    commit_judge::stop_law();
+}

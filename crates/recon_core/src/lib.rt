@@ -9,4 +9,4 @@ mod laws;
 mod send;
 
 pub use checker::{Checker, Started};
-pub use laws::order_law;
+pub use laws::{order_law, stop_law};

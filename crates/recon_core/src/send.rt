@@ -1,13 +1,16 @@
 //! How what waits goes out to the disk once it is let through.
 
-ghost use Rattle.std.specs.Prelude.{ℕ, ◌≡◌, ◌+◌, ◌^◌, ◌<◌, ◌≤◌, List, length, IfSome, OnOk, OnErr};
-ghost use Rattle.recon_disk.specs.Calls.{HasSentFront, and_sent};
+ghost use Rattle.std.specs.Prelude.{ℕ, ◌≡◌, ◌+◌, ◌^◌, ◌<◌, ◌≤◌, [], ◌∷◌, List, length, IfSome, OnOk, OnErr};
+ghost use Rattle.recon_disk.specs.Calls.{Flushed, HasSentFront, and_sent};
 ghost use Rattle.write_cache.specs.Cache.{overlaid};
 ghost use Rattle.recon_core.specs.Standing.{IsBelow};
 ghost use Rattle.recon_core.specs.Stops.{IsPartlySent};
 ghost use Rattle.recon_core.specs.Order.{HasSentOut, HasSentPart, piece_calls};
-ghost use Rattle.recon_core.specs.Sent.{HasSentRuns, HasSentSomeRuns, IsPlaceOf, LetsThrough, StaysButForPiece, sent_piece, with_place_of};
+ghost use Rattle.recon_core.specs.Moments.{IsAtRest};
+ghost use Rattle.recon_core.specs.Sent.{HasSentRuns, HasSentSomeRuns, IsAllOrPart, IsOut, IsOutIn, IsPlaceOf, LeavesBy, LetsThrough, StaysButForPiece, sent_piece, with_place_of};
 ghost use Rattle.recon_disk.specs.Sending.{Sends};
+ghost use Rattle.recon_disk.specs.Outside.{HasCause};
+ghost use Rattle.recon_disk.specs.Stops.{HasWritten, and_flushed};
 
 use recon_disk::{Disk, Failed, write_all_at};
 use verdict::{SUPERBLOCK_AT, SUPERBLOCK_SIZE};
@@ -24,6 +27,8 @@ fn send_piece<D: Disk>(disk: &mut D, at: u64, bytes: &[u8]) -> Result<(), Failed
         and_sent (D.sent disk.old) (piece_calls at bytes.now)) }
     ensures part { OnErr result
         (HasSentFront (piece_calls at bytes.now) (D.sent disk.old) (D.sent disk.new)) }
+    ensures stops { HasWritten (IsOutIn at (length bytes.now))
+        (D.moments disk.old) (D.moments disk.new) }
     ensures reads { D.reads disk.new ≡ D.reads disk.old }
 {
     let len = bytes.len() as u64;
@@ -45,12 +50,28 @@ fn send_pieces<D: Disk>(disk: &mut D, cache: &WriteCache) -> Result<(), Failed>
         (IsPartlySent cache.now) }
     ensures order { OnOk result (HasSentRuns cache.now (D.sent disk.old) (D.sent disk.new)) }
     ensures part { OnErr result (HasSentSomeRuns cache.now (D.sent disk.old) (D.sent disk.new)) }
+    ensures stops { HasWritten (IsOut cache.now) (D.moments disk.old) (D.moments disk.new) }
     ensures reads { D.reads disk.new ≡ D.reads disk.old }
 {
     for (at, bytes) in cache.pieces() {
         send_piece(disk, at, bytes)?;
     }
     Ok(())
+}
+
+// Flushes the disk. Where that answers Ok, the disk is settled: a stop leaves what a read gives.
+fn settle_disk<D: Disk>(disk: &mut D) -> Result<(), Failed>
+    ensures len { D.len disk.new ≡ D.len disk.old }
+    ensures bytes { D.bytes disk.new ≡ D.bytes disk.old }
+    ensures sent { OnOk result (D.sent disk.new ≡ and_sent (D.sent disk.old) (Flushed ∷ [])) }
+    ensures unsent { OnErr result (D.sent disk.new ≡ D.sent disk.old) }
+    ensures settled { OnOk result
+        (D.moments disk.new ≡ and_flushed (D.moments disk.old) (D.bytes disk.old)) }
+    ensures unsettled { OnErr result (D.moments disk.new ≡ D.moments disk.old) }
+    ensures reads { D.reads disk.new ≡ D.reads disk.old }
+    ensures cause { HasCause (D.faults disk.old) (D.faults disk.new) result }
+{
+    disk.flush()
 }
 
 /// Sends out what waits: first all bytes outside the superblock place in rising order, which are then
@@ -72,13 +93,16 @@ pub fn let_through<D: Disk>(
         HasSentOut cache.now (overlaid cache.now 0 image) (D.sent disk.old) (D.sent disk.new))) }
     ensures part { OnErr result (HasSentPart (IsPlaceOf cache.now superblock.now)
         cache.now (D.bytes disk.old) (D.sent disk.old) (D.sent disk.new)) }
+    ensures stops { LeavesBy (IsPlaceOf cache.now superblock.now) (IsAllOrPart cache.now)
+        (D.bytes disk.old) (D.moments disk.old) (D.moments disk.new) }
+    ensures rest { OnOk result (IsAtRest (D.bytes disk.new) (D.moments disk.new)) }
 {
     let commit = cache.touches(SUPERBLOCK_AT, SUPERBLOCK_SIZE);
     send_pieces(disk, cache)?;
-    disk.flush()?;
+    settle_disk(disk)?;
     if !commit {
         return Ok(());
     }
     disk.write(SUPERBLOCK_AT, superblock)?;
-    disk.flush()
+    settle_disk(disk)
 }

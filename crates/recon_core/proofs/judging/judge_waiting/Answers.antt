@@ -3,8 +3,12 @@ use Rattle.std.specs.Option.{IsSomeAnd}
 use Rattle.recon_disk.proofs.Sending.{if_err}
 use Rattle.write_cache.specs.Cache.{overlaid}
 use Rattle.recon_core.specs.Order.{HasSentOut}
-use Rattle.recon_core.specs.Sent.{IsAllOrPart, IsPlaceOf}
-use Rattle.recon_core.proofs.Settling.{judges_err, left_passed, left_unsent, part_passed, passed_and, placed, reads_passed, reads_rejected, sent_passed, settled_passed, settled_rejected}
+use Rattle.commit_judge.specs.Index.{IndexStands}
+use Rattle.recon_core.specs.Judged.{IsLeftOf}
+use Rattle.recon_core.specs.Moments.{IsFlushedAs, LeavesAfter}
+use Rattle.recon_core.specs.Sent.{IsAllOrPart, IsPlaceOf, LeavesBy}
+use Rattle.recon_core.proofs.Settling.{judges_err, left_passed, left_unsent, part_passed, passed_and, placed, reads_passed, reads_rejected, sent_passed, settled_passed, settled_rejected, stops_passed}
+use Rattle.recon_core.proofs.Moments.{leaves_none, still_at_rest}
 use Rattle.recon_core.proofs.judging.judge_waiting.Goals as goal
 
 pub returns-in_err-judged-clause-judged : goal.returns-in_err-judged-clause-judged
@@ -89,3 +93,53 @@ returns-in_ok-let_through-in-Passed-clause-order g c =
     (subst (λ sent. IfSome (g.D.Disk.bytes c.judge_within.new.disk)
     (λ image. IsPlaceOf m c.superblock.result.now image → HasSentOut m (overlaid m 0 image) sent last)) c.judge_within.ensures.kept.sent
     c.in_ok-let_through-in-Passed.ensures.order))
+
+pub returns-in_err-judged-clause-stops : goal.returns-in_err-judged-clause-stops
+returns-in_err-judged-clause-stops g c =
+    leaves_none (λ image. IndexStands image c.args.index.now) (IsLeftOf c.args.cache.now) (g.D.Disk.bytes c.args.disk.now) (g.D.Disk.moments c.args.disk.now) (g.D.Disk.moments c.judge_within.new.disk)
+    c.judge_within.ensures.kept.moments
+
+pub returns-in-Rejected-clause-stops : goal.returns-in-Rejected-clause-stops
+returns-in-Rejected-clause-stops g c =
+    leaves_none (λ image. IndexStands image c.args.index.now) (IsLeftOf c.args.cache.now) (g.D.Disk.bytes c.args.disk.now) (g.D.Disk.moments c.args.disk.now) (g.D.Disk.moments c.judge_within.new.disk)
+    c.judge_within.ensures.kept.moments
+
+pub returns-in-Rejected-clause-rest : goal.returns-in-Rejected-clause-rest
+returns-in-Rejected-clause-rest g c =
+    still_at_rest (g.D.Disk.bytes c.args.disk.now) (g.D.Disk.bytes c.judge_within.new.disk) (g.D.Disk.moments c.args.disk.now) (g.D.Disk.moments c.judge_within.new.disk)
+    c.judge_within.ensures.kept.bytes c.judge_within.ensures.kept.moments
+
+pub returns-in_err-let_through-in-Passed-clause-stops : goal.returns-in_err-let_through-in-Passed-clause-stops
+returns-in_err-let_through-in-Passed-clause-stops g c =
+    let begun = g.D.Disk.moments c.args.disk.now in
+    let now = g.D.Disk.moments c.let_through.new.disk in
+    let first = g.D.Disk.reads c.args.disk.now in
+    let second = g.D.Disk.reads c.judge_within.new.disk in
+    let m = c.args.cache.now in
+    stops_passed (g.D.Disk.bytes c.args.disk.now) m c.args.index.now c.judge_within.new.index first second c.in-Passed.generation c.in-Passed.blocks c.in-Passed.hot
+    begun now
+    (passed_and (λ image. IfSome begun (λ moments. IsFlushedAs image moments → LeavesAfter (IsAllOrPart m image) moments now)) (g.D.Disk.bytes c.args.disk.now)
+    (g.D.Disk.bytes c.judge_within.new.disk) m c.args.index.now c.judge_within.new.index c.in_ok-judged.judged c.superblock.result.now first second
+    c.in-Passed.generation c.in-Passed.blocks c.in-Passed.hot c.in-Passed.is c.judge_within.ensures.kept.bytes c.superblock.ensures
+    c.in_ok-judged.ensures.told
+    (subst (λ o. LeavesBy (IsPlaceOf m c.superblock.result.now) (IsAllOrPart m) (g.D.Disk.bytes c.judge_within.new.disk) o now) c.judge_within.ensures.kept.moments
+    c.let_through.ensures.stops))
+
+pub returns-in_ok-let_through-in-Passed-clause-stops : goal.returns-in_ok-let_through-in-Passed-clause-stops
+returns-in_ok-let_through-in-Passed-clause-stops g c =
+    let begun = g.D.Disk.moments c.args.disk.now in
+    let now = g.D.Disk.moments c.let_through.new.disk in
+    let first = g.D.Disk.reads c.args.disk.now in
+    let second = g.D.Disk.reads c.judge_within.new.disk in
+    let m = c.args.cache.now in
+    stops_passed (g.D.Disk.bytes c.args.disk.now) m c.args.index.now c.judge_within.new.index first second c.in-Passed.generation c.in-Passed.blocks c.in-Passed.hot
+    begun now
+    (passed_and (λ image. IfSome begun (λ moments. IsFlushedAs image moments → LeavesAfter (IsAllOrPart m image) moments now)) (g.D.Disk.bytes c.args.disk.now)
+    (g.D.Disk.bytes c.judge_within.new.disk) m c.args.index.now c.judge_within.new.index c.in_ok-judged.judged c.superblock.result.now first second
+    c.in-Passed.generation c.in-Passed.blocks c.in-Passed.hot c.in-Passed.is c.judge_within.ensures.kept.bytes c.superblock.ensures
+    c.in_ok-judged.ensures.told
+    (subst (λ o. LeavesBy (IsPlaceOf m c.superblock.result.now) (IsAllOrPart m) (g.D.Disk.bytes c.judge_within.new.disk) o now) c.judge_within.ensures.kept.moments
+    c.let_through.ensures.stops))
+
+pub returns-in_ok-let_through-in-Passed-clause-rest : goal.returns-in_ok-let_through-in-Passed-clause-rest
+returns-in_ok-let_through-in-Passed-clause-rest g c = λ rest. c.in_ok-let_through-in-Passed.ensures.rest

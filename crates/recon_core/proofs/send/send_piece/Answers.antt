@@ -1,11 +1,14 @@
 use Rattle.std.proofs.Common.{◌≡◌, ◌+◌, ◌-◌, min, length, take, drop, ◌∙◌, arith, ap, subst}
-use Rattle.std.proofs.lemmas.List.{take_rest}
+use Rattle.std.proofs.lemmas.List.{length-drop, length-take-le, take_rest}
 use Rattle.std.proofs.lemmas.Result.{on_err_weaker, on_ok_weaker}
 use Rattle.recon_disk.specs.Outside.{HasCause}
-use Rattle.recon_core.specs.Sent.{StaysButForPiece, sent_piece}
+use Rattle.recon_core.specs.Sent.{IsOutIn, StaysButForPiece, sent_piece}
 use Rattle.recon_core.proofs.Told.{front_fails, piece_sent, rest_fails}
 use Rattle.recon_disk.proofs.Sending.{if_err, sends_err}
 use Rattle.recon_core.proofs.Ordered.{front_in_part, piece_out, rest_in_part}
+use Rattle.recon_disk.specs.Stops.{LiesIn}
+use Rattle.recon_disk.proofs.Stopping.{written_then, written_wider}
+use Rattle.recon_core.proofs.Moments.{front_out, rest_out}
 use Rattle.recon_core.proofs.send.send_piece.Goals as goal
 
 pub returns-in_err-write_all_at-clause-device : goal.returns-in_err-write_all_at-clause-device
@@ -50,3 +53,26 @@ returns-clause-part g c =
     (take c.min-before.result bytes) (take (length bytes - c.min-behind.result) (drop c.min-behind.result bytes))
     (ap (λ k. take k bytes) (omega arith)) (take_rest bytes c.min-behind.result ∙ ap (λ k. drop k bytes) (omega arith)) (omega arith) c.in_ok-write_all_at.ensures.order h)
     c.write_all_at-2.ensures.part
+
+pub returns-in_err-write_all_at-clause-stops : goal.returns-in_err-write_all_at-clause-stops
+returns-in_err-write_all_at-clause-stops g c =
+    let size : length (take c.min-before.result c.args.bytes.now) ≡ c.min-before.result = length-take-le c.min-before.result c.args.bytes.now (omega arith) in
+    (written_wider (LiesIn c.args.at (length (take c.min-before.result c.args.bytes.now))) (IsOutIn c.args.at (length c.args.bytes.now))
+    (g.D.Disk.moments c.args.disk.now) (g.D.Disk.moments c.write_all_at.new.disk)
+    (front_out c.args.at (length c.args.bytes.now) (length (take c.min-before.result c.args.bytes.now)) (omega (arith, size)) (omega (arith, size))) c.write_all_at.ensures.stops)
+
+pub returns-clause-stops : goal.returns-clause-stops
+returns-clause-stops g c =
+    let bytes = c.args.bytes.now in
+    let size : length (take c.min-before.result bytes) ≡ c.min-before.result = length-take-le c.min-before.result bytes (omega arith) in
+    let rest : take (length bytes - c.min-behind.result) (drop c.min-behind.result bytes) ≡ drop (min (69632 - c.args.at) (length bytes)) bytes =
+    take_rest bytes c.min-behind.result ∙ ap (λ k. drop k bytes) (omega arith) in
+    let left : length (take (length bytes - c.min-behind.result) (drop c.min-behind.result bytes)) ≡ length bytes - min (69632 - c.args.at) (length bytes) =
+    ap length rest ∙ length-drop (min (69632 - c.args.at) (length bytes)) bytes in
+    written_then (IsOutIn c.args.at (length bytes)) (g.D.Disk.moments c.args.disk.now) (g.D.Disk.moments c.write_all_at.new.disk) (g.D.Disk.moments c.write_all_at-2.new.disk)
+    (written_wider (LiesIn c.args.at (length (take c.min-before.result c.args.bytes.now))) (IsOutIn c.args.at (length c.args.bytes.now))
+    (g.D.Disk.moments c.args.disk.now) (g.D.Disk.moments c.write_all_at.new.disk)
+    (front_out c.args.at (length c.args.bytes.now) (length (take c.min-before.result c.args.bytes.now)) (omega (arith, size)) (omega (arith, size))) c.write_all_at.ensures.stops)
+    (written_wider (LiesIn (c.args.at + c.min-behind.result) (length (take (length bytes - c.min-behind.result) (drop c.min-behind.result bytes)))) (IsOutIn c.args.at (length bytes))
+    (g.D.Disk.moments c.write_all_at.new.disk) (g.D.Disk.moments c.write_all_at-2.new.disk)
+    (rest_out c.args.at (length bytes) (c.args.at + c.min-behind.result) _ (omega arith) left) c.write_all_at-2.ensures.stops)

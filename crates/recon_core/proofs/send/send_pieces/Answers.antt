@@ -3,10 +3,12 @@ use Rattle.recon_disk.specs.Outside.{counted}
 use Rattle.write_cache.specs.Cache.{overlaid}
 use Rattle.write_cache.specs.Lent.{piece_lent, pieces_left}
 use Rattle.recon_core.specs.Stops.{IsPartlySent}
-use Rattle.recon_core.specs.Sent.{with_place_of}
-use Rattle.recon_core.proofs.Told.{IsSending, begin_sending, more_sent, piece_fails, piece_inside, sent_whole}
+use Rattle.recon_core.specs.Sent.{IsOut, IsOutIn, with_place_of}
+use Rattle.recon_core.proofs.Told.{IsSending, begin_sending, more_sent, piece_fails, piece_inside, piece_waits, sent_whole}
 use Rattle.recon_disk.proofs.Sending.{if_err, sends_err}
 use Rattle.recon_core.proofs.Ordered.{RunsLeft, runs_in_part, runs_begin, runs_more, runs_end}
+use Rattle.recon_disk.proofs.Stopping.{written_none, written_then, written_wider}
+use Rattle.recon_core.proofs.Moments.{out_wider}
 use Rattle.recon_core.proofs.send.send_pieces.Goals as goal
 
 pub loop-at-init : goal.loop-at-init
@@ -17,6 +19,7 @@ loop-at-init g c = record {
       c.requires.place c.requires.inside c.pieces-at-items.ensures.apart c.pieces-at-items.ensures.whole);
   order = subst (λ p. RunsLeft c.args.cache.now (g.D.Disk.sent c.args.disk.now) (g.D.Disk.sent c.args.disk.now) (pieces_left p)) (sym c.into_iter-at-iterator.ensures.into_iter_gives)
       (runs_begin c.args.cache.now (g.D.Disk.sent c.args.disk.now) (pieces_left c.pieces-at-items.result) c.pieces-at-items.ensures);
+  stops = written_none (IsOut c.args.cache.now) (g.D.Disk.moments c.args.disk.now);
   faults = refl;
   reads = refl;
 }
@@ -41,6 +44,11 @@ loop-at-preserved g c = record {
       (subst (IsSending c.args.cache.now (g.D.Disk.bytes c.args.disk.now) (g.D.Disk.bytes c.loop-at.disk)) c.in-Some.ensures.steps c.loop-at.invariant.so) c.in_ok-send_piece.ensures.device.made;
   order = runs_more c.args.cache.now (g.D.Disk.sent c.args.disk.now) (g.D.Disk.sent c.loop-at.disk) (g.D.Disk.sent c.send_piece.new.disk) (piece_lent (c.in-Some.at, c.in-Some.bytes)) (pieces_left c.next.new.self)
       (subst (RunsLeft c.args.cache.now (g.D.Disk.sent c.args.disk.now) (g.D.Disk.sent c.loop-at.disk)) c.in-Some.ensures.steps c.loop-at.invariant.order) c.in_ok-send_piece.ensures.order;
+  stops = written_then (IsOut c.args.cache.now) (g.D.Disk.moments c.args.disk.now) (g.D.Disk.moments c.loop-at.disk) (g.D.Disk.moments c.send_piece.new.disk) c.loop-at.invariant.stops
+      (written_wider (IsOutIn c.in-Some.at (length c.in-Some.bytes.now)) (IsOut c.args.cache.now) (g.D.Disk.moments c.loop-at.disk) (g.D.Disk.moments c.send_piece.new.disk)
+      (out_wider c.args.cache.now c.in-Some.at (length c.in-Some.bytes.now)
+      (piece_waits c.args.cache.now (g.D.Disk.bytes c.args.disk.now) (g.D.Disk.bytes c.loop-at.disk) (piece_lent (c.in-Some.at, c.in-Some.bytes)) (pieces_left c.next.new.self)
+      (subst (IsSending c.args.cache.now (g.D.Disk.bytes c.args.disk.now) (g.D.Disk.bytes c.loop-at.disk)) c.in-Some.ensures.steps c.loop-at.invariant.so))) c.send_piece.ensures.stops);
   faults = c.in_ok-send_piece.ensures.device.cause.fine ∙ c.loop-at.invariant.faults;
   reads = c.send_piece.ensures.reads ∙ c.loop-at.invariant.reads;
 }
@@ -69,3 +77,14 @@ pub returns-in_err-send_piece-clause-part : goal.returns-in_err-send_piece-claus
 returns-in_err-send_piece-clause-part g c =
     if_err c.from_residual.result (runs_in_part c.args.cache.now (g.D.Disk.sent c.args.disk.now) (g.D.Disk.sent c.loop-at.disk) (g.D.Disk.sent c.send_piece.new.disk) (piece_lent (c.in-Some.at, c.in-Some.bytes)) (pieces_left c.next.new.self)
     (subst (RunsLeft c.args.cache.now (g.D.Disk.sent c.args.disk.now) (g.D.Disk.sent c.loop-at.disk)) c.in-Some.ensures.steps c.loop-at.invariant.order) c.in_err-send_piece.ensures.part)
+
+pub returns-in_err-send_piece-clause-stops : goal.returns-in_err-send_piece-clause-stops
+returns-in_err-send_piece-clause-stops g c =
+    written_then (IsOut c.args.cache.now) (g.D.Disk.moments c.args.disk.now) (g.D.Disk.moments c.loop-at.disk) (g.D.Disk.moments c.send_piece.new.disk) c.loop-at.invariant.stops
+    (written_wider (IsOutIn c.in-Some.at (length c.in-Some.bytes.now)) (IsOut c.args.cache.now) (g.D.Disk.moments c.loop-at.disk) (g.D.Disk.moments c.send_piece.new.disk)
+    (out_wider c.args.cache.now c.in-Some.at (length c.in-Some.bytes.now)
+    (piece_waits c.args.cache.now (g.D.Disk.bytes c.args.disk.now) (g.D.Disk.bytes c.loop-at.disk) (piece_lent (c.in-Some.at, c.in-Some.bytes)) (pieces_left c.next.new.self)
+    (subst (IsSending c.args.cache.now (g.D.Disk.bytes c.args.disk.now) (g.D.Disk.bytes c.loop-at.disk)) c.in-Some.ensures.steps c.loop-at.invariant.so))) c.send_piece.ensures.stops)
+
+pub returns-clause-stops : goal.returns-clause-stops
+returns-clause-stops g c = c.loop-at.invariant.stops

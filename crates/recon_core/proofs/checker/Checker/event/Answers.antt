@@ -1,12 +1,13 @@
-use Rattle.std.proofs.Common.{◌≡◌, true, false, length, sym, arith, ap, ◌∙◌, subst}
+use Rattle.std.proofs.Common.{◌≡◌, true, false, length, IfSome, refl, sym, arith, ap, ◌∙◌, subst}
 use Rattle.std.proofs.Common.{IsSomeAnd}
 use Rattle.std.proofs.lemmas.Result.{on_err_weaker, on_ok_weaker}
 use Rattle.verdict.specs.Events.{begin_of, length_of, meets_superblock}
 use Rattle.verdict.specs.declared.machine.Stop.TheVariants.{DiskFault}
 use Rattle.recon_core.specs.Machine.{machine_step}
+use Rattle.recon_core.specs.Moments.{IsFlushedAs, LeavesAfter}
 use Rattle.recon_core.specs.Standing.{Takes}
 use Rattle.recon_core.specs.Stops.{IsStopImage}
-use Rattle.recon_core.proofs.Steps.{at_err, below_after, below_held, takes_commit, stop_commit, takes_settle, stop_settle, takes_held, takes_fetch, with_ok, weaker, each_ok, reads_held, reads_judged}
+use Rattle.recon_core.proofs.Steps.{at_err, below_after, below_held, takes_commit, stop_commit, takes_settle, stop_settle, takes_held, takes_fetch, with_ok, weaker, each_ok, reads_held, reads_judged, safe_by, stops_commit, stops_none, stops_settle}
 use Rattle.recon_core.proofs.checker.Checker.event.Goals as goal
 
 pub returns-then-meets_superblock-clause-step : goal.returns-then-meets_superblock-clause-step
@@ -94,3 +95,39 @@ returns-in-Settle-clause-reads g c state stands told =
 
 pub returns-in-Fetch-clause-reads : goal.returns-in-Fetch-clause-reads
 returns-in-Fetch-clause-reads g c state stands told = c.fetch.ensures.reads
+
+pub returns-then-meets_superblock-clause-stops : goal.returns-then-meets_superblock-clause-stops
+returns-then-meets_superblock-clause-stops g c state stands told none =
+    let a : c.range-at.result.0 ≡ c.in-Write.at = c.range-at.ensures.at ∙ ap begin_of c.in-Write.is in
+    let n : c.range-at.result.1 ≡ length c.in-Write.bytes = c.range-at.ensures.len ∙ ap length_of c.in-Write.is in
+    let s : c.args.self.now.length ≡ length state.image = stands.size in
+    let meets : meets_superblock c.in-Write.at (length c.in-Write.bytes) ≡ true =
+    ap (meets_superblock c.in-Write.at) (sym n) ∙ sym c.meets_superblock.ensures ∙ c.if-meets_superblock.true in
+    subst (λ e. IfSome (g.D.Disk.moments c.args.disk.now) (λ before. IsFlushedAs state.image before → LeavesAfter (IsStopImage state e) before (g.D.Disk.moments c.commit.new.disk))) (sym c.in-Write.is)
+    (stops_commit c.args.self.now state c.in-Write.submitter c.in-Write.at c.in-Write.bytes (g.D.Disk.bytes c.args.disk.now) (g.D.Disk.moments c.args.disk.now) (g.D.Disk.moments c.commit.new.disk)
+    stands (omega arith) meets told c.commit.ensures.leaves)
+
+pub returns-in-Settle-clause-stops : goal.returns-in-Settle-clause-stops
+returns-in-Settle-clause-stops g c state stands told none =
+    subst (λ e. IfSome (g.D.Disk.moments c.args.disk.now) (λ before. IsFlushedAs state.image before → LeavesAfter (IsStopImage state e) before (g.D.Disk.moments c.settle.new.disk))) (sym c.in-Settle.is)
+    (stops_settle c.args.self.now state (g.D.Disk.bytes c.args.disk.now) (g.D.Disk.moments c.args.disk.now) (g.D.Disk.moments c.settle.new.disk) stands told c.settle.ensures.leaves)
+
+pub returns-in-Fetch-clause-stops : goal.returns-in-Fetch-clause-stops
+returns-in-Fetch-clause-stops g c state stands told none =
+    stops_none (IsStopImage state c.args.ev) state.image (g.D.Disk.moments c.args.disk.now) (g.D.Disk.moments c.fetch.new.disk) c.fetch.ensures.kept.moments
+
+pub returns-else-meets_superblock-clause-stops : goal.returns-else-meets_superblock-clause-stops
+returns-else-meets_superblock-clause-stops g c state stands told none =
+    stops_none (IsStopImage state c.args.ev) state.image (g.D.Disk.moments c.args.disk.now) (g.D.Disk.moments c.args.disk.now) refl
+
+pub returns-then-meets_superblock-clause-safe : goal.returns-then-meets_superblock-clause-safe
+returns-then-meets_superblock-clause-safe g c = safe_by c.args.self.now c.args.ev c.stop_law.ensures
+
+pub returns-else-meets_superblock-clause-safe : goal.returns-else-meets_superblock-clause-safe
+returns-else-meets_superblock-clause-safe g c = safe_by c.args.self.now c.args.ev c.stop_law.ensures
+
+pub returns-in-Settle-clause-safe : goal.returns-in-Settle-clause-safe
+returns-in-Settle-clause-safe g c = safe_by c.args.self.now c.args.ev c.stop_law.ensures
+
+pub returns-in-Fetch-clause-safe : goal.returns-in-Fetch-clause-safe
+returns-in-Fetch-clause-safe g c = safe_by c.args.self.now c.args.ev c.stop_law.ensures
