@@ -26,6 +26,8 @@ mod replay_tests;
 #[cfg(test)]
 mod runs;
 #[cfg(test)]
+mod stop_tests;
+#[cfg(test)]
 mod trace;
 #[cfg(test)]
 mod trace_maker_rows;

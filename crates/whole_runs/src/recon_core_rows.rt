@@ -22,7 +22,7 @@ struct Recorder {
 }
 
 impl Disk for Recorder {
-    ghost use Rattle.std.specs.Prelude.{Some, false, map, refl};
+    ghost use Rattle.std.specs.Prelude.{Some, None, false, map, refl};
     ghost use Rattle.std.specs.Option.{option_map_or};
     ghost use Rattle.recon_disk.specs.Calls.{Wrote, Flushed};
 
@@ -32,6 +32,8 @@ impl Disk for Recorder {
 
     ghost sent = { λ d. Some (map (λ call. option_map_or (λ w. Wrote w.at w.bytes) call Flushed) d.calls.items) };
 
+    ghost moments = { λ d. None };
+
     ghost reads = { λ d. d.reads };
 
     ghost faults = { λ d. d.faults };
@@ -39,6 +41,8 @@ impl Disk for Recorder {
     ghost hides_length = { λ d. false };
 
     ghost told_length = { λ d. refl };
+
+    ghost told_moments = { λ d. tt };
 
     fn length(&mut self) -> Result<u64, Failed> {
         Ok(self.bytes.len() as u64)

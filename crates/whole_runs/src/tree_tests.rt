@@ -135,6 +135,7 @@ fn walked(
         &source,
         &mut known,
         &expected(generation),
+        &mut Vec::new(alloc),
         &mut Nothing,
     ) {
         Ok(()) => None,
