@@ -111,8 +111,8 @@ class Base:
         must(dict(pages_of(self.file, self.image.length)) == self.image.pages, why)
         must(os.fstat(self.file).st_size == self.image.length, 'the image has another length')
 
-    def run(self, command, trace=b'', *more):
-        """A run of a command, which ends as each must."""
+    def run(self, command, trace=b'', *more, again=2):
+        """A run of a command, which ends as each must. A check that takes too long is run twice again, since a machine may halt in one."""
         self.before = self.image
         with open(self.trace_path, 'wb') as out:
             out.write(trace)
@@ -137,6 +137,8 @@ class Base:
         must(not said, f'{command} says {said!r} on standard error')
         if self.most[command]:
             seconds, memory = self.most[command]
+            if command == 'check' and again and run.seconds > max(10 * seconds, 0.5):
+                return self.run(command, trace, *more, again=again - 1)
             must(run.seconds <= max(10 * seconds, 0.5), f'{command} took {run.seconds:.2f} s, the sound volume {seconds:.2f} s')
             must(run.memory <= 2 * memory + 64 * MIB, f'{command} took {run.memory} bytes, the sound volume {memory}')
             worst['seconds'] = max(worst['seconds'], run.seconds)
