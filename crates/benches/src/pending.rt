@@ -45,10 +45,10 @@ pub fn measure(
         0 => WRITE,
         size => size.min(WRITE),
     };
-    let Ok(cache) = taken(rt.alloc(), order, count, size) else {
+    let Ok(mut cache) = taken(rt.alloc(), order, count, size) else {
         return println!(rt; "no memory");
     };
-    let (pieces, length) = sizes(&cache);
+    let (pieces, length) = sizes(&mut cache);
     let laid = laid_over(&cache, rounds);
     println!(rt; "{pieces} {length} {laid}")
 }
@@ -123,12 +123,15 @@ fn taken(alloc: Global, order: Order, count: u64, size: usize) -> Result<WriteCa
 }
 
 /// How many pieces wait, and the sum of their lengths.
-fn sizes(cache: &WriteCache) -> (u64, u64) {
+fn sizes(cache: &mut WriteCache) -> (u64, u64) {
     let mut count = 0u64;
     let mut length = 0u64;
-    for (_, bytes) in cache.pieces() {
-        count = count.wrapping_add(1);
-        length = length.wrapping_add(bytes.len() as u64);
+    cache.join();
+    if let Some(pieces) = cache.pieces() {
+        for (_, bytes) in pieces {
+            count = count.wrapping_add(1);
+            length = length.wrapping_add(bytes.len() as u64);
+        }
     }
     (count, length)
 }

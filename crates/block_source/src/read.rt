@@ -17,8 +17,9 @@ ghost use Rattle.block_source.specs.Private.{FitsIn};
 use crate::Fault;
 use crate::halt::Halt;
 use chunk_map::ChunkMap;
-use node_reader::{Block, Expect};
+use node_reader::{Block, Expect, read_block_summed};
 use recon_disk::Disk;
+use recon_lanes::folded_sum;
 use super_reader::Super;
 use verdict::{Family, Place, is_multiple};
 use write_cache::WriteCache;
@@ -170,6 +171,7 @@ pub fn read_block<'a, D: Disk>(
     ensures kept { Kept D.Disk disk.old disk.new (is_disk_halt result) }
 {
     read_bytes(disk, source, e, first, second)?;
-    let block = node_reader::read_block(first, &source.sup.fsid, e)?;
+    let sum = folded_sum(&first[0x20..]);
+    let block = read_block_summed(first, &source.sup.fsid, e, sum)?;
     Ok(block)
 }

@@ -81,24 +81,44 @@ fn put_all(
     Ok(cache)
 }
 
-// Whether the cache has exactly these pieces.
-fn has_pieces(cache: &WriteCache, wanted: &[Part]) -> bool {
-    let mut left = cache.pieces();
+// Whether the cache has exactly these pieces, once its runs are joined, and lends the same bytes in parts before.
+fn has_pieces(cache: &mut WriteCache, wanted: &[Part]) -> Result<bool, NoMemory> {
+    let in_parts = sum_of(cache.parts());
+    cache.join();
+    let Some(mut left) = cache.pieces() else {
+        return Err(NoMemory);
+    };
     for (at, bytes) in wanted {
         match left.next() {
             Some((begin, held)) if begin == *at && held == *bytes => {}
-            _ => return false,
+            _ => return Ok(false),
         }
     }
-    left.next().is_none()
+    Ok(left.next().is_none() && sum_of(cache.parts()) == in_parts)
+}
+
+// How many bytes are lent, and the sum of them with their places.
+fn sum_of(parts: Pieces<'_>) -> (u64, u64) {
+    let (mut count, mut sum) = (0u64, 0u64);
+    for (at, bytes) in parts {
+        for (i, byte) in bytes.iter().enumerate() {
+            let place = at.wrapping_add(i as u64);
+            count = count.wrapping_add(1);
+            sum = sum.wrapping_add(place.wrapping_mul(u64::from(*byte).wrapping_add(1)));
+        }
+    }
+    (count, sum)
 }
 
 #[test]
 fn the_pieces_are_the_maximal_runs(rt: HostRuntime) -> Result<(), NoMemory> {
     for (row, (puts, wanted)) in PUTS.iter().enumerate() {
         for own in [false, true] {
-            let cache = put_all(&rt, rt.alloc(), puts, own)?;
-            assert!(rt; has_pieces(&cache, wanted), "row {row}, own bytes: {own}");
+            let mut cache = put_all(&rt, rt.alloc(), puts, own)?;
+            assert!(rt;
+                has_pieces(&mut cache, wanted)?,
+                "row {row}, own bytes: {own}"
+            );
         }
     }
     Ok(())
@@ -115,7 +135,7 @@ fn takes_or_leaves(
 ) -> Result<bool, NoMemory> {
     let mut cache = put_all(rt, alloc, before, own)?;
     let taken = put(rt, alloc, &mut cache, write, own).is_ok();
-    Ok(has_pieces(&cache, if taken { after } else { before }))
+    has_pieces(&mut cache, if taken { after } else { before })
 }
 
 #[test]
@@ -181,7 +201,7 @@ fn what_waits_is_read_by_ranges(rt: HostRuntime) -> Result<(), NoMemory> {
     assert_eq!(rt; last, [0, 5, 6, 0]);
     cache.clear();
     assert!(rt; !cache.touches(0, u64::MAX));
-    assert!(rt; has_pieces(&cache, &[]));
+    assert!(rt; has_pieces(&mut cache, &[])?);
     cache.overlay(11, &mut short);
     assert_eq!(rt; short, [2, 8, 9]);
     Ok(())

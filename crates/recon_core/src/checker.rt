@@ -271,6 +271,7 @@ impl<L> Checker<L> {
             (self.new ≡ record self.old { closed = true; index = self.new.index }) }
         ensures stops { IsNoRefusal result }
     {
+        self.cache.join();
         let judged = judge_waiting(
             alloc,
             disk,

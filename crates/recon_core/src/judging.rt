@@ -20,7 +20,8 @@ use write_cache::WriteCache;
 
 /// Judges the image that all that waits would make, over a disk of `length` bytes, by what an index says of the disk's image. Where the
 /// full check accepts, it goes out to the disk; then nothing waits any more, and the index stands for that image. After a fault all waits
-/// as before, and the index is spent. All memory is taken before the first write.
+/// as before, and the index is spent. All memory is taken before the first write. Where some of what waits may touch, as before `join`,
+/// the answer is that of missing memory.
 #[tactic(auto, unfolding(crate::specs::Order::HasSentBy, crate::specs::Order::HasSentPart))]
 pub fn judge_waiting<D: Disk, L>(
     alloc: Global,
@@ -50,6 +51,9 @@ pub fn judge_waiting<D: Disk, L>(
     ensures empty { OnOk result (cache.new ≡ map.empty) }
     ensures waits { OnErr result (cache.new ≡ cache.old) }
 {
+    let Some(pieces) = cache.pieces() else {
+        return Err(Fault::NoMemory);
+    };
     let judged = judge_within(alloc, disk, cache, length, index, steps)?;
     match judged {
         Judged::Rejected(finding) => {
@@ -61,7 +65,7 @@ pub fn judge_waiting<D: Disk, L>(
             blocks,
             hot,
         } => {
-            let_through(disk, cache, index.superblock())?;
+            let_through(disk, cache, pieces, index.superblock())?;
             cache.clear();
             Ok(Answer::Passed {
                 generation,

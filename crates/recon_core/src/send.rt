@@ -3,6 +3,8 @@
 ghost use Rattle.std.specs.Prelude.{ℕ, ◌≡◌, ◌+◌, ◌^◌, ◌<◌, ◌≤◌, [], ◌∷◌, List, length, IfSome, OnOk, OnErr};
 ghost use Rattle.recon_disk.specs.Calls.{Flushed, HasSentFront, and_sent};
 ghost use Rattle.write_cache.specs.Cache.{overlaid};
+ghost use Rattle.write_cache.specs.Lent.{pieces_left};
+ghost use Rattle.write_cache.specs.Pieces.{ArePiecesOf};
 ghost use Rattle.recon_core.specs.Standing.{IsBelow};
 ghost use Rattle.recon_core.specs.Stops.{IsPartlySent};
 ghost use Rattle.recon_core.specs.Order.{HasSentOut, HasSentPart, piece_calls};
@@ -14,7 +16,7 @@ ghost use Rattle.recon_disk.specs.Stops.{HasWritten, and_flushed};
 
 use recon_disk::{Disk, Failed, write_all_at};
 use verdict::{SUPERBLOCK_AT, SUPERBLOCK_SIZE};
-use write_cache::WriteCache;
+use write_cache::{Pieces, WriteCache};
 
 // Writes the bytes of a piece before the superblock place, and then those behind it.
 fn send_piece<D: Disk>(disk: &mut D, at: u64, bytes: &[u8]) -> Result<(), Failed>
@@ -41,7 +43,8 @@ fn send_piece<D: Disk>(disk: &mut D, at: u64, bytes: &[u8]) -> Result<(), Failed
 }
 
 // Writes the bytes of all that waits outside the superblock place, in rising order.
-fn send_pieces<D: Disk>(disk: &mut D, cache: &WriteCache) -> Result<(), Failed>
+fn send_pieces<D: Disk>(disk: &mut D, cache: &WriteCache, pieces: Pieces<'_>) -> Result<(), Failed>
+    requires pieces { ArePiecesOf cache.now (pieces_left pieces) }
     requires place { 69632 ≤ D.len disk.old }
     requires small { D.len disk.old < 2 ^ 64 }
     requires inside { IsBelow (D.len disk.old) cache.now }
@@ -53,7 +56,7 @@ fn send_pieces<D: Disk>(disk: &mut D, cache: &WriteCache) -> Result<(), Failed>
     ensures stops { HasWritten (IsOut cache.now) (D.moments disk.old) (D.moments disk.new) }
     ensures reads { D.reads disk.new ≡ D.reads disk.old }
 {
-    for (at, bytes) in cache.pieces() {
+    for (at, bytes) in pieces {
         send_piece(disk, at, bytes)?;
     }
     Ok(())
@@ -76,14 +79,16 @@ fn settle_disk<D: Disk>(disk: &mut D) -> Result<(), Failed>
 
 /// Sends out what waits: first all bytes outside the superblock place in rising order, which are then
 /// flushed, and where what waits meets the superblock place, then the whole place in one call, flushed too.
-/// `superblock` has the bytes of the place. It takes no memory and reads nothing. Where a call fails, what waits
+/// `pieces` are those of what waits, and `superblock` has the bytes of the place. It takes no memory and reads nothing. Where a call fails, what waits
 /// is on the disk whole, or in part outside the place.
 #[tactic(auto, unfolding(crate::specs::Order::HasSentPart))]
 pub fn let_through<D: Disk>(
     disk: &mut D,
     cache: &WriteCache,
+    pieces: Pieces<'_>,
     superblock: &[u8; 4096],
 ) -> Result<(), Failed>
+    requires pieces { ArePiecesOf cache.now (pieces_left pieces) }
     requires place { 69632 ≤ D.len disk.old }
     requires small { D.len disk.old < 2 ^ 64 }
     requires inside { IsBelow (D.len disk.old) cache.now }
@@ -98,7 +103,7 @@ pub fn let_through<D: Disk>(
     ensures rest { OnOk result (IsAtRest (D.bytes disk.new) (D.moments disk.new)) }
 {
     let commit = cache.touches(SUPERBLOCK_AT, SUPERBLOCK_SIZE);
-    send_pieces(disk, cache)?;
+    send_pieces(disk, cache, pieces)?;
     settle_disk(disk)?;
     if !commit {
         return Ok(());

@@ -72,7 +72,8 @@ pub trait Disk {
         ensures sent { OnOk result (sent self.new ≡
             and_sent (sent self.old) (Wrote at from.now ∷ [])) }
         ensures unsent { OnErr result (sent self.new ≡ sent self.old) }
-        ensures moments { OnOk result (moments self.new ≡ and_wrote (moments self.old) at from.now) }
+        ensures moments { OnOk result
+            (moments self.new ≡ and_wrote (moments self.old) at from.now) }
         ensures perhaps { OnErr result ((moments self.new ≡ moments self.old)
             ⊎ (moments self.new ≡ and_wrote (moments self.old) at from.now)) }
         ensures len { len self.new ≡ len self.old }
@@ -85,7 +86,8 @@ pub trait Disk {
         ensures bytes { bytes self.new ≡ bytes self.old }
         ensures sent { OnOk result (sent self.new ≡ and_sent (sent self.old) (Flushed ∷ [])) }
         ensures unsent { OnErr result (sent self.new ≡ sent self.old) }
-        ensures settled { OnOk result (moments self.new ≡ and_flushed (moments self.old) (bytes self.old)) }
+        ensures settled { OnOk result
+            (moments self.new ≡ and_flushed (moments self.old) (bytes self.old)) }
         ensures unsettled { OnErr result (moments self.new ≡ moments self.old) }
         ensures reads { reads self.new ≡ reads self.old }
         ensures cause { HasCause (faults self.old) (faults self.new) result };

@@ -224,7 +224,8 @@ impl Disk for MemDisk {
 fn kept_of(at: u64, from: &[u8], keep: usize) -> usize
     ensures front { result ≡ front_kept at (length from.now) keep }
     ensures within { result ≤ length from.now }
-    ensures whole { at ≡ 65536 → length from.now ≡ 4096 → (result ≡ 0) ⊎ (result ≡ 4096) }
+    ensures whole { at ≡ 65536 → length from.now ≡ 4096
+        → (result ≡ 0) ⊎ (result ≡ 4096) }
 {
     let keep = keep.min(from.len());
     if at == 65536 && from.len() == 4096 && keep < 4096 {

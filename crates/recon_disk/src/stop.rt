@@ -106,7 +106,8 @@ impl StopDisk {
 fn is_missed(at: u64, from: &[u8], left: &[u8]) -> bool
     ensures missed { result ≡ true → (at ≡ 65536) × (length from.now ≡ 4096) }
     ensures other { result ≡ true → left.now ≡ from.now → ⊥ }
-    ensures stands { result ≡ false → at ≡ 65536 → length from.now ≡ 4096 → left.now ≡ from.now }
+    ensures stands { result ≡ false → at ≡ 65536 → length from.now ≡ 4096
+        → left.now ≡ from.now }
 {
     at == 65536 && from.len() == 4096 && left != from
 }
@@ -184,10 +185,12 @@ impl Disk for StopDisk {
             (Some (bytes_in (disk_of self.old))) at from.now (Some (bytes_in (disk_of self.new)))) }
         ensures moments { OnOk result (moments_of self.new ≡
             with_write (moments_of self.old) (unflushed at from.now)) }
-        ensures perhaps { OnErr result (moments_of self.new ≡ (if is_full self.old (length from.now)
+        ensures perhaps { OnErr result (moments_of self.new ≡
+            (if is_full self.old (length from.now)
             then moments_of self.old
             else with_write (moments_of self.old) (unflushed at from.now))) }
-        ensures len { length (bytes_in (disk_of self.new)) ≡ length (bytes_in (disk_of self.old)) }
+        ensures len { length (bytes_in (disk_of self.new))
+            ≡ length (bytes_in (disk_of self.old)) }
         ensures reads { reads_of (disk_of self.new) ≡ reads_of (disk_of self.old) }
         ensures cause { HasCause
             (faults_of (disk_of self.old)) (faults_of (disk_of self.new)) result }

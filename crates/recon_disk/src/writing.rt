@@ -24,7 +24,8 @@ pub fn write_all_at<D: Disk>(disk: &mut D, at: u64, bytes: &[u8]) -> Result<(), 
         and_sent (D.sent disk.old) (run_calls at bytes.now)) }
     ensures part { OnErr result
         (HasSentFront (run_calls at bytes.now) (D.sent disk.old) (D.sent disk.new)) }
-    ensures stops { HasWritten (LiesIn at (length bytes.now)) (D.moments disk.old) (D.moments disk.new) }
+    ensures stops { HasWritten (LiesIn at (length bytes.now))
+        (D.moments disk.old) (D.moments disk.new) }
     ensures reads { D.reads disk.new ≡ D.reads disk.old }
 {
     let mut done = 0;

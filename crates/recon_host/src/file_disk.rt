@@ -6,14 +6,15 @@ ghost use Rattle.recon_disk.specs.Outside.{HasCause};
 use crate::lock::{LockFile, Sharing};
 use recon_disk::{Disk, Failed};
 use std::fs::{OpenFile, OpenOptions, TryLockError};
-use std::io::{Read, Seek, SeekFrom, Write};
+use std::io::{Seek, SeekFrom};
+use std::os::unix::fs::FileExt;
 use std::rt::Files;
 
 /// A file or a block device as a disk. It tells no bytes, and not what was sent to it. Where the file
 /// could not be opened for reading and writing or not be locked, or its length could not be learned then, each
 /// call fails. The lock is held until the disk is dropped.
 #[derive(Drop)]
-pub struct FileDisk<F: Read + Write + Seek + OpenFile + LockFile + Drop> {
+pub struct FileDisk<F: FileExt + Seek + OpenFile + LockFile + Drop> {
     file: Option<F>,
     // Whether another program holds the file.
     in_use: bool,
@@ -22,7 +23,7 @@ pub struct FileDisk<F: Read + Write + Seek + OpenFile + LockFile + Drop> {
     faults: u64,
 }
 
-impl<F: Read + Write + Seek + OpenFile + LockFile + Drop> FileDisk<F> {
+impl<F: FileExt + Seek + OpenFile + LockFile + Drop> FileDisk<F> {
     ghost use Rattle.recon_host.specs.FileDisk.{is_opened, is_held, size_of, reads_of, faults_of};
 
     /// The disk that is the file at a path, locked against programs that may not share it. Its length is the one
@@ -101,37 +102,7 @@ where
     }
 }
 
-// Reads the whole slice from a place of the file, and says whether it did.
-fn read_at<F: Read + Seek>(file: &mut F, at: u64, into: &mut [u8]) -> bool {
-    if file.seek(SeekFrom::Start(at)).is_err() {
-        return false;
-    }
-    let mut done = 0;
-    while done < into.len() {
-        match file.read(&mut into[done..]) {
-            Ok(0) | Err(_) => return false,
-            Ok(n) => done += n,
-        }
-    }
-    true
-}
-
-// Writes the whole slice at a place of the file, and says whether it did.
-fn write_at<F: Write + Seek>(file: &mut F, at: u64, from: &[u8]) -> bool {
-    if file.seek(SeekFrom::Start(at)).is_err() {
-        return false;
-    }
-    let mut done = 0;
-    while done < from.len() {
-        match file.write(&from[done..]) {
-            Ok(0) | Err(_) => return false,
-            Ok(n) => done += n,
-        }
-    }
-    true
-}
-
-impl<F: Read + Write + Seek + OpenFile + LockFile + Drop> Disk for FileDisk<F> {
+impl<F: FileExt + Seek + OpenFile + LockFile + Drop> Disk for FileDisk<F> {
     ghost use Rattle.std.specs.Prelude.{false, not, is_err, None, IfOk};
     ghost use Rattle.recon_disk.specs.Outside.{counted};
     ghost use Rattle.recon_host.specs.FileDisk.{is_opened, size_of, reads_of, faults_of};
@@ -176,8 +147,8 @@ impl<F: Read + Write + Seek + OpenFile + LockFile + Drop> Disk for FileDisk<F> {
         ensures cause { HasCause (faults_of self.old) (faults_of self.new) result }
     {
         self.reads = self.reads.saturating_add(1);
-        if let Some(file) = &mut self.file
-            && read_at(file, at, into)
+        if let Some(file) = &self.file
+            && file.read_exact_at(into, at).is_ok()
         {
             return Ok(());
         }
@@ -191,8 +162,8 @@ impl<F: Read + Write + Seek + OpenFile + LockFile + Drop> Disk for FileDisk<F> {
         ensures reads { reads_of self.new ≡ reads_of self.old }
         ensures cause { HasCause (faults_of self.old) (faults_of self.new) result }
     {
-        if let Some(file) = &mut self.file
-            && write_at(file, at, from)
+        if let Some(file) = &self.file
+            && file.write_all_at(from, at).is_ok()
         {
             return Ok(());
         }

@@ -1,5 +1,5 @@
 -- Where two lists of bytes of one length differ.
-use Rattle.std.specs.Prelude.{ℕ, zero, suc, Bool, not, ◌==◌, List, length, slice_index, Option, Some, None, if◌then◌else◌}
+use Rattle.std.specs.Prelude.{ℕ, ◌≡◌, ◌<◌, zero, suc, Bool, not, ◌==◌, List, length, slice_index, Option, Some, None, if◌then◌else◌}
 
 -- the least of the n places from one on at which a test holds
 unfoldable pub least_from : (ℕ → Bool) → ℕ → ℕ → Option ℕ
@@ -13,3 +13,7 @@ differs_at first second place = not (slice_index first place == slice_index seco
 -- the least place of a list at which another differs from it
 abbrev pub least_difference : List ℕ → List ℕ → Option ℕ
 least_difference first second = least_from (differs_at first second) 0 (length first)
+
+-- the two are equal at each place before this one
+abbrev pub AreEqualBelow : List ℕ → List ℕ → ℕ → Type 0
+AreEqualBelow first second end = (place : ℕ) → place < end → slice_index first place ≡ slice_index second place

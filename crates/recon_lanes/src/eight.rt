@@ -4,7 +4,7 @@ ghost use Rattle.std.specs.Prelude.{◌≡◌, ℕ, ◌<◌, ◌≤◌, ◌++◌
 ghost use Rattle.recon_crc.specs.Checksum.{crc32c_of};
 ghost use Rattle.recon_lanes.specs.Lent.{Lent, eight_sums, with_block};
 
-use recon_crc::crc32c;
+use crate::folded::folded_sum;
 use std::marker::Model;
 
 /// Up to eight blocks of one length, which are lent and not copied.
@@ -103,6 +103,6 @@ impl<'a> Eight<'a> {
         requires few { place < 8 }
         ensures { result ≡ crc32c_of (slice_index_or self.now.blocks place []) }
     {
-        crc32c(self.blocks[place])
+        folded_sum(self.blocks[place])
     }
 }

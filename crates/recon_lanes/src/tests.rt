@@ -1,4 +1,5 @@
-use super::{Eight, Refused, first_difference};
+use super::{Eight, Refused, first_difference, folded_sum};
+use recon_crc::crc32c;
 
 /// The CRC-32C of the digits from 1 to 9, as it is published.
 const DIGITS_SUM: u32 = 0xE306_9283;
@@ -10,6 +11,17 @@ fn least_difference_of_two_blocks(rt: HostRuntime) {
     other[69] = 8;
     assert_eq!(rt; first_difference(&[7; 70], &other), Some(63));
     assert_eq!(rt; first_difference(&[], &[]), None);
+}
+
+#[test]
+fn a_long_run_has_the_sum_of_the_tables(rt: HostRuntime) {
+    let mut bytes = [0; 10_000];
+    for place in 0..10_000 {
+        bytes[place] = (place % 251) as u8;
+    }
+    for len in [0, 9, 1023, 1024, 1025, 4513, 4514, 4515, 8610, 10_000] {
+        assert_eq!(rt; folded_sum(&bytes[..len]), crc32c(&bytes[..len]));
+    }
 }
 
 #[test]

@@ -12,7 +12,7 @@ use Rattle.verdict.specs.declared.place.Place.{Place}
 use Rattle.verdict.specs.declared.place.Place.TheVariants.{Nowhere, One, Two}
 use Rattle.live_index.specs.Pairs.{Pairs}
 use Rattle.write_cache.specs.Cache.{with_bytes}
-use Rattle.write_cache.specs.Pieces.{ArePiecesOf, Piece, map_of}
+use Rattle.write_cache.specs.Pieces.{ArePartsOf, Piece, map_of}
 use Rattle.write_cache.proofs.CacheLaws.{get-with_bytes_in, get-with_bytes_out}
 use Rattle.touched_pairs.specs.Marking.{AreMarked, AreMarkedFrom}
 use Rattle.touched_pairs.specs.Marks.{Marked, no_mark}
@@ -198,7 +198,7 @@ not_false b e = ap not e
 false_not : (b : Bool) → not b ≡ true → b ≡ false
 false_not = elim [ true ↦ λ e. cc | false ↦ λ e. refl ]
 
-pub pieces_start : (pairs : Pairs) (m : FinMap nat_cmp ℕ) (pieces : List Piece) (chunks : List Chunk) (n end : ℕ) (old : Marked) → ArePiecesOf m pieces
+pub pieces_start : (pairs : Pairs) (m : FinMap nat_cmp ℕ) (pieces : List Piece) (chunks : List Chunk) (n end : ℕ) (old : Marked) → ArePartsOf m pieces
     → IsMarkingTo pairs m chunks n end old old pieces
 pieces_start pairs m pieces chunks n end old are = record {
   marked = marked_none pairs (touched_but m chunks n end pieces) (at_address (touches_block (written_in m) chunks n end)) old

@@ -33,7 +33,7 @@ pub fn touched_pairs<L>(
         no_mark (marked_by marks)) }
 {
     let mut marks = Marks::new(alloc);
-    for (at, bytes) in cache.pieces() {
+    for (at, bytes) in cache.parts() {
         let spot = Spot {
             at,
             len: bytes.len() as u64,

@@ -58,6 +58,13 @@ unfolding with_bytes
 with_bytes_none m at [] h = refl
 with_bytes_none m at (b ∷ bs) h = absurd (omega arith)
 
+-- to put some bytes, and then those behind them
+pub with_bytes-append : (m : FinMap nat_cmp ℕ) (at : ℕ) (xs ys : List ℕ) → with_bytes m at (xs ++ ys) ≡ with_bytes (with_bytes m at xs) (at + length xs) ys
+unfolding with_bytes
+with_bytes-append m at [] ys = ap (λ p. with_bytes m p ys) (omega arith)
+with_bytes-append m at (x ∷ xs) ys =
+    with_bytes-append (insert m at x) (at + 1) xs ys ∙ ap (λ p. with_bytes (with_bytes (insert m at x) (at + 1) xs) p ys) (omega arith)
+
 -- to put one write more
 with_writes-push : (m : FinMap nat_cmp ℕ) (ws : List HeldWrite) (w : HeldWrite) → with_writes m (ws ++ w ∷ []) ≡ with_bytes (with_writes m ws) w.at w.bytes
 unfolding with_writes

@@ -1,4 +1,5 @@
 pub mod CacheLaws
+pub mod JoinLaws
 pub mod PutLaws
 mod RoomLaws
 pub mod RunLaws

@@ -1,4 +1,4 @@
--- The pieces of what waits: the maximal runs of offsets at which the map has a byte, in rising order.
+-- The pieces of the pending writes: the maximal runs of offsets at which the map has a byte, in rising order.
 use Rattle.std.specs.Prelude.{ℕ, ◌≡◌, ◌+◌, ◌<◌, ◌≤◌, List, [], ◌∷◌, length}
 use Rattle.std.specs.Ordering.{nat_cmp}
 use Rattle.std.specs.FinMap.{FinMap, empty}
@@ -21,7 +21,19 @@ AreApart from [] = Unit {0}
 AreApart from (piece ∷ pieces) =
     (from ≤ piece.at) × (0 < length piece.bytes) × AreApart (piece.at + length piece.bytes + 1) pieces
 
+-- each piece has a byte, the first begins at this offset or behind it, and each other where the one before ends
+-- or behind that
+abbrev pub AreDisjoint : ℕ → List Piece → Type 0
+AreDisjoint from [] = Unit {0}
+AreDisjoint from (piece ∷ pieces) =
+    (from ≤ piece.at) × (0 < length piece.bytes) × AreDisjoint (piece.at + length piece.bytes) pieces
+
 -- the pieces of a map
 pub record ArePiecesOf (m : FinMap nat_cmp ℕ) (pieces : List Piece) : Type 0 where
   pub apart : AreApart 0 pieces
   pub whole : map_of pieces ≡ m
+
+-- parts of a map: its bytes in disjoint runs in rising order, some of which may touch
+pub record ArePartsOf (m : FinMap nat_cmp ℕ) (parts : List Piece) : Type 0 where
+  pub disjoint : AreDisjoint 0 parts
+  pub whole : map_of parts ≡ m

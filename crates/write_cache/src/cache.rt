@@ -1,26 +1,28 @@
-//! The cache of the writes that wait.
+//! The cache of the pending writes.
 
-ghost use Rattle.std.specs.Prelude.{◌≡◌, ℕ, ◌+◌, ◌≤◌, ◌<◌, ◌^◌, ◌↔◌, length, OnOk, OnErr, IsTrue, IsSome};
+ghost use Rattle.std.specs.Prelude.{◌≡◌, ℕ, ◌+◌, ◌≤◌, ◌<◌, ◌^◌, ◌↔◌, length, IfSome, OnOk, OnErr, IsTrue, IsSome};
 ghost use Rattle.std.specs.FinMap as map;
 ghost use Rattle.write_cache.specs.Cache.{with_bytes, overlaid};
 ghost use Rattle.write_cache.specs.Lent.{pieces_left};
-ghost use Rattle.write_cache.specs.Pieces.{ArePiecesOf};
+ghost use Rattle.write_cache.specs.Pieces.{ArePartsOf, ArePiecesOf};
 
 use crate::pieces::Pieces;
 use crate::run::overwrite;
-use crate::runs::{Runs, last_from, put_copy, put_own};
+use crate::runs::{Runs, join_all, last_from, put_copy, put_own};
 use std::alloc::Global;
 use std::collections::BTreeMap;
 use std::marker::Model;
 use verdict::{HeldWrite, NoMemory};
 
-/// The writes that wait, seen as the map from each offset on the device, in bytes, that one of them
+/// The pending writes, seen as the map from each offset on the device, in bytes, that one of them
 /// covers to the byte that the newest of these puts there.
 #[derive(Drop)]
 pub struct WriteCache {
     alloc: Global,
-    // Under the offset where it begins, the bytes of each piece.
+    // Under the offset where it begins, the bytes of each run.
     runs: Runs,
+    // Whether it is known that no two runs touch.
+    joined: bool,
 }
 
 impl Model for WriteCache {
@@ -34,11 +36,13 @@ impl Model for WriteCache {
     ghost coded = { map.code coded_ℕ coded_ℕ };
 
     ghost use Rattle.write_cache.specs.Pieces.{map_of};
-    ghost use Rattle.write_cache.specs.Runs.{pieces_of, AreKept};
+    ghost use Rattle.std.specs.Prelude.{IsTrue};
+    ghost use Rattle.write_cache.specs.Runs.{pieces_of, AreKept, AreJoined};
 
     ghost view = { λ c. map_of (pieces_of c.runs.entries) };
 
-    ghost invariant = { λ c. AreKept c.runs.entries };
+    ghost invariant = { λ c. AreKept c.runs.entries
+        × (IsTrue c.joined → AreJoined c.runs.entries) };
 }
 
 impl WriteCache {
@@ -50,6 +54,7 @@ impl WriteCache {
         WriteCache {
             alloc,
             runs: BTreeMap::new(alloc),
+            joined: true,
         }
     }
 
@@ -64,14 +69,15 @@ impl WriteCache {
         if bytes.is_empty() {
             return Ok(());
         }
+        self.joined = false;
         match put_copy(&mut self.runs, self.alloc, at, bytes) {
             Ok(()) => Ok(()),
             Err(_) => Err(NoMemory),
         }
     }
 
-    /// Puts the bytes of this write over what waits there. They are not copied where nothing that
-    /// waits meets or touches them. When memory is wanting, nothing changes.
+    /// Puts the bytes of this write over what is pending there. They are not copied where nothing
+    /// pending meets or touches them. When memory is wanting, nothing changes.
     #[tactic(auto, using(crate::proofs::CacheLaws::with_bytes_none))]
     pub fn hold(&mut self, write: HeldWrite) -> Result<(), NoMemory>
         requires { write.at + length write.bytes < 2 ^ 64 }
@@ -81,6 +87,7 @@ impl WriteCache {
         if write.bytes.as_slice().is_empty() {
             return Ok(());
         }
+        self.joined = false;
         match put_own(&mut self.runs, self.alloc, write.at, write.bytes.into_vec()) {
             Ok(()) => Ok(()),
             Err(_) => Err(NoMemory),
@@ -117,21 +124,28 @@ impl WriteCache {
         }
     }
 
-    /// Whether each of the `len` bytes from the offset `at` on waits.
+    /// Whether each of the `len` bytes from the offset `at` on is pending.
     pub fn covers(&self, at: u64, len: u64) -> bool
         ensures { IsTrue result
             ↔ ((i : ℕ) → at ≤ i → i < at + len → IsSome (map.get self.now i)) }
     {
-        if len == 0 {
-            return true;
-        }
-        match last_from(&self.runs, at) {
-            Some((begin, bytes)) => {
-                let end = begin + bytes.len() as u64;
-                at <= end && len <= end - at
+        let mut from = at;
+        let mut left = len;
+        while left > 0 {
+            let Some((begin, bytes)) = last_from(&self.runs, from) else {
+                return false;
+            };
+            let end = begin + bytes.len() as u64;
+            if end <= from {
+                return false;
             }
-            None => false,
+            if left <= end - from {
+                return true;
+            }
+            left -= end - from;
+            from = end;
         }
+        true
     }
 
     /// Lets go of all that waits.
@@ -140,11 +154,35 @@ impl WriteCache {
         ensures { self.new ≡ map.empty }
     {
         self.runs.clear();
+        self.joined = true;
     }
 
-    /// The pieces of what waits: the maximal runs of offsets at which a byte waits, in rising order.
-    pub fn pieces(&self) -> Pieces<'_>
-        ensures { ArePiecesOf self.now (pieces_left result) }
+    /// Joins the runs that touch, as far as memory suffices. A byte is moved a few times in all, however
+    /// the writes came.
+    pub fn join(&mut self)
+        ensures { self.new ≡ self.old }
+    {
+        if !self.joined && join_all(&mut self.runs, self.alloc).is_ok() {
+            self.joined = true;
+        }
+    }
+
+    /// The pieces: the maximal runs of offsets at which a byte is pending, in rising order, each in one
+    /// buffer. `None` where some runs may touch: a write came after the last `join`, or memory was
+    /// wanting for that.
+    pub fn pieces(&self) -> Option<Pieces<'_>>
+        ensures { IfSome result (λ pieces. ArePiecesOf self.now (pieces_left pieces)) }
+    {
+        if self.joined {
+            Some(Pieces::new(self.runs.iter()))
+        } else {
+            None
+        }
+    }
+
+    /// The bytes of all pending writes, in disjoint runs in rising order, of which some may touch.
+    pub fn parts(&self) -> Pieces<'_>
+        ensures { ArePartsOf self.now (pieces_left result) }
     {
         Pieces::new(self.runs.iter())
     }

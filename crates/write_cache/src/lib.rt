@@ -1,5 +1,5 @@
-//! Writes that wait for a commit, seen as one finite map from the offset of a byte on the device
-//! to the byte that is to stand there.
+//! The writes that are pending before a commit, seen as one finite map from the offset of a byte on
+//! the device to the byte that is to stand there.
 #![tactic(auto)]
 
 mod cache;

@@ -1,4 +1,4 @@
-//! The pieces of what waits, lent one after the other.
+//! The pieces of the pending writes, lent one after the other.
 
 ghost use Rattle.std.specs.Prelude.{◌≡◌};
 ghost use Rattle.std.specs.Iterator.{item_count, YieldsFirstBy};
@@ -7,8 +7,8 @@ ghost use Rattle.write_cache.specs.Lent.{piece_lent, pieces_left};
 use crate::run::Run;
 use std::collections::btree_map::Iter;
 
-/// The pieces of a cache in rising order: each item is the offset on the device where a piece begins,
-/// and the piece's bytes.
+/// The pieces of the pending writes, or their parts, in rising order: each item is the offset on the
+/// device where one begins, and its bytes.
 #[derive(Drop)]
 pub struct Pieces<'a> {
     entries: Iter<'a, u64, Run>,

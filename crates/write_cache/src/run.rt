@@ -62,8 +62,25 @@ impl Run {
         if self.len() - from < bytes.len() {
             return self.end_with(from, bytes, &[]);
         }
-        overwrite(&mut self.buffer, self.start + from, bytes);
+        self.write(from, bytes);
         Ok(())
+    }
+
+    /// Writes bytes over those of the piece from the place `from` on.
+    pub(crate) fn write(&mut self, from: usize, bytes: &[u8])
+        requires { from + length bytes.now ≤ length self.old }
+        ensures { self.new ≡ laid_over self.old from bytes.now }
+    {
+        overwrite(&mut self.buffer, self.start + from, bytes);
+    }
+
+    /// Puts bytes behind those of the piece. When memory is wanting, the piece stays.
+    pub(crate) fn append(&mut self, more: &[u8]) -> Result<(), AllocError>
+        ensures ok { OnOk result (self.new ≡ self.old ++ more.now) }
+        ensures err { OnErr result (self.new ≡ self.old) }
+    {
+        let end = self.len();
+        self.end_with(end, more, &[])
     }
 
     /// Puts bytes in the place of those from `from` on, and behind them what `behind` has from `skip` on. The

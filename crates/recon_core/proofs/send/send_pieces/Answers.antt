@@ -15,10 +15,10 @@ pub loop-at-init : goal.loop-at-init
 loop-at-init g c = record {
   size = refl;
   so = subst (λ p. IsSending c.args.cache.now (g.D.Disk.bytes c.args.disk.now) (g.D.Disk.bytes c.args.disk.now) (pieces_left p)) (sym c.into_iter-at-iterator.ensures.into_iter_gives)
-      (begin_sending c.args.cache.now (g.D.Disk.bytes c.args.disk.now) (g.D.Disk.len c.args.disk.now) (pieces_left c.pieces-at-items.result) (g.met.D.Disk.told_length c.args.disk.now)
-      c.requires.place c.requires.inside c.pieces-at-items.ensures.apart c.pieces-at-items.ensures.whole);
+      (begin_sending c.args.cache.now (g.D.Disk.bytes c.args.disk.now) (g.D.Disk.len c.args.disk.now) (pieces_left c.args.pieces) (g.met.D.Disk.told_length c.args.disk.now)
+      c.requires.place c.requires.inside c.requires.pieces.apart c.requires.pieces.whole);
   order = subst (λ p. RunsLeft c.args.cache.now (g.D.Disk.sent c.args.disk.now) (g.D.Disk.sent c.args.disk.now) (pieces_left p)) (sym c.into_iter-at-iterator.ensures.into_iter_gives)
-      (runs_begin c.args.cache.now (g.D.Disk.sent c.args.disk.now) (pieces_left c.pieces-at-items.result) c.pieces-at-items.ensures);
+      (runs_begin c.args.cache.now (g.D.Disk.sent c.args.disk.now) (pieces_left c.args.pieces) c.requires.pieces);
   stops = written_none (IsOut c.args.cache.now) (g.D.Disk.moments c.args.disk.now);
   faults = refl;
   reads = refl;

@@ -12,7 +12,7 @@ pub loop-at-init : goal.loop-at-init
 loop-at-init g c =
     subst (λ p. IsMarkingTo (pairs_of c.args.table.now) c.args.cache.now c.args.map.now c.args.nodesize c.args.end (marked_by c.new-marks.result) (marked_by c.new-marks.result) (pieces_left p))
     (sym c.into_iter-at-iterator.ensures.into_iter_gives)
-    (pieces_start (pairs_of c.args.table.now) c.args.cache.now (pieces_left c.pieces-at-items.result) c.args.map.now c.args.nodesize c.args.end (marked_by c.new-marks.result) c.pieces-at-items.ensures)
+    (pieces_start (pairs_of c.args.table.now) c.args.cache.now (pieces_left c.parts-at-items.result) c.args.map.now c.args.nodesize c.args.end (marked_by c.new-marks.result) c.parts-at-items.ensures)
 
 -- src/written.rt:36:5
 pub loop-at-preserved : goal.loop-at-preserved

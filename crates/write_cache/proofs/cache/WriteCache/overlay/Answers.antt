@@ -9,7 +9,7 @@ pub returns-then-is_empty : goal.returns-then-is_empty
 returns-then-is_empty c = overlaid-nothing c.args.self.now c.args.at c.args.into.now (search rules)
 
 pub loop-begin-init : goal.loop-begin-init
-loop-begin-init c = over_start c.self.inside.runs.entries c.range-runs.result c.args.self.now c.args.at c.saturating_add-last.result c.args.into.now c.self.invariant c.self.view_is (c.range-runs.ensures.between tt) (omega arith)
+loop-begin-init c = over_start c.self.inside.runs.entries c.range-runs.result c.args.self.now c.args.at c.saturating_add-last.result c.args.into.now c.self.invariant.0 c.self.view_is (c.range-runs.ensures.between tt) (omega arith)
 
 pub overlay_run-requires : goal.overlay_run-requires
 overlay_run-requires c =
