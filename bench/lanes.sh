@@ -1,6 +1,7 @@
 #!/usr/bin/env bash
 # Times blocks side by side, in one run: the sums of eight blocks at a time beside one at a time, and the comparison of equal blocks beside
-# memcmp of C at -O2. Blocks have 16384 bytes. User time, the least of five runs of each in turns, without that for making the blocks.
+# memcmp of C at -O2, also where that is held to vectors of 16 bytes, as the program is (by GLIBC_TUNABLES). Blocks have 16384 bytes. User
+# time, the least of five runs of each in turns, without that for making the blocks.
 # Prints GB/s (10^9 bytes a second) and the ratios. COUNT blocks are summed ROUNDS times and compared twenty times as often: 16 blocks stay in
 # the caches, 16384 do not. Usage: bench/lanes.sh [COUNT [ROUNDS]]. It wants gcc.
 set -euo pipefail
@@ -43,16 +44,18 @@ def once(command, turns):
 
 
 sides = {'eight': ([benches, 'lanes', 'eight'], 1), 'single': ([benches, 'lanes', 'single'], 1),
-         'equal': ([benches, 'lanes', 'equal'], 20), 'memcmp': ([compare], 20)}
+         'equal': ([benches, 'lanes', 'equal'], 20), 'memcmp': ([compare], 20),
+         'held': (['env', 'GLIBC_TUNABLES=glibc.cpu.hwcaps=-AVX2,-AVX2_Usable,-AVX512VL,-EVEX', compare], 20)}
 least, making, said = {}, {}, {}
 for _ in range(5):
     for side, (command, times) in sides.items():
         (used, said[side]), (made, _) = once(command, times * int(rounds)), once(command, 0)
         least[side] = min(least.get(side, used), used)
         making[side] = min(making.get(side, made), made)
-if said['eight'] != said['single'] or said['equal'] != said['memcmp']:
+if said['eight'] != said['single'] or not said['equal'] == said['memcmp'] == said['held']:
     sys.exit(f'lanes.sh: the two sides did not do the same: {said}')
 speed = {side: 16384 * int(count) * int(rounds) * sides[side][1] / 1e9 / (least[side] - making[side]) for side in sides}
 print(f'sums: eight at a time {speed["eight"]:.2f} GB/s, one at a time {speed["single"]:.2f}: {speed["eight"] / speed["single"]:.2f} times')
-print(f'equal blocks: {speed["equal"]:.1f} GB/s, memcmp {speed["memcmp"]:.1f}: {speed["equal"] / speed["memcmp"]:.2f} times')
+for side, name in ('memcmp', 'memcmp'), ('held', 'memcmp held to 16 bytes'):
+    print(f'equal blocks: {speed["equal"]:.1f} GB/s, {name} {speed[side]:.1f}: {speed["equal"] / speed[side]:.2f} times')
 PYTHON

@@ -85,6 +85,14 @@ fn put_all(
 fn has_pieces(cache: &mut WriteCache, wanted: &[Part]) -> Result<bool, NoMemory> {
     let in_parts = sum_of(cache.parts());
     cache.join();
+    if sum_of(cache.parts()) != in_parts {
+        return Ok(false);
+    }
+    are_pieces(cache, wanted)
+}
+
+// Whether these are the pieces of a cache whose runs are joined.
+fn are_pieces(cache: &WriteCache, wanted: &[Part]) -> Result<bool, NoMemory> {
     let Some(mut left) = cache.pieces() else {
         return Err(NoMemory);
     };
@@ -94,7 +102,7 @@ fn has_pieces(cache: &mut WriteCache, wanted: &[Part]) -> Result<bool, NoMemory>
             _ => return Ok(false),
         }
     }
-    Ok(left.next().is_none() && sum_of(cache.parts()) == in_parts)
+    Ok(left.next().is_none())
 }
 
 // How many bytes are lent, and the sum of them with their places.
