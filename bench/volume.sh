@@ -7,15 +7,7 @@ from=${2:-}
 if [ -z "$from" ]; then
   from=$(mktemp -d)
   trap 'rm -rf "$from"' EXIT
-  python3 - "$from" <<'PYTHON'
-import os, sys
-for folder in range(500):
-    path = os.path.join(sys.argv[1], f'folder-{folder:03}')
-    os.mkdir(path)
-    for number in range(400):
-        with open(os.path.join(path, f'a-small-file-{number:03}'), 'wb') as f:
-            f.write(b'%d %d\n' % (folder, number) * 30)
-PYTHON
+  python3 "$(dirname "$0")/files.py" many "$from"
 fi
 truncate -s 16G "$volume"
 mkfs.btrfs -q --rootdir "$from" "$volume"

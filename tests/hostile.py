@@ -26,12 +26,13 @@ import sys
 import tempfile
 
 from mutants import PAGE, SUPERBLOCK, Mutant, Volume, mutant_trace, pages_of, records
-from rows import SCRIPT, made, program
+from rows import SCRIPT, in_repository, made, program
 
 CASES, SEED, FIRST = (int(word) for word in (sys.argv[2:5] + ['2000', '0', '0'][len(sys.argv[2:5]):]))
 GIVEN = list(zip(sys.argv[5::2], sys.argv[6::2]))
-# Made volumes: a seed, the commits that are replayed first, and those of the trace.
-MADE = [(1, 0, 3), (2, 40, 3), (3, 150, 2)]
+# Made volumes: a seed, the commits that are replayed first, and those of the trace. The inodes of the last one then get numbers that
+# all have the same low bits, so that what is kept of them meets in one place.
+MADE = [(1, 0, 3), (2, 40, 3), (3, 150, 2), (4, 100, 0, 'sparse')]
 SAMPLE, LIMIT = 20, 120
 MIB = 1 << 20
 
@@ -316,7 +317,7 @@ def try_trace(base, draw, said, is_sample):
         base.touched = None
 
 
-def make(folder, name, seed, before, after):
+def make(folder, name, seed, before, after, how=None):
     """Makes a volume with so many commits on it, and a trace of the next ones. A process of its own does it, since the
     memory of this one counts as that of each run that it starts."""
     child = os.fork()
@@ -338,7 +339,10 @@ def make(folder, name, seed, before, after):
             file.write(one[15:])
     with open(trace, 'wb') as out:
         out.write(header + b''.join(listed[split:]))
-    os._exit(ended.returncode)
+    status = ended.returncode
+    if how and not status:
+        status = subprocess.run([sys.executable, in_repository('bench/renumber.py'), path, how]).returncode
+    os._exit(status)
 
 
 def keep(base):

@@ -5,3 +5,6 @@ pub mod Inodes
 pub mod ShownSums
 pub mod Decided
 pub mod Straight
+pub mod Parts
+pub mod KindsApart
+pub mod Led

@@ -1,20 +1,18 @@
 -- What is kept of sectors, and of which data has no checksums. But for `chosen` these words serve private functions alone.
-use Rattle.std.specs.Prelude.{◌≡◌, ℕ, ◌+◌, ◌==◌, nat_lt, true, false, List, [], ◌∷◌, ◌++◌, Option, Some, None, if◌then◌else◌}
+use Rattle.std.specs.Prelude.{◌≡◌, ℕ, ◌+◌, ◌==◌, nat_lt, true, false, List, [], ◌∷◌, Option, Some, None, if◌then◌else◌}
 use Rattle.std.specs.List.{list_any}
 use Rattle.accounts.specs.declared.account.Account.{Account}
 use Rattle.accounts.specs.declared.postings.Posting.{Posting}
 use Rattle.accounts.specs.Kinds.{sector}
 use Rattle.accounts.specs.Sums.{is_same, total_of}
+use Rattle.accounts.specs.Tally.{Sums, kept, sums_in}
+use Rattle.extent_sums.specs.Held.{extents_apart}
+use Rattle.name_sums.specs.Names.{names_apart}
+use Rattle.inode_sums.specs.Held.{inodes_apart}
 use Rattle.sector_runs.specs.Runs.{SectorSums, amount_of}
 use Rattle.sector_runs.specs.Edges.{sums_of}
 use Rattle.records.specs.Context.{is_inode}
-use Rattle.account_sums.specs.Sums.{Frees, Summed, SumsByFree, context_with, none_free}
-use Rattle.accounts.specs.Tally.{with_postings}
-use Rattle.inode_sums.specs.Held.{sums_held}
-use Rattle.records.specs.Part.{Located}
-use Rattle.records.specs.ExtentPostings.{extent_postings}
-use Rattle.records.specs.DirPostings.{dir_postings}
-use Rattle.records.specs.SpacePostings.{rest_postings}
+use Rattle.account_sums.specs.Sums.{Frees, Summed, SumsByFree}
 use Rattle.verdict.specs.declared.place.Chunk.{Chunk}
 use Rattle.account_sums.specs.declared.summing.Accounts.{Accounts}
 use Rattle.account_sums.specs.declared.shown.Shown.{Shown}
@@ -43,18 +41,24 @@ pub record AreSumsOf (all rest : List Posting) (sectors : SectorSums) : Type 0 w
   pub of_sectors : (address field : ℕ) → total_of all (sector address) field ≡ sectors address field
   pub no_more : (account : Account) → (account.kind == 5) ≡ true → is_same account (sector account.block) ≡ false → (field : ℕ) → total_of all account field ≡ 0
 
--- what a record posts but to inodes and sectors
-abbrev pub listed_of : List Chunk → ℕ → Located → List Posting
-listed_of chunks nodesize one =
-    extent_postings one.tree one.part
-    ++ (dir_postings one.tree one.part ++ rest_postings (context_with chunks nodesize none_free) one.tree one.part)
+-- the sums of three parts, each kept apart
+abbrev pub three : Sums → Sums → Sums → Sums
+three extents names inodes account field = extents account field + (names account field + inodes account field)
+
+-- what is kept apart
+abbrev pub apart_in : Accounts → Sums
+apart_in accounts = three (extents_apart accounts.extents) (names_apart accounts.names) (inodes_apart accounts.inodes)
+
+-- what is kept in a tally, apart from it, and as a list of postings
+unfoldable pub held_sums : Sums → Sums → List Posting → Sums
+held_sums rest apart waiting account = kept account.kind (λ field. rest account field + (apart account field + total_of waiting account field))
 
 -- what is made of the records that were taken
 abbrev pub summed_in : Accounts → Summed
 summed_in accounts = record {
   chunks = accounts.context.map.now;
   nodesize = accounts.context.nodesize;
-  sums = with_postings (sums_held accounts.tally) accounts.waiting;
+  sums = held_sums (sums_in accounts.rest) (apart_in accounts) accounts.waiting;
   sectors = sectors_in accounts.sectors;
   free = free_in accounts.sectors.free;
 }

@@ -1,3 +1,4 @@
 pub mod Sums
 pub mod Ranges
 pub mod Kept
+pub mod Own

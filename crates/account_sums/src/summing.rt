@@ -1,6 +1,6 @@
 //! The accounts of an image: what its records say and others must say too.
 
-ghost use Rattle.std.specs.Prelude.{ℕ, ◌≡◌, List, ◌++◌, IfOk, OnOk, option_map};
+ghost use Rattle.std.specs.Prelude.{ℕ, ◌≡◌, ◌+◌, List, IfOk, OnOk, option_map};
 ghost use Rattle.std.specs.Option.{option_copied};
 ghost use Rattle.verdict.specs.declared.place.Chunk.{Chunk as AChunk};
 ghost use Rattle.accounts.specs.Broken.{broken_finding};
@@ -9,15 +9,17 @@ ghost use Rattle.records.specs.Context.{has_sum_free};
 ghost use Rattle.records.specs.Part.{IsLawful, Located, located, part_of};
 ghost use Rattle.records.specs.Postings.{account_fault};
 ghost use Rattle.records.specs.Takes.{with_accounted};
-ghost use Rattle.account_sums.specs.Kept.{chosen, listed_of, summed_in};
+ghost use Rattle.account_sums.specs.Kept.{chosen, summed_in};
 ghost use Rattle.account_sums.specs.Sums.{Summed, context_with, of_none, with_record};
 
 use crate::context::ImageContext;
 use crate::inode_posts::post_inodes;
 use crate::shown::SectorTally;
-use accounts::{Account, Postings, finding_of};
+use accounts::{Account, Postings, Tally, finding_of};
 use chunk_map::ChunkMap;
+use extent_sums::ExtentTally;
 use inode_sums::InodeTally;
+use name_sums::NameTally;
 use records::{RecAt, Record, Taker};
 use std::alloc::Global;
 use verdict::{Finding, NoMemory};
@@ -31,15 +33,24 @@ pub struct Accounts<'a> {
     alloc: Global,
     // The context.
     context: ImageContext<'a>,
-    // The sums, but for those of sectors.
-    tally: InodeTally,
-    // What is not yet added to them.
+    // The sums of extents, of names and of inodes, each in a form of its own.
+    extents: ExtentTally,
+    names: NameTally,
+    inodes: InodeTally,
+    // All others, but for those of sectors.
+    rest: Tally,
+    // What is not yet added to the rest.
     waiting: Postings,
     // The sums of sectors.
     sectors: SectorTally,
 }
 
 impl<'a> Accounts<'a> {
+    ghost use Rattle.accounts.specs.Broken.{is_broken};
+    ghost use Rattle.accounts.specs.Tally.{sums_in};
+    ghost use Rattle.accounts.specs.declared.account.Account.{Account as AnAccount};
+    ghost use Rattle.account_sums.specs.Kept.{apart_in};
+
     /// Those of no records, of an image with these chunks and this size of a tree block in bytes. They take their
     /// memory from this allocator.
     pub fn new(alloc: Global, map: &'a ChunkMap, nodesize: u32) -> Accounts<'a>
@@ -48,7 +59,10 @@ impl<'a> Accounts<'a> {
         Accounts {
             alloc,
             context: ImageContext { map, nodesize },
-            tally: InodeTally::new(alloc),
+            extents: ExtentTally::new(alloc),
+            names: NameTally::new(alloc),
+            inodes: InodeTally::new(alloc),
+            rest: Tally::new(alloc),
             waiting: Postings::new(alloc),
             sectors: SectorTally::new(alloc),
         }
@@ -61,10 +75,21 @@ impl<'a> Accounts<'a> {
             fold with_record (of_none chunks nodesize) records ≡ summed_in self.old →
             found ≡ account_fault (context_with chunks nodesize (has_sum_free records)) records) }
     {
-        self.tally.add_all(&mut self.waiting)?;
+        self.rest.add_all(&mut self.waiting)?;
         let sector = self.sectors.least_broken()?;
-        self.tally.settle()?;
-        Ok(least_finding(self.alloc, sector, self.tally.least_broken()))
+        self.settle()?;
+        Ok(least_finding(self.alloc, sector, self.rest.least_broken()))
+    }
+
+    // Brings the sums of the accounts together that may be broken.
+    fn settle(&mut self) -> Result<(), NoMemory>
+        ensures { OnOk result ((account : AnAccount) →
+            is_broken account (sums_in self.new.rest account) ≡ is_broken account
+            (λ n. sums_in self.old.rest account n + apart_in self.old account n)) }
+    {
+        self.names.settle(&mut self.rest)?;
+        self.extents.settle(&mut self.rest)?;
+        self.inodes.settle(&mut self.rest)
     }
 
     // Adds what a record posts.
@@ -73,9 +98,13 @@ impl<'a> Accounts<'a> {
         ensures { OnOk result (summed_in self.new ≡
             with_record (summed_in self.old) (located one.now)) }
     {
-        post(self.alloc, &self.context, one, &mut self.waiting)?;
-        self.tally.add_all(&mut self.waiting)?;
-        post_inodes(&mut self.tally, one.tree, &one.part)?;
+        let into = &mut self.waiting;
+        self.extents.take(one.tree, &one.part, into)?;
+        self.names
+            .take(one.tree, &one.part, &mut self.inodes, into)?;
+        space_rules::post_rest(self.alloc, &self.context, one.tree, &one.part, into)?;
+        post_inodes(&mut self.inodes, one.tree, &one.part, into)?;
+        self.rest.add_all(into)?;
         self.sectors.take(&self.context, one)
     }
 }
@@ -115,19 +144,4 @@ impl<'a> Taker for Accounts<'a> {
             Record::Pointer(_) => Ok(()),
         }
     }
-}
-
-// Puts behind the postings what a record posts but to inodes and sectors, a family of accounts after the other.
-fn post(
-    alloc: Global,
-    context: &ImageContext<'_>,
-    one: &RecAt<'_>,
-    into: &mut Postings,
-) -> Result<(), NoMemory>
-    ensures { OnOk result (into.new ≡
-        into.old ++ listed_of context.now.map.now context.now.nodesize (located one.now)) }
-{
-    extent_rules::post(alloc, context, one.tree, &one.part, into)?;
-    dir_rules::post(alloc, context, one.tree, &one.part, into)?;
-    space_rules::post_rest(alloc, context, one.tree, &one.part, into)
 }

@@ -1,6 +1,6 @@
 -- The first broken account of some entries in their order is the least, and the least is one.
-use Rattle.std.proofs.Common.{◌≡◌, ℕ, ◌+◌, ◌-◌, ◌<◌, min, ◌==◌, ◌||◌, ◌&&◌, Bool, true, false, not, cond, List, [], ◌∷◌, refl, ap, sym, ◌∙◌, subst, arith}
-use Rattle.std.specs.Prelude.{Option, Some, None, nat_lt}
+use Rattle.std.proofs.Common.{◌≡◌, ℕ, ◌+◌, ◌-◌, ◌<◌, ◌≤◌, min, ◌==◌, ◌||◌, ◌&&◌, Bool, true, false, not, cond, List, [], ◌∷◌, refl, ap, sym, ◌∙◌, subst, arith}
+use Rattle.std.specs.Prelude.{Option, Some, None, nat_le, nat_lt}
 use Rattle.std.proofs.Math.Path.{fun_ext}
 use Rattle.std.specs.List.{AllByRecursion}
 use Rattle.std.specs.List.Sorted.{IsStrictlySortedBy}
@@ -10,7 +10,7 @@ use Rattle.std.specs.Ordering.{is_eq, is_gt, ordering_reverse}
 use Rattle.std.specs.declared.cmp.Ordering.{Ordering}
 use Rattle.std.specs.declared.cmp.Ordering.TheVariants.{Less, Equal, Greater}
 use Rattle.std.specs.Cmp.{both_ways}
-use Rattle.std.proofs.lemmas.Bool.{eqb-true, eq-eqb, lt-ltb, ltb-true}
+use Rattle.std.proofs.lemmas.Bool.{eqb-true, eq-eqb, le-leb, leb-true, lt-ltb, ltb-true}
 use Rattle.std.proofs.lemmas.Map.Keys.{sorted_head, sorted_tail}
 use Rattle.accounts.specs.declared.account.Account.{Account}
 use Rattle.accounts.specs.declared.totals.Totals.{Totals}
@@ -18,8 +18,8 @@ use Rattle.accounts.specs.declared.postings.Posting.{Posting}
 use Rattle.accounts.specs.Order.{account_cmp}
 use Rattle.accounts.specs.OrderLaws.{account_total, account_equiv}
 use Rattle.accounts.specs.Sums.{added, is_same, sum_in, total_of}
-use Rattle.accounts.specs.Tally.{Sums, balances, difference, inode_class, kept, kept_as, kept_sums, no_sums, sums_at, type_class, with_postings}
-use Rattle.accounts.specs.Broken.{Line, gives, inode_keeps, is_broken, line_of, lines}
+use Rattle.accounts.specs.Tally.{Sums, balances, difference, extent_class, form_class, inode_class, kept, kept_as, kept_sums, no_sums, sums_at, type_class, with_postings}
+use Rattle.accounts.specs.Broken.{Line, extent_keeps, gives, inode_keeps, is_broken, line_of, lines}
 use Rattle.accounts.specs.Least.{IsLeastBroken, LeastBrokenIsOne, is_broken_by, least_broken, least_posted, lesser}
 use Rattle.accounts.proofs.Same.{account_ties, is_Equal, same_account}
 
@@ -191,20 +191,69 @@ inode_alike f =
 type_alike : (f : ℕ → ℕ) → gives (nat_lt 0 (min (f 0) 1)) (min (f 1) 2 == 1) ≡ gives (nat_lt 0 (f 0)) (f 1 == 1)
 type_alike f = let e0 = is_some (f 0) in let e1 = is_one (f 1) in λ i. gives (e0 i) (e1 i)
 
+-- of an extent, and of a form
+no_more_than_one : (x : ℕ) → nat_le (min x 2) 1 ≡ nat_le x 1
+no_more_than_one x =
+    both_ways (nat_le (min x 2) 1) (nat_le x 1)
+    (λ h. let e = leb-true (min x 2) 1 h in let s : x ≤ 1 = omega arith in le-leb x 1 s)
+    (λ h. let e = leb-true x 1 h in let s : min x 2 ≤ 1 = omega arith in le-leb (min x 2) 1 s)
+
+is_none : (x : ℕ) → (min x 2 == 0) ≡ (x == 0)
+is_none x =
+    both_ways (min x 2 == 0) (x == 0)
+    (λ h. let e = eqb-true (min x 2) 0 h in let s : x ≡ 0 = omega arith in eq-eqb x 0 s)
+    (λ h. let e = eqb-true x 0 h in let s : min x 2 ≡ 0 = omega arith in eq-eqb (min x 2) 0 s)
+
+one_left : (x y : ℕ) → nat_le 1 ((x - y) + min 1 (min x y)) ≡ nat_le 1 x
+one_left x y =
+    both_ways (nat_le 1 ((x - y) + min 1 (min x y))) (nat_le 1 x)
+    (λ h. let e = leb-true _ _ h in let s : 1 ≤ x = omega arith in le-leb 1 x s)
+    (λ h. let e = leb-true 1 x h in let s : 1 ≤ (x - y) + min 1 (min x y) = omega arith in le-leb _ _ s)
+
+second_left : (x y : ℕ) → (((y - x) + min 1 (min x y)) == 0) ≡ (y == 0)
+second_left x y =
+    both_ways (((y - x) + min 1 (min x y)) == 0) (y == 0)
+    (λ h. let e = eqb-true _ _ h in let s : y ≡ 0 = omega arith in eq-eqb y 0 s)
+    (λ h. let e = eqb-true y 0 h in let s : (y - x) + min 1 (min x y) ≡ 0 = omega arith in eq-eqb _ _ s)
+
+extent_alike : (f : ℕ → ℕ) → extent_keeps (extent_class f) ≡ extent_keeps f
+extent_alike f =
+    let e0 = no_more_than_one (f 0) in
+    let e1 = is_one (f 0) in
+    let e2 = same_left (f 1) (f 2) in
+    let e3 = one_left (f 1) (f 2) in
+    let e4 = is_none (f 0) in
+    let e5 = second_left (f 1) (f 2) in
+    λ i. e0 i && (gives (e1 i) (e2 i && e3 i) && gives (e4 i) (e5 i))
+
+is_there : (x : ℕ) → nat_le 1 (min x 1) ≡ nat_le 1 x
+is_there x =
+    both_ways (nat_le 1 (min x 1)) (nat_le 1 x)
+    (λ h. let e = leb-true 1 (min x 1) h in let s : 1 ≤ x = omega arith in le-leb 1 x s)
+    (λ h. let e = leb-true 1 x h in let s : 1 ≤ min x 1 = omega arith in le-leb 1 (min x 1) s)
+
+form_alike : (f : ℕ → ℕ) → gives (nat_lt 0 (min (f 1) 1)) (nat_le 1 (min (f 0) 1)) ≡ gives (nat_lt 0 (f 1)) (nat_le 1 (f 0))
+form_alike f = let e0 = is_some (f 1) in let e1 = is_there (f 0) in λ i. gives (e0 i) (e1 i)
+
 kind_is : (n kind : ℕ) (f g : ℕ → ℕ) → (kind == n) ≡ true → line_of n (lines f) ≡ line_of n (lines g) → line_of kind (lines f) ≡ line_of kind (lines g)
 kind_is n kind f g is same = subst (λ k. line_of k (lines f) ≡ line_of k (lines g)) (sym (eqb-true kind n is)) same
 
-broken_if : (is_inode is_type b : Bool) (account : Account) (f : ℕ → ℕ) → (account.kind == 9) ≡ is_inode → (account.kind == 10) ≡ is_type → balances account.kind ≡ b
-    → is_broken account (kept_as is_inode is_type b f) ≡ is_broken account f
+broken_if : (is_inode is_type is_extent is_form b : Bool) (account : Account) (f : ℕ → ℕ)
+    → (account.kind == 9) ≡ is_inode → (account.kind == 10) ≡ is_type → (account.kind == 3) ≡ is_extent → (account.kind == 4) ≡ is_form → balances account.kind ≡ b
+    → is_broken account (kept_as is_inode is_type is_extent is_form b f) ≡ is_broken account f
 unfolding is_broken
-broken_if true is_type b account f inode type is = ap not (kind_is 9 account.kind (inode_class f) f inode (inode_alike f))
-broken_if false true b account f inode type is = ap not (kind_is 10 account.kind (type_class f) f type (type_alike f))
-broken_if false false true account f inode type is = ap not (alike_lines account.kind (lines (difference f)) (lines f) (alike_rules account.kind f is))
-broken_if false false false account f inode type is = refl
+broken_if true is_type is_extent is_form b account f inode type extent form is = ap not (kind_is 9 account.kind (inode_class f) f inode (inode_alike f))
+broken_if false true is_extent is_form b account f inode type extent form is = ap not (kind_is 10 account.kind (type_class f) f type (type_alike f))
+broken_if false false true is_form b account f inode type extent form is = ap not (kind_is 3 account.kind (extent_class f) f extent (extent_alike f))
+broken_if false false false true b account f inode type extent form is = ap not (kind_is 4 account.kind (form_class f) f form (form_alike f))
+broken_if false false false false true account f inode type extent form is =
+    ap not (alike_lines account.kind (lines (difference f)) (lines f) (alike_rules account.kind f is))
+broken_if false false false false false account f inode type extent form is = refl
 
 pub broken_kept : (account : Account) (f : ℕ → ℕ) → is_broken account (kept account.kind f) ≡ is_broken account f
 unfolding kept
-broken_kept account f = broken_if (account.kind == 9) (account.kind == 10) (balances account.kind) account f refl refl refl
+broken_kept account f =
+    broken_if (account.kind == 9) (account.kind == 10) (account.kind == 3) (account.kind == 4) (balances account.kind) account f refl refl refl refl refl
 
 -- ---- the first of the entries
 

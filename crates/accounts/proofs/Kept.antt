@@ -5,7 +5,7 @@ use Rattle.std.proofs.lemmas.Bool.{eqb-true}
 use Rattle.accounts.specs.declared.account.Account.{Account}
 use Rattle.accounts.specs.declared.postings.Posting.{Posting}
 use Rattle.accounts.specs.Sums.{added, total_of}
-use Rattle.accounts.specs.Tally.{Sums, balances, difference, difference_if, inode_class, kept, kept_as, type_class, with_postings, no_sums}
+use Rattle.accounts.specs.Tally.{Sums, balances, difference, difference_if, extent_class, form_class, inode_class, kept, kept_as, type_class, with_postings, no_sums}
 
 -- the difference of what was kept with more added is that of the whole
 difference_more : (f g : ℕ → ℕ) (n : ℕ) → difference (λ m. difference f m + g m) n ≡ difference (λ m. f m + g m) n
@@ -103,15 +103,33 @@ type_more f g n =
     let second = up_to (f 1) (g 1) 2 in
     rw (first, second) refl
 
-more_as : (is_inode is_type b : Bool) (f g : ℕ → ℕ) (n : ℕ) → kept_as is_inode is_type b (λ m. kept_as is_inode is_type b f m + g m) n ≡ kept_as is_inode is_type b (λ m. f m + g m) n
-more_as true is_type b f g n = inode_more f g n
-more_as false true b f g n = type_more f g n
-more_as false false b f g n = more_if b f g n
+-- the same of an extent, and of a form
+extent_more : (f g : ℕ → ℕ) (n : ℕ) → extent_class (λ m. extent_class f m + g m) n ≡ extent_class (λ m. f m + g m) n
+extent_more f g n =
+    let e0 = up_to (f 0) (g 0) 2 in
+    let e1 = first_more (f 1) (f 2) (g 1) (g 2) in
+    let e2 = second_more (f 1) (f 2) (g 1) (g 2) in
+    by_case (n == 0) e0 (by_case (n == 1) e1 (by_case (n == 2) e2 refl))
+
+form_more : (f g : ℕ → ℕ) (n : ℕ) → form_class (λ m. form_class f m + g m) n ≡ form_class (λ m. f m + g m) n
+form_more f g n =
+    let first = up_to (f 0) (g 0) 1 in
+    let second = up_to (f 1) (g 1) 1 in
+    rw (first, second) refl
+
+more_as : (is_inode is_type is_extent is_form b : Bool) (f g : ℕ → ℕ) (n : ℕ)
+    → kept_as is_inode is_type is_extent is_form b (λ m. kept_as is_inode is_type is_extent is_form b f m + g m) n
+    ≡ kept_as is_inode is_type is_extent is_form b (λ m. f m + g m) n
+more_as true is_type is_extent is_form b f g n = inode_more f g n
+more_as false true is_extent is_form b f g n = type_more f g n
+more_as false false true is_form b f g n = extent_more f g n
+more_as false false false true b f g n = form_more f g n
+more_as false false false false b f g n = more_if b f g n
 
 -- to keep what was kept, with more added, is to keep the whole
 pub kept_more : (kind : ℕ) (f g : ℕ → ℕ) → kept kind (λ m. kept kind f m + g m) ≡ kept kind (λ m. f m + g m)
 unfolding kept
-kept_more kind f g = fun_ext (λ n. more_as (kind == 9) (kind == 10) (balances kind) f g n)
+kept_more kind f g = fun_ext (λ n. more_as (kind == 9) (kind == 10) (kind == 3) (kind == 4) (balances kind) f g n)
 
 -- what is kept of nothing is nothing
 zeroes : (a b : Bool) → ◌≡◌ {A = ℕ} (cond a 0 (cond b 0 0)) 0
@@ -131,16 +149,18 @@ inode_nothing : (n : ℕ) → inode_class (λ _. 0) n ≡ 0
 inode_nothing n =
     to_zero (n == 0) (to_zero (n == 1) (to_zero (n == 2) (to_zero (n == 3) (to_zero (n == 4) (to_zero (n == 5) (to_zero (n == 6) (to_zero (n == 7) (to_zero (n == 8) refl))))))))
 
-nothing_as : (is_inode is_type b : Bool) (n : ℕ) → kept_as is_inode is_type b (λ _. 0) n ≡ 0
-nothing_as true is_type b n = inode_nothing n
-nothing_as false true b n = zeroes (n == 0) (n == 1)
-nothing_as false false b n = nothing_if b n
+nothing_as : (is_inode is_type is_extent is_form b : Bool) (n : ℕ) → kept_as is_inode is_type is_extent is_form b (λ _. 0) n ≡ 0
+nothing_as true is_type is_extent is_form b n = inode_nothing n
+nothing_as false true is_extent is_form b n = zeroes (n == 0) (n == 1)
+nothing_as false false true is_form b n = to_zero (n == 0) (to_zero (n == 1) (to_zero (n == 2) refl))
+nothing_as false false false true b n = zeroes (n == 0) (n == 1)
+nothing_as false false false false b n = nothing_if b n
 
 pub kept_nothing : (kind : ℕ) → kept kind (λ _. 0) ≡ (λ _. 0)
 unfolding kept
-kept_nothing kind = fun_ext (λ n. nothing_as (kind == 9) (kind == 10) (balances kind) n)
+kept_nothing kind = fun_ext (λ n. nothing_as (kind == 9) (kind == 10) (kind == 3) (kind == 4) (balances kind) n)
 
--- a kind whose difference decides is none of an inode or a type
+-- a kind whose difference decides is none of these
 other_kind : (n kind : ℕ) (b : Bool) → (kind == n) ≡ b → balances n ≡ false → balances kind ≡ true → b ≡ false
 other_kind n kind true is off on = absurd (cc (off, on, ap balances (eqb-true kind n is)))
 other_kind n kind false is off on = refl
@@ -150,7 +170,9 @@ unfolding kept
 balanced_kept kind f on =
     let inode = other_kind 9 kind (kind == 9) refl refl on in
     let type = other_kind 10 kind (kind == 10) refl refl on in
-    λ i. kept_as (inode i) (type i) (on i) f
+    let extent = other_kind 3 kind (kind == 3) refl refl on in
+    let form = other_kind 4 kind (kind == 4) refl refl on in
+    λ i. kept_as (inode i) (type i) (extent i) (form i) (on i) f
 
 -- sums that are alike, and those whose difference is
 pub alike_kept : (kind : ℕ) (f g : ℕ → ℕ) → ((n : ℕ) → f n ≡ g n) → (n : ℕ) → kept kind f n ≡ kept kind g n

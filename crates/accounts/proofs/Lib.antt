@@ -4,3 +4,4 @@ pub mod First
 pub mod Kept
 pub mod Same
 pub mod SoFar
+pub mod Apart

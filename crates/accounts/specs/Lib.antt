@@ -8,3 +8,4 @@ pub mod Kinds
 pub mod Taken
 pub mod Posts
 pub mod Tally
+pub mod Apart

@@ -44,15 +44,29 @@ inode_class f field =
 abbrev pub type_class : (ℕ → ℕ) → ℕ → ℕ
 type_class f field = if field == 0 then min (f 0) 1 else (if field == 1 then min (f 1) 2 else 0)
 
--- what is kept of the sums of an inode, of a type, or of another account
-abbrev pub kept_as : Bool → Bool → Bool → (ℕ → ℕ) → ℕ → ℕ
-kept_as true is_type balanced f = inode_class f
-kept_as false true balanced f = type_class f
-kept_as false false balanced f = difference_if balanced f
+-- what is kept of an extent: its items up to two; the difference of the references that its item says and of those that there are, and
+-- whether there are both
+abbrev pub extent_class : (ℕ → ℕ) → ℕ → ℕ
+extent_class f field =
+    if field == 0 then min (f 0) 2 else
+    (if field == 1 then (f 1 - f 2) + min 1 (min (f 1) (f 2)) else
+    (if field == 2 then (f 2 - f 1) + min 1 (min (f 1) (f 2)) else 0))
+
+-- what is kept of a form of an extent: whether its item has it, and whether who refers to it does
+abbrev pub form_class : (ℕ → ℕ) → ℕ → ℕ
+form_class f field = if field == 0 then min (f 0) 1 else (if field == 1 then min (f 1) 1 else 0)
+
+-- what is kept of the sums of an inode, of a type, of an extent, of a form, or of another account
+abbrev pub kept_as : Bool → Bool → Bool → Bool → Bool → (ℕ → ℕ) → ℕ → ℕ
+kept_as true is_type is_extent is_form balanced f = inode_class f
+kept_as false true is_extent is_form balanced f = type_class f
+kept_as false false true is_form balanced f = extent_class f
+kept_as false false false true balanced f = form_class f
+kept_as false false false false balanced f = difference_if balanced f
 
 -- what is kept of the sums of an account of a kind: no more than what the rule on the kind looks at
 unfoldable pub kept : ℕ → (ℕ → ℕ) → ℕ → ℕ
-kept kind f = kept_as (kind == 9) (kind == 10) (balances kind) f
+kept kind f = kept_as (kind == 9) (kind == 10) (kind == 3) (kind == 4) (balances kind) f
 
 -- some sums, with an amount added to one
 abbrev pub with_amount : (ℕ → ℕ) → ℕ → ℕ → ℕ → ℕ

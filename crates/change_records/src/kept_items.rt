@@ -74,7 +74,8 @@ fn search<L, B: Bases<Table = LiveIndex<L>>>(
     steps: &mut Steps<L>,
 ) -> Result<(), NoMemory>
     ensures { let b = sides.now.bases.now in
-        let k = known (B.chunks b) (B.superblock b).nodesize (B.is_sum_free b) (pairs_of (B.table b))
+        let k = known (B.chunks b) (B.superblock b).nodesize (B.is_sum_free b)
+        (pairs_of (B.table b))
         sides.now.fresh.now sides.now.made.now in
         ((at : ARef) → set.contains ref_cmp refs.old at ≡ false) →
         AreLawful (B.superblock b).nodesize (times_of spans.now) → AreAlone (times_of spans.now) →

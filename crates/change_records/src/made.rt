@@ -164,7 +164,8 @@ impl Made {
     pub fn turn(&self, set: &mut BTreeSet<Inode>) -> Result<(), NoMemory>
         ensures { OnOk result ((tree ino : ℕ) →
             contains inode_cmp set.new (record { tree = tree; ino = ino })
-            ≡ flag_by self.now tree ino (contains inode_cmp set.old (record { tree = tree; ino = ino }))) }
+            ≡ flag_by self.now tree ino
+            (contains inode_cmp set.old (record { tree = tree; ino = ino }))) }
     {
         for inode in &self.inodes {
             let free = self.flag(inode.tree, inode.ino, set.contains(inode));

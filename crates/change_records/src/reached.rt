@@ -37,7 +37,8 @@ pub(crate) fn take_chunks<L, B: Bases<Table = LiveIndex<L>>>(
     steps: &mut Steps<L>,
 ) -> Result<(), NoMemory>
     ensures { let b = sides.now.bases.now in
-        let k = known (B.chunks b) (B.superblock b).nodesize (B.is_sum_free b) (pairs_of (B.table b))
+        let k = known (B.chunks b) (B.superblock b).nodesize (B.is_sum_free b)
+        (pairs_of (B.table b))
         sides.now.fresh.now sides.now.made.now in
         let list = chunks.now.list.now in
         AreLawful (B.superblock b).nodesize (times_of spans.now) →
@@ -62,7 +63,8 @@ fn take_chunk<L, B: Bases<Table = LiveIndex<L>>>(
     steps: &mut Steps<L>,
 ) -> Result<(), NoMemory>
     ensures { let b = sides.now.bases.now in
-        let k = known (B.chunks b) (B.superblock b).nodesize (B.is_sum_free b) (pairs_of (B.table b))
+        let k = known (B.chunks b) (B.superblock b).nodesize (B.is_sum_free b)
+        (pairs_of (B.table b))
         sides.now.fresh.now sides.now.made.now in
         AreLawful (B.superblock b).nodesize (times_of spans.now) →
         OnOk result (Searched k (times_of spans.now) (MeetsChunk chunk.now) refs.old refs.new) }
@@ -87,7 +89,8 @@ pub(crate) fn take_inodes<L, B: Bases<Table = LiveIndex<L>>>(
 ) -> Result<(), NoMemory>
     ensures { let b = sides.now.bases.now in
         let made = sides.now.made.now in
-        let k = known (B.chunks b) (B.superblock b).nodesize (B.is_sum_free b) (pairs_of (B.table b))
+        let k = known (B.chunks b) (B.superblock b).nodesize (B.is_sum_free b)
+        (pairs_of (B.table b))
         sides.now.fresh.now made in
         let list = inodes.now in
         AreLawful (B.superblock b).nodesize (times_of spans.now) → AreAlone (times_of spans.now) →

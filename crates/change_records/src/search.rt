@@ -139,7 +139,8 @@ fn take<L, B: Bases<Table = LiveIndex<L>>>(
     steps: &mut Steps<L>,
 ) -> Result<(), NoMemory>
     ensures { let b = sides.now.bases.now in
-        let k = known (B.chunks b) (B.superblock b).nodesize (B.is_sum_free b) (pairs_of (B.table b))
+        let k = known (B.chunks b) (B.superblock b).nodesize (B.is_sum_free b)
+        (pairs_of (B.table b))
         sides.now.fresh.now sides.now.made.now in
         IsLawfulSpan (B.superblock b).nodesize span.now →
         OnOk result (Takes k span.now refs.old refs.new) }
@@ -169,7 +170,8 @@ pub(crate) fn take_range<L, B: Bases<Table = LiveIndex<L>>>(
     steps: &mut Steps<L>,
 ) -> Result<(), NoMemory>
     ensures { let b = sides.now.bases.now in
-        let k = known (B.chunks b) (B.superblock b).nodesize (B.is_sum_free b) (pairs_of (B.table b))
+        let k = known (B.chunks b) (B.superblock b).nodesize (B.is_sum_free b)
+        (pairs_of (B.table b))
         sides.now.fresh.now sides.now.made.now in
         AreLawful (B.superblock b).nodesize (times_of spans.now) →
         OnOk result (Searched k (times_of spans.now)
@@ -200,7 +202,8 @@ pub(crate) fn take_file<L, B: Bases<Table = LiveIndex<L>>>(
     steps: &mut Steps<L>,
 ) -> Result<(), NoMemory>
     ensures { let b = sides.now.bases.now in
-        let k = known (B.chunks b) (B.superblock b).nodesize (B.is_sum_free b) (pairs_of (B.table b))
+        let k = known (B.chunks b) (B.superblock b).nodesize (B.is_sum_free b)
+        (pairs_of (B.table b))
         sides.now.fresh.now sides.now.made.now in
         AreLawful (B.superblock b).nodesize (times_of spans.now) → AreAlone (times_of spans.now) →
         OnOk result (Searched k (times_of spans.now) (IsShownBy inode.now.tree inode.now.ino)

@@ -211,7 +211,8 @@ fn named_span<L>(
     steps: &mut Steps<L>,
 ) -> Option<Span>
     ensures found { AreLawful nodesize (times_of table.now) → AreAlone (times_of table.now) →
-        (pairs : Pairs) (span : ASpan) → 0 < times_of table.now span → SpanNames pairs span at.now → result ≡ Some span }
+        (pairs : Pairs) (span : ASpan) → 0 < times_of table.now span →
+        SpanNames pairs span at.now → result ≡ Some span }
     ensures stands { IfSome result (λ span. 0 < times_of table.now span) }
 {
     let key = at.key;

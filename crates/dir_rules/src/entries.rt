@@ -40,8 +40,8 @@ pub fn post_names(
     post_links(alloc, tree, item, into)
 }
 
-// Whether this is the key of the names of a tree's root directory.
-fn is_root_name(key: Key) -> bool
+/// Whether this is the key of the names of a tree's root directory, which no directory of the tree has.
+pub fn is_root_name(key: Key) -> bool
     ensures { result ≡ is_root_name key }
 {
     key.objectid == 256 && key.kind == INODE_REF && key.offset == 256
@@ -63,8 +63,9 @@ fn post_links(
     Ok(())
 }
 
-// A name of an inode: the inode has it.
-fn post_link(
+/// Posts a name of an inode of a tree, to the sum of those that the inode has. Where memory is wanting, the list stays
+/// as it was.
+pub fn post_link(
     alloc: Global,
     tree: u64,
     ino: u64,
@@ -93,8 +94,10 @@ pub fn post_entries(
     Ok(())
 }
 
-// An entry of a directory in the item with this key.
-fn post_entry(
+/// Posts an entry of a directory in the item with this key, to the sum of those by their hash or by their index; one
+/// by its index besides to the link of the inode, or to the entry of the subvolume. Where memory is wanting, a first
+/// part of the postings stands behind the old list.
+pub fn post_entry(
     alloc: Global,
     tree: u64,
     key: Key,

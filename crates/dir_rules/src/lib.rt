@@ -5,4 +5,6 @@ mod entries;
 mod subvolumes;
 mod table;
 
+pub use entries::{is_root_name, post_entry, post_link};
+pub use subvolumes::{post_root, post_root_link};
 pub use table::post;

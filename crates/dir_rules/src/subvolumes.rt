@@ -14,7 +14,8 @@ use verdict::kinds::ROOT_REF;
 use verdict::{NoMemory, is_free_id};
 use volume_items::{RootItem, RootLink};
 
-// A root item: how often its tree is named, where that is a subvolume.
+/// Posts what a root item says: how often its tree is named, where that is a subvolume. Where memory is wanting, the
+/// list stays as it was.
 pub fn post_root(alloc: Global, item: &RootItem, into: &mut Postings) -> Result<(), NoMemory>
     ensures { Posts into.old into.new result (root_postings item.now) }
 {
@@ -25,7 +26,8 @@ pub fn post_root(alloc: Global, item: &RootItem, into: &mut Postings) -> Result<
     add(Account::subvolume(alloc, id), 0, u64::from(item.refs), into)
 }
 
-// The name of a subvolume, from one of its two sides: the key has the parent and then the child, or the reverse.
+/// Posts the name of a subvolume, from one of its two sides: the key has the parent and then the child, or the
+/// reverse. Where memory is wanting, a first part of the postings stands behind the old list.
 pub fn post_root_link(
     alloc: Global,
     item: &RootLink<'_>,

@@ -43,8 +43,9 @@ pub fn post<C: Ctx>(
     }
 }
 
-// A block of a tree.
-fn post_block(
+/// Puts behind the postings what a block of a tree says: the tree's id, the block's logical address and its level. Where
+/// memory is wanting a first part of these postings may stand there.
+pub fn post_block(
     alloc: Global,
     tree: u64,
     address: u64,
@@ -61,8 +62,13 @@ fn post_block(
     ])
 }
 
-// An extent, and the references in its item.
-fn post_extent(alloc: Global, item: &ExtentItem<'_>, into: &mut Postings) -> Result<(), NoMemory>
+/// Puts behind the postings what an extent's item says, and the references in it. Where memory is wanting a first part of
+/// these postings may stand there.
+pub fn post_extent(
+    alloc: Global,
+    item: &ExtentItem<'_>,
+    into: &mut Postings,
+) -> Result<(), NoMemory>
     ensures { Posts into.old into.new result (extent_item_postings (extent_fields_in item.now)) }
 {
     let address = item.key.objectid;
@@ -78,8 +84,9 @@ fn post_extent(alloc: Global, item: &ExtentItem<'_>, into: &mut Postings) -> Res
     Ok(())
 }
 
-// A reference to the extent at a logical address, in its item or with an item of its own.
-fn post_reference(
+/// Puts behind the postings what a reference to the extent at a logical address says, in its item or with an item of its
+/// own. Where memory is wanting a first part of these postings may stand there.
+pub fn post_reference(
     alloc: Global,
     address: u64,
     reference: &Reference,
@@ -94,8 +101,8 @@ fn post_reference(
     ])
 }
 
-// The account of who refers to the extent at a logical address.
-fn reference_account(alloc: Global, address: u64, reference: &Reference) -> Account
+/// The account of who refers to the extent at a logical address.
+pub fn reference_account(alloc: Global, address: u64, reference: &Reference) -> Account
     ensures { result ≡ reference_account address reference.now }
 {
     match reference.kind {
@@ -112,9 +119,10 @@ fn reference_account(alloc: Global, address: u64, reference: &Reference) -> Acco
     }
 }
 
-// A range of a file that has an extent on the disk: it is not inline, and no hole. The extent would begin at the
-// byte `origin` of the file, modulo 2^64.
-fn post_range(
+/// Puts behind the postings what a range of a file says, if it has an extent on the disk: it is not inline, and no hole.
+/// The extent would begin at the byte `origin` of the file, modulo 2^64. Where memory is wanting a first part of these
+/// postings may stand there.
+pub fn post_range(
     alloc: Global,
     tree: u64,
     range: &FileExtent,

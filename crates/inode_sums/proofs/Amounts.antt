@@ -1,6 +1,6 @@
 -- What amounts to an inode come to, account by account.
 use Rattle.std.proofs.Common.{◌≡◌, ℕ, ◌+◌, ◌-◌, min, ◌==◌, ◌&&◌, Bool, true, false, cond, [], ◌∷◌, refl, ap, sym, ◌∙◌, subst, arith}
-use Rattle.std.specs.Prelude.{nat_lt, slice_index}
+use Rattle.std.specs.Prelude.{◌||◌, nat_lt}
 use Rattle.std.proofs.Math.Path.{fun_ext}
 use Rattle.std.proofs.lemmas.Bool.{eqb-true}
 use Rattle.accounts.specs.declared.account.Account.{Account}
@@ -8,11 +8,12 @@ use Rattle.accounts.specs.Kinds.{inode, inode_type}
 use Rattle.accounts.specs.Sums.{added, is_same, total_of}
 use Rattle.accounts.specs.OrderLaws.{account_equiv}
 use Rattle.accounts.specs.Tally.{inode_class, kept, type_class, with_amount}
+use Rattle.accounts.proofs.Apart.{more_alike}
 use Rattle.accounts.proofs.Same.{same_account}
 use Rattle.inode_sums.specs.declared.class.Gathered.{Gathered}
 use Rattle.inode_sums.specs.declared.class.InodeClass.{InodeClass}
-use Rattle.inode_sums.specs.Held.{gathered_postings, no_sums_of, to, widened}
-use Rattle.inode_sums.specs.Joined.{IsJoined}
+use Rattle.inode_sums.specs.Held.{gathered_postings, is_of_inodes, no_sums_of, sum_of, to, widened}
+use Rattle.inode_sums.specs.Joined.{IsJoined, IsTargeted}
 
 -- amounts, by whether they are to an account of the inode or of the type
 abbrev amounts : Bool → Bool → (ℕ → ℕ) → ℕ → ℕ → ℕ → ℕ
@@ -31,13 +32,13 @@ amounts is_inode is_type f entries typed n =
     + 0))))))))))
 
 amounts_of : (tree ino : ℕ) (more : Gathered) (a : Account) (n : ℕ) → total_of (gathered_postings tree ino more) a n
-    ≡ amounts (is_same (inode tree ino) a) (is_same (inode_type tree ino more.sort) a) (slice_index more.f) more.entries more.typed n
+    ≡ amounts (is_same (inode tree ino) a) (is_same (inode_type tree ino more.sort) a) (sum_of more) more.entries more.typed n
 unfolding total_of added
 amounts_of tree ino more a n = refl
 
 -- to the inode itself
-at_inode : (tree ino : ℕ) (more : Gathered) (n : ℕ) → total_of (gathered_postings tree ino more) (inode tree ino) n ≡ amounts true false (slice_index more.f) more.entries more.typed n
-at_inode tree ino more n = amounts_of tree ino more (inode tree ino) n ∙ ap (λ b. amounts b false (slice_index more.f) more.entries more.typed n) (account_equiv.refl (inode tree ino))
+at_inode : (tree ino : ℕ) (more : Gathered) (n : ℕ) → total_of (gathered_postings tree ino more) (inode tree ino) n ≡ amounts true false (sum_of more) more.entries more.typed n
+at_inode tree ino more n = amounts_of tree ino more (inode tree ino) n ∙ ap (λ b. amounts b false (sum_of more) more.entries more.typed n) (account_equiv.refl (inode tree ino))
 
 nine_alike : (f g : ℕ → ℕ) → f 0 ≡ g 0 → f 1 ≡ g 1 → f 2 ≡ g 2 → f 3 ≡ g 3 → f 4 ≡ g 4 → f 5 ≡ g 5 → f 6 ≡ g 6 → f 7 ≡ g 7 → f 8 ≡ g 8 → inode_class f ≡ inode_class g
 nine_alike f g e0 e1 e2 e3 e4 e5 e6 e7 e8 = λ i n.
@@ -52,9 +53,9 @@ nine_alike f g e0 e1 e2 e3 e4 e5 e6 e7 e8 = λ i n.
     (cond (n == 8) (e8 i - e7 i) 0))))))))
 
 -- amounts to the inode itself and more are as the sums and more
-pub inode_with : (tree ino : ℕ) (more : Gathered) (g : ℕ → ℕ) → inode_class (λ n. total_of (gathered_postings tree ino more) (inode tree ino) n + g n) ≡ inode_class (λ n. slice_index more.f n + g n)
+pub inode_with : (tree ino : ℕ) (more : Gathered) (g : ℕ → ℕ) → inode_class (λ n. total_of (gathered_postings tree ino more) (inode tree ino) n + g n) ≡ inode_class (λ n. sum_of more n + g n)
 inode_with tree ino more g =
-    let f : ℕ → ℕ = slice_index more.f in
+    let f : ℕ → ℕ = sum_of more in
     nine_alike (λ n. total_of (gathered_postings tree ino more) (inode tree ino) n + g n) (λ n. f n + g n)
     (let e = at_inode tree ino more 0 in omega (arith, e))
     (let e = at_inode tree ino more 1 in omega (arith, e))
@@ -99,8 +100,8 @@ no_type tree ino sort a other =
 pub none_at : (tree ino : ℕ) (more : Gathered) (a : Account) → is_same (inode tree ino) a ≡ false → is_same (inode_type tree ino more.sort) a ≡ false → (n : ℕ) → total_of (gathered_postings tree ino more) a n ≡ 0
 none_at tree ino more a first second n =
     amounts_of tree ino more a n
-    ∙ ap (λ b. amounts b (is_same (inode_type tree ino more.sort) a) (slice_index more.f) more.entries more.typed n) first
-    ∙ ap (λ b. amounts false b (slice_index more.f) more.entries more.typed n) second
+    ∙ ap (λ b. amounts b (is_same (inode_type tree ino more.sort) a) (sum_of more) more.entries more.typed n) first
+    ∙ ap (λ b. amounts false b (sum_of more) more.entries more.typed n) second
 
 entries_at : (b : Bool) (f : ℕ → ℕ) (entries typed : ℕ) → amounts false b f entries typed 0 ≡ cond b entries 0
 entries_at true f entries typed = omega arith
@@ -115,8 +116,8 @@ pub at_type : (tree ino : ℕ) (more : Gathered) (a : Account) → is_same (inod
     × (total_of (gathered_postings tree ino more) a 1 ≡ cond (is_same (inode_type tree ino more.sort) a) more.typed 0)
 at_type tree ino more a other =
     let b : Bool = is_same (inode_type tree ino more.sort) a in (
-      amounts_of tree ino more a 0 ∙ ap (λ s. amounts s b (slice_index more.f) more.entries more.typed 0) other ∙ entries_at b (slice_index more.f) more.entries more.typed,
-      amounts_of tree ino more a 1 ∙ ap (λ s. amounts s b (slice_index more.f) more.entries more.typed 1) other ∙ typed_at b (slice_index more.f) more.entries more.typed,
+      amounts_of tree ino more a 0 ∙ ap (λ s. amounts s b (sum_of more) more.entries more.typed 0) other ∙ entries_at b (sum_of more) more.entries more.typed,
+      amounts_of tree ino more a 1 ∙ ap (λ s. amounts s b (sum_of more) more.entries more.typed 1) other ∙ typed_at b (sum_of more) more.entries more.typed,
     )
 
 -- ---- a class joined with more
@@ -134,11 +135,11 @@ module _ (tree ino : ℕ) (class : InodeClass) (more : Gathered) (joined : Inode
   joined_inode =
       ap inode_class (plus_none (new (inode tree ino)))
       ∙ inode_with tree ino (widened joined) (λ _. 0)
-      ∙ ap inode_class (sym (plus_none (slice_index (widened joined).f)))
+      ∙ ap inode_class (sym (plus_none (sum_of (widened joined))))
       ∙ fun_ext is.inode
-      ∙ ap inode_class (swapped (slice_index (widened class).f) (slice_index more.f))
-      ∙ sym (inode_with tree ino more (slice_index (widened class).f))
-      ∙ ap inode_class (swapped (given (inode tree ino)) (slice_index (widened class).f))
+      ∙ ap inode_class (swapped (sum_of (widened class)) (sum_of more))
+      ∙ sym (inode_with tree ino more (sum_of (widened class)))
+      ∙ ap inode_class (swapped (given (inode tree ino)) (sum_of (widened class)))
       ∙ sym (inode_with tree ino (widened class) (given (inode tree ino)))
 
   joined_type : (a : Account) → is_same (inode tree ino) a ≡ false → type_class (new a) ≡ type_class (λ n. old a n + given a n)
@@ -191,7 +192,7 @@ one_amount true amount = omega arith
 one_amount false amount = refl
 
 module _ (tree ino : ℕ) (old new : Gathered) (field amount : ℕ)
-    (sums : (n : ℕ) → slice_index new.f n ≡ with_amount (slice_index old.f) field amount n)
+    (sums : (n : ℕ) → sum_of new n ≡ with_amount (sum_of old) field amount n)
     (types : (new.sort ≡ old.sort) × (new.entries ≡ old.entries) × (new.typed ≡ old.typed)) where
   abbrev pub before : Account → ℕ → ℕ
   before = total_of (gathered_postings tree ino old)
@@ -213,8 +214,8 @@ module _ (tree ino : ℕ) (old new : Gathered) (field amount : ℕ)
       ∙ ap (λ b. cond (field == n && b) amount 0 + 0) small
       ∙ one_amount (field == n) amount
 
-  raised_at : (n : ℕ) → nat_lt n 9 ≡ true → amounts true false (slice_index new.f) new.entries new.typed n ≡ slice_index new.f n
-      → amounts true false (slice_index old.f) old.entries old.typed n ≡ slice_index old.f n → raised_sum n
+  raised_at : (n : ℕ) → nat_lt n 9 ≡ true → amounts true false (sum_of new) new.entries new.typed n ≡ sum_of new n
+      → amounts true false (sum_of old) old.entries old.typed n ≡ sum_of old n → raised_sum n
   raised_at n small here there =
       let a = at_inode tree ino new n ∙ here in
       let b = at_inode tree ino old n ∙ there in
@@ -242,13 +243,13 @@ module _ (tree ino : ℕ) (old new : Gathered) (field amount : ℕ)
   raised_other : (a : Account) → is_same (inode tree ino) a ≡ false → (n : ℕ) → after a n ≡ before a n + more a n
   raised_other a other n =
       let none = none_more a n other in
-      let x : after a n ≡ amounts false (is_same (inode_type tree ino new.sort) a) (slice_index new.f) new.entries new.typed n =
-      amounts_of tree ino new a n ∙ ap (λ b. amounts b (is_same (inode_type tree ino new.sort) a) (slice_index new.f) new.entries new.typed n) other in
-      let y : before a n ≡ amounts false (is_same (inode_type tree ino old.sort) a) (slice_index old.f) old.entries old.typed n =
-      amounts_of tree ino old a n ∙ ap (λ b. amounts b (is_same (inode_type tree ino old.sort) a) (slice_index old.f) old.entries old.typed n) other in
-      let z : amounts false (is_same (inode_type tree ino new.sort) a) (slice_index old.f) new.entries new.typed n
-      ≡ amounts false (is_same (inode_type tree ino old.sort) a) (slice_index old.f) old.entries old.typed n =
-      λ i. amounts false (is_same (inode_type tree ino (types.0 i)) a) (slice_index old.f) (types.1 i) (types.2 i) n in
+      let x : after a n ≡ amounts false (is_same (inode_type tree ino new.sort) a) (sum_of new) new.entries new.typed n =
+      amounts_of tree ino new a n ∙ ap (λ b. amounts b (is_same (inode_type tree ino new.sort) a) (sum_of new) new.entries new.typed n) other in
+      let y : before a n ≡ amounts false (is_same (inode_type tree ino old.sort) a) (sum_of old) old.entries old.typed n =
+      amounts_of tree ino old a n ∙ ap (λ b. amounts b (is_same (inode_type tree ino old.sort) a) (sum_of old) old.entries old.typed n) other in
+      let z : amounts false (is_same (inode_type tree ino new.sort) a) (sum_of old) new.entries new.typed n
+      ≡ amounts false (is_same (inode_type tree ino old.sort) a) (sum_of old) old.entries old.typed n =
+      λ i. amounts false (is_same (inode_type tree ino (types.0 i)) a) (sum_of old) (types.1 i) (types.2 i) n in
       let whole : after a n ≡ before a n = x ∙ z ∙ sym y in
       omega (arith, whole, none)
 
@@ -261,40 +262,89 @@ module _ (tree ino : ℕ) (old new : Gathered) (field amount : ℕ)
   pub raised_kept : (a : Account) → kept a.kind (after a) ≡ kept a.kind (λ n. before a n + more a n)
   raised_kept a = raised_case (is_same (inode tree ino) a) a refl
 
--- ---- a target, and a type
-pub target_total : (tree ino sort : ℕ) (more : Gathered) → more ≡ record { f = 0 ∷ 1 ∷ 0 ∷ 0 ∷ 0 ∷ 0 ∷ 0 ∷ 0 ∷ 0 ∷ []; sort = sort; entries = 1; typed = 0 } → (a : Account) (n : ℕ)
-    → total_of (gathered_postings tree ino more) a n ≡ total_of (to (inode tree ino) 1 1 ∷ to (inode_type tree ino sort) 0 1 ∷ []) a n
+-- ---- targets, and a type
+pub target_total : (tree ino sort count : ℕ) (more : Gathered)
+    → more ≡ record { bytes = 0 ∷ 0 ∷ 0 ∷ 0 ∷ []; counts = 0 ∷ count ∷ 0 ∷ 0 ∷ 0 ∷ []; entries = count; typed = 0; sort = sort } → (a : Account) (n : ℕ)
+    → total_of (gathered_postings tree ino more) a n ≡ total_of (to (inode tree ino) 1 count ∷ to (inode_type tree ino sort) 0 count ∷ []) a n
 unfolding total_of added
-target_total tree ino sort more is a n =
+target_total tree ino sort count more is a n =
     ap (λ m. total_of (gathered_postings tree ino m) a n) is
-    ∙ zero_dropped _ _ _ (ap (λ k. cond (is_same (inode tree ino) a && (1 == n && nat_lt n 9)) 1 0 + k)
-    (zero_dropped _ _ _ (zero_dropped _ _ _ (zero_dropped _ _ _ (zero_dropped _ _ _ (zero_dropped _ _ _ (zero_dropped _ _ _ (zero_dropped _ _ _ (ap (λ k. cond (is_same (inode_type tree ino sort) a && (0 == n && nat_lt n 9)) 1 0 + k) (zero_dropped _ _ _ refl))))))))))
+    ∙ zero_dropped _ _ _ (ap (λ k. cond (is_same (inode tree ino) a && (1 == n && nat_lt n 9)) count 0 + k)
+    (zero_dropped _ _ _ (zero_dropped _ _ _ (zero_dropped _ _ _ (zero_dropped _ _ _ (zero_dropped _ _ _ (zero_dropped _ _ _ (zero_dropped _ _ _ (ap (λ k. cond (is_same (inode_type tree ino sort) a && (0 == n && nat_lt n 9)) count 0 + k) (zero_dropped _ _ _ refl))))))))))
 
-pub type_total : (tree ino sort : ℕ) (more : Gathered) → more ≡ record { f = 0 ∷ 0 ∷ 0 ∷ 0 ∷ 0 ∷ 0 ∷ 0 ∷ 0 ∷ 0 ∷ []; sort = sort; entries = 0; typed = 1 } → (a : Account) (n : ℕ)
+pub type_total : (tree ino sort : ℕ) (more : Gathered) → more ≡ record { bytes = 0 ∷ 0 ∷ 0 ∷ 0 ∷ []; counts = 0 ∷ 0 ∷ 0 ∷ 0 ∷ 0 ∷ []; entries = 0; typed = 1; sort = sort } → (a : Account) (n : ℕ)
     → total_of (gathered_postings tree ino more) a n ≡ total_of (to (inode_type tree ino sort) 1 1 ∷ []) a n
 unfolding total_of added
 type_total tree ino sort more is a n =
     ap (λ m. total_of (gathered_postings tree ino m) a n) is
     ∙ (zero_dropped _ _ _ (zero_dropped _ _ _ (zero_dropped _ _ _ (zero_dropped _ _ _ (zero_dropped _ _ _ (zero_dropped _ _ _ (zero_dropped _ _ _ (zero_dropped _ _ _ (zero_dropped _ _ _ (zero_dropped _ _ _ refl))))))))))
 
--- ---- an item that says a type
+-- ---- an entry, or an item, that says a type more
 
-no_more : (b : Bool) → ◌≡◌ {A = ℕ} (cond b 0 0) 0
-no_more true = refl
-no_more false = refl
+some_more : (b : Bool) (k count : ℕ) → cond b (k + count) 0 ≡ cond b k 0 + cond b count 0
+some_more true k count = refl
+some_more false k count = refl
 
-tail_more : (x0 x1 x2 x3 x4 x5 x6 x7 x8 more : ℕ) (a b c : Bool)
-    → x0 + (x1 + (x2 + (x3 + (x4 + (x5 + (x6 + (x7 + (x8 + (cond a 0 0 + (more + 0))))))))))
-    ≡ (x0 + (x1 + (x2 + (x3 + (x4 + (x5 + (x6 + (x7 + (x8 + (cond b 0 0 + (cond c 0 0 + 0))))))))))) + (more + 0)
-tail_more x0 x1 x2 x3 x4 x5 x6 x7 x8 more a b c = let i = no_more a in let j = no_more b in let k = no_more c in omega (arith, i, j, k)
+tail_more : (x0 x1 x2 x3 x4 x5 x6 x7 x8 e t f u more : ℕ) → e + t ≡ (f + u) + more
+    → x0 + (x1 + (x2 + (x3 + (x4 + (x5 + (x6 + (x7 + (x8 + (e + (t + 0))))))))))
+    ≡ (x0 + (x1 + (x2 + (x3 + (x4 + (x5 + (x6 + (x7 + (x8 + (f + (u + 0))))))))))) + (more + 0)
+tail_more x0 x1 x2 x3 x4 x5 x6 x7 x8 e t f u more is = omega (arith, is)
 
-pub typed_total : (tree ino sort : ℕ) (old : Gathered) → old.entries ≡ 0 → old.typed ≡ 0 → (a : Account) (n : ℕ)
-    → total_of (gathered_postings tree ino (record { f = old.f; sort = sort; entries = 0; typed = 1 })) a n
-    ≡ total_of (gathered_postings tree ino old) a n + total_of (to (inode_type tree ino sort) 1 1 ∷ []) a n
-unfolding total_of added
-typed_total tree ino sort old none nothing a n =
-    let s : Bool = is_same (inode tree ino) a in
-    let u : Bool = is_same (inode_type tree ino old.sort) a in
-    let here : total_of (gathered_postings tree ino old) a n ≡ amounts s u (slice_index old.f) 0 0 n =
-    amounts_of tree ino old a n ∙ (λ i. amounts s u (slice_index old.f) (none i) (nothing i) n) in
-    tail_more _ _ _ _ _ _ _ _ _ _ _ _ _ ∙ ap (λ k. k + total_of (to (inode_type tree ino sort) 1 1 ∷ []) a n) (sym here)
+-- what says a type goes with it to another one
+abbrev pub MovesTo : ℕ → ℕ → ℕ → Type 0
+MovesTo amount old sort = (same : ℕ → Bool) → cond (same sort) amount 0 ≡ cond (same old) amount 0
+
+module _ (tree ino sort : ℕ) (old : Gathered) (entries : MovesTo old.entries old.sort sort) (typed : MovesTo old.typed old.sort sort) where
+  pub entry_total : (count : ℕ) (a : Account) (n : ℕ)
+      → total_of (gathered_postings tree ino (record { bytes = old.bytes; counts = old.counts; entries = old.entries + count; typed = old.typed; sort = sort })) a n
+      ≡ total_of (gathered_postings tree ino old) a n + total_of (to (inode_type tree ino sort) 0 count ∷ []) a n
+  unfolding total_of added
+  entry_total count a n =
+      let e = entries (λ k. is_same (inode_type tree ino k) a && (0 == n && nat_lt n 9)) in
+      let t = typed (λ k. is_same (inode_type tree ino k) a && (1 == n && nat_lt n 9)) in
+      let m = some_more (is_same (inode_type tree ino sort) a && (0 == n && nat_lt n 9)) old.entries count in
+      tail_more _ _ _ _ _ _ _ _ _ _ _ _ _ _ (omega (arith, e, t, m))
+
+  pub typed_total : (a : Account) (n : ℕ)
+      → total_of (gathered_postings tree ino (record { bytes = old.bytes; counts = old.counts; entries = old.entries; typed = old.typed + 1; sort = sort })) a n
+      ≡ total_of (gathered_postings tree ino old) a n + total_of (to (inode_type tree ino sort) 1 1 ∷ []) a n
+  unfolding total_of added
+  typed_total a n =
+      let e = entries (λ k. is_same (inode_type tree ino k) a && (0 == n && nat_lt n 9)) in
+      let t = typed (λ k. is_same (inode_type tree ino k) a && (1 == n && nat_lt n 9)) in
+      let m = some_more (is_same (inode_type tree ino sort) a && (1 == n && nat_lt n 9)) old.typed 1 in
+      tail_more _ _ _ _ _ _ _ _ _ _ _ _ _ _ (omega (arith, e, t, m))
+
+both_totals : (tree ino sort count : ℕ) (a : Account) (n : ℕ) → total_of (to (inode tree ino) 1 count ∷ to (inode_type tree ino sort) 0 count ∷ []) a n
+    ≡ total_of (to (inode tree ino) 1 count ∷ []) a n + total_of (to (inode_type tree ino sort) 0 count ∷ []) a n
+unfolding total_of
+both_totals tree ino sort count a n = omega arith
+
+-- so many entries more lead to an inode
+pub targeted_kept : (tree ino sort count : ℕ) (old new : Gathered) → MovesTo old.entries old.sort sort → MovesTo old.typed old.sort sort → IsTargeted old sort count new → (a : Account)
+    → kept a.kind (total_of (gathered_postings tree ino new) a)
+    ≡ kept a.kind (λ n. total_of (gathered_postings tree ino old) a n + total_of (to (inode tree ino) 1 count ∷ to (inode_type tree ino sort) 0 count ∷ []) a n)
+targeted_kept tree ino sort count old new entries typed is a =
+    let mid : Gathered = record { bytes = new.bytes; counts = new.counts; entries = old.entries; typed = old.typed; sort = old.sort } in
+    let end : new ≡ record { bytes = mid.bytes; counts = mid.counts; entries = mid.entries + count; typed = mid.typed; sort = sort } =
+    λ i. record { bytes = new.bytes; counts = new.counts; entries = is.types.1 i; typed = is.types.2 i; sort = is.types.0 i } in
+    let y : ℕ → ℕ = total_of (to (inode_type tree ino sort) 0 count ∷ []) a in
+    ap (λ (m : Gathered). kept a.kind (total_of (gathered_postings tree ino m) a)) end
+    ∙ ap (kept a.kind) (fun_ext (entry_total tree ino sort mid entries typed count a))
+    ∙ more_alike a.kind (total_of (gathered_postings tree ino mid) a)
+    (λ n. total_of (gathered_postings tree ino old) a n + total_of (to (inode tree ino) 1 count ∷ []) a n) y
+    (raised_kept tree ino old mid 1 count is.sums (refl, refl, refl) a)
+    ∙ ap (kept a.kind) (fun_ext (λ n. (let b = both_totals tree ino sort count a n in let
+    e : (total_of (gathered_postings tree ino old) a n + total_of (to (inode tree ino) 1 count ∷ []) a n) + y n
+    ≡ total_of (gathered_postings tree ino old) a n + total_of (to (inode tree ino) 1 count ∷ to (inode_type tree ino sort) 0 count ∷ []) a n = omega (arith, b) in e)))
+
+-- ---- accounts of other kinds
+
+neither_kind : (a b : Bool) → (a || b) ≡ false → (a ≡ false) × (b ≡ false)
+neither_kind true b is = absurd (cc is)
+neither_kind false b is = (refl, is)
+
+pub none_of_others : (tree ino : ℕ) (more : Gathered) (a : Account) → is_of_inodes a.kind ≡ false → (n : ℕ) → total_of (gathered_postings tree ino more) a n ≡ 0
+none_of_others tree ino more a other n =
+    let is = neither_kind (a.kind == 9) (a.kind == 10) other in
+    none_at tree ino more a (no_inode tree ino a is.0) (no_type tree ino more.sort a is.1) n

@@ -1,6 +1,6 @@
 -- Classes that are posted, or stay out since they keep their rules.
 use Rattle.std.proofs.Common.{◌≡◌, ℕ, ◌+◌, min, ◌==◌, ◌&&◌, Bool, true, false, not, cond, List, [], ◌∷◌, refl, ap, sym, ◌∙◌, subst, arith}
-use Rattle.std.specs.Prelude.{Option, Some, None, nat_lt, slice_index}
+use Rattle.std.specs.Prelude.{Option, Some, None, nat_lt}
 use Rattle.std.proofs.Math.Path.{fun_ext}
 use Rattle.std.specs.List.{AllByRecursion}
 use Rattle.std.specs.List.Sorted.{IsStrictlySortedBy}
@@ -12,19 +12,23 @@ use Rattle.std.specs.declared.cmp.Ordering.TheVariants.{Less, Equal, Greater}
 use Rattle.std.proofs.lemmas.Bool.{eq-eqb}
 use Rattle.std.proofs.lemmas.Map.Keys.{sorted_head}
 use Rattle.accounts.specs.declared.account.Account.{Account}
+use Rattle.accounts.specs.declared.postings.Posting.{Posting}
+use Rattle.accounts.specs.declared.tally.Tally.{Tally}
 use Rattle.accounts.specs.Broken.{gives, inode_keeps, is_broken}
 use Rattle.accounts.specs.Kinds.{inode, inode_type}
 use Rattle.accounts.specs.Sums.{is_same, total_of}
 use Rattle.accounts.specs.OrderLaws.{account_equiv}
-use Rattle.accounts.specs.Tally.{Sums, inode_class, kept, no_sums, with_postings}
+use Rattle.accounts.specs.Apart.{AddsUp, IsSettled}
+use Rattle.accounts.specs.Tally.{Sums, inode_class, kept, kept_sums, no_sums, sums_in, with_postings}
 use Rattle.accounts.proofs.First.{broken_kept, unposted}
+use Rattle.accounts.proofs.Apart.{more_alike}
 use Rattle.accounts.proofs.Kept.{kept_more}
 use Rattle.accounts.proofs.Same.{same_account}
 use Rattle.inode_sums.specs.declared.class.InodeClass.{InodeClass}
-use Rattle.inode_sums.specs.Held.{aside, class_in, class_postings, class_sums, gathered_postings, inode_cmp, inode_of, no_sums_of, sums_with, widened}
-use Rattle.inode_sums.specs.Joined.{class_keeps}
-use Rattle.inode_sums.proofs.Amounts.{at_type, inode_kept, inode_with, none_at, none_gathered, plus_none, two_alike, type_kept}
-use Rattle.inode_sums.proofs.Aside.{elsewhere, inode_equiv, inode_ties}
+use Rattle.inode_sums.specs.Held.{class_in, class_postings, class_sums, gathered_postings, inode_cmp, inode_of, is_of_inodes, sum_of, widened}
+use Rattle.inode_sums.specs.Joined.{LeavesOthers, class_keeps}
+use Rattle.inode_sums.proofs.Amounts.{at_type, inode_kept, inode_with, none_at, none_gathered, none_of_others, plus_none, two_alike, type_kept}
+use Rattle.inode_sums.proofs.Aside.{elsewhere, inode_equiv, inode_ties, no_class_of_others}
 
 -- what is broken rests on what is kept
 pub broken_alike : (a : Account) (f g : ℕ → ℕ) → kept a.kind f ≡ kept a.kind g → is_broken a f ≡ is_broken a g
@@ -47,7 +51,7 @@ module _ (tree ino : ℕ) (class : InodeClass) (keeps : class_keeps class ≡ tr
   abbrev pub sums : Account → ℕ → ℕ
   sums = total_of (gathered_postings tree ino (widened class))
 
-  inode_rule : inode_keeps (slice_index (widened class).f) ≡ true
+  inode_rule : inode_keeps (sum_of (widened class)) ≡ true
   inode_rule =
       let a = first_of (gives (nat_lt 0 class.others) (class.items == 1)) _ keeps in
       let b = first_of (gives (class.items == 1 && class.linked == 0) (nat_lt 0 class.orphans)) _ (later_of (gives (nat_lt 0 class.others) (class.items == 1)) _ keeps) in
@@ -56,9 +60,9 @@ module _ (tree ino : ℕ) (class : InodeClass) (keeps : class_keeps class ≡ tr
   inode_unbroken : is_broken (inode tree ino) (sums (inode tree ino)) ≡ false
   unfolding is_broken
   inode_unbroken =
-      broken_alike (inode tree ino) (sums (inode tree ino)) (slice_index (widened class).f)
+      broken_alike (inode tree ino) (sums (inode tree ino)) (sum_of (widened class))
       (inode_kept 9 (sums (inode tree ino)) refl ∙ ap inode_class (plus_none (sums (inode tree ino))) ∙ inode_with tree ino (widened class) (λ _. 0)
-      ∙ ap inode_class (sym (plus_none (slice_index (widened class).f))) ∙ sym (inode_kept 9 (slice_index (widened class).f) refl))
+      ∙ ap inode_class (sym (plus_none (sum_of (widened class)))) ∙ sym (inode_kept 9 (sum_of (widened class)) refl))
       ∙ ap not inode_rule
 
   types : ℕ → ℕ
@@ -181,11 +185,61 @@ none_left rest es is a = ap (is_broken a) (fun_ext (λ n. (let
     z : left es a n ≡ 0 = ap (λ xs. left xs a n) is ∙ none_gathered (inode_of a).0 (inode_of a).1 a n in
     let e : rest a n ≡ rest a n + left es a n = omega (arith, z) in e)))
 
--- nothing is gathered of an inode
-pub none_own : (rest : Sums) (entry : ℕ × ℕ → Option InodeClass) (tree ino : ℕ) (a : Account)
-    → is_broken a (λ n. rest a n + class_sums entry a n) ≡ is_broken a (sums_with rest entry (record { tree = tree; ino = ino; sums = no_sums_of }) a)
-unfolding sums_with
-none_own rest entry tree ino a =
-    ap (is_broken a) (fun_ext (λ n. (let z = none_gathered tree ino a n in
-    let e : rest a n + class_sums entry a n ≡ rest a n + aside entry (record { tree = tree; ino = ino; sums = no_sums_of }) a n = omega (arith, z) in e)))
-    ∙ sym (broken_kept a (λ n. rest a n + aside entry (record { tree = tree; ino = ino; sums = no_sums_of }) a n))
+-- ---- what a tally has of other accounts
+
+-- what is kept is kept again
+kept_twice : (kind : ℕ) (f : ℕ → ℕ) → kept kind (kept kind f) ≡ kept kind f
+kept_twice kind f = ap (kept kind) (plus_none (kept kind f)) ∙ kept_more kind f (λ _. 0) ∙ ap (kept kind) (sym (plus_none f))
+
+in_tally : (tally : Tally) (a : Account) → kept a.kind (sums_in tally a) ≡ sums_in tally a
+unfolding kept_sums
+in_tally tally a = kept_twice a.kind _
+
+-- nothing of an account was moved to a tally
+pub none_moved : (old new : Tally) (ps : List Posting) (a : Account) → sums_in new ≡ with_postings (sums_in old) ps
+    → kept a.kind (λ n. sums_in old a n + total_of ps a n) ≡ kept a.kind (sums_in old a) → sums_in new a ≡ sums_in old a
+unfolding with_postings
+none_moved old new ps a is same = ap (λ (s : Sums). s a) is ∙ same ∙ in_tally old a
+
+pub class_moved : (old new : Tally) (tree ino : ℕ) (class : InodeClass) → sums_in new ≡ with_postings (sums_in old) (gathered_postings tree ino (widened class)) → LeavesOthers old new
+class_moved old new tree ino class is = λ a other.
+    none_moved old new (gathered_postings tree ino (widened class)) a is
+    (ap (kept a.kind) (fun_ext (λ n. (let z = none_of_others tree ino (widened class) a other n in let
+    e : sums_in old a n + total_of (gathered_postings tree ino (widened class)) a n ≡ sums_in old a n = omega (arith, z) in e))))
+
+-- ---- all that was kept apart
+
+module _ (apart : Sums) (entry : ℕ × ℕ → Option InodeClass) (list : List Posting) (old mid new : Tally)
+    (given : AddsUp apart (class_sums entry) [] list []) (moved : sums_in mid ≡ with_postings (sums_in old) list)
+    (none : (a : Account) (n : ℕ) → is_of_inodes a.kind ≡ false → apart a n ≡ 0) where
+  -- the list and the classes have what was kept apart
+  whole : (a : Account) → kept a.kind (λ n. (sums_in old a n + total_of list a n) + class_sums entry a n) ≡ kept a.kind (λ n. sums_in old a n + apart a n)
+  unfolding total_of
+  whole a =
+      ap (kept a.kind) (fun_ext (λ n. (let
+      e : (sums_in old a n + total_of list a n) + class_sums entry a n ≡ (class_sums entry a n + total_of list a n) + sums_in old a n = omega arith in e)))
+      ∙ more_alike a.kind (λ n. class_sums entry a n + total_of list a n) (λ n. (apart a n + 0) + 0) (sums_in old a) (given a)
+      ∙ ap (kept a.kind) (fun_ext (λ n. (let e : ((apart a n + 0) + 0) + sums_in old a n ≡ sums_in old a n + apart a n = omega arith in e)))
+
+  between : (a : Account) → is_broken a (λ n. sums_in mid a n + class_sums entry a n) ≡ is_broken a (λ n. sums_in old a n + apart a n)
+  unfolding with_postings
+  between a =
+      broken_alike a (λ n. sums_in mid a n + class_sums entry a n) (λ n. sums_in old a n + apart a n)
+      (ap (λ (s : Sums). kept a.kind (λ n. s a n + class_sums entry a n)) moved
+      ∙ kept_more a.kind (λ n. sums_in old a n + total_of list a n) (class_sums entry a)
+      ∙ whole a)
+
+  left_others : LeavesOthers old mid
+  left_others = λ a other.
+      none_moved old mid list a moved
+      (ap (kept a.kind) (fun_ext (λ n. (let z = no_class_of_others entry a n other in let
+      e : sums_in old a n + total_of list a n ≡ (sums_in old a n + total_of list a n) + class_sums entry a n = omega (arith, z) in e)))
+      ∙ whole a
+      ∙ ap (kept a.kind) (fun_ext (λ n. (let z = none a n other in let e : sums_in old a n + apart a n ≡ sums_in old a n = omega (arith, z) in e))))
+
+  pub all_settled : ((a : Account) → is_broken a (sums_in new a) ≡ is_broken a (λ n. sums_in mid a n + class_sums entry a n)) → LeavesOthers mid new
+      → IsSettled apart is_of_inodes old new
+  all_settled broken others = record {
+    broken = λ a. broken a ∙ between a;
+    others = λ a other. others a other ∙ left_others a other;
+  }

@@ -1,15 +1,19 @@
 -- These words serve private functions alone: a class with more amounts.
-use Rattle.std.specs.Prelude.{◌≡◌, ℕ, ◌+◌, Bool, ◌&&◌, ◌==◌, nat_lt, min, Option, Some, slice_index, if◌then◌else◌}
+use Rattle.std.specs.Prelude.{◌≡◌, ℕ, ◌+◌, Bool, false, ◌&&◌, ◌==◌, nat_lt, min, List, Option, Some, if◌then◌else◌}
 use Rattle.std.specs.BTreeMap.{is_at}
+use Rattle.accounts.specs.declared.account.Account.{Account}
+use Rattle.accounts.specs.declared.postings.Posting.{Posting}
+use Rattle.accounts.specs.declared.tally.Tally.{Tally}
 use Rattle.accounts.specs.Broken.{gives}
-use Rattle.accounts.specs.Tally.{inode_class}
+use Rattle.accounts.specs.Sums.{total_of}
+use Rattle.accounts.specs.Tally.{Sums, inode_class, kept, sums_in, with_amount}
 use Rattle.inode_sums.specs.declared.class.Gathered.{Gathered}
 use Rattle.inode_sums.specs.declared.class.InodeClass.{InodeClass}
-use Rattle.inode_sums.specs.Held.{class_in, inode_cmp, widened}
+use Rattle.inode_sums.specs.Held.{class_in, inode_cmp, is_of_inodes, sum_of, widened}
 
 -- a class comes to what another comes to with more amounts, as far as the rules look at them
 pub record IsJoined (class : InodeClass) (more : Gathered) (joined : InodeClass) : Type 0 where
-  pub inode : (n : ℕ) → inode_class (slice_index (widened joined).f) n ≡ inode_class (λ m. slice_index (widened class).f m + slice_index more.f m) n
+  pub inode : (n : ℕ) → inode_class (sum_of (widened joined)) n ≡ inode_class (λ m. sum_of (widened class) m + sum_of more m) n
   pub entries : (same : ℕ → Bool)
       → min (if same joined.sort then joined.entries else 0) 1
       ≡ min ((if same class.sort then class.entries else 0) + (if same more.sort then more.entries else 0)) 1
@@ -28,3 +32,17 @@ abbrev pub class_keeps : InodeClass → Bool
 class_keeps class =
     gives (nat_lt 0 class.others) (class.items == 1)
     && (gives (class.items == 1 && class.linked == 0) (nat_lt 0 class.orphans) && gives (nat_lt 0 class.entries) (class.typed == 1))
+
+-- amounts were added to sums
+abbrev pub Adds : Sums → Sums → List Posting → Type 0
+Adds old new given =
+    (account : Account) → kept account.kind (new account) ≡ kept account.kind (λ n. old account n + total_of given account n)
+
+-- so many entries more lead to an inode, and say a type
+pub record IsTargeted (old : Gathered) (sort count : ℕ) (new : Gathered) : Type 0 where
+  pub sums : (n : ℕ) → sum_of new n ≡ with_amount (sum_of old) 1 count n
+  pub types : (new.sort ≡ sort) × (new.entries ≡ old.entries + count) × (new.typed ≡ old.typed)
+
+-- a tally has of other accounts than those of inodes what it had
+abbrev pub LeavesOthers : Tally → Tally → Type 0
+LeavesOthers old new = (account : Account) → is_of_inodes account.kind ≡ false → sums_in new account ≡ sums_in old account

@@ -1,21 +1,23 @@
 //! What is kept of an inode.
 
-ghost use Rattle.std.specs.Prelude.{◌≡◌, ◌+◌, ℕ, Bool, true, ◌<◌, min, IfSome, slice_index, if◌then◌else◌};
+ghost use Rattle.std.specs.Prelude.{◌≡◌, ◌+◌, ◌<◌, ℕ, Bool, true, false, min, IfSome, if◌then◌else◌};
 ghost use Rattle.accounts.specs.Tally.{with_amount};
-ghost use Rattle.inode_sums.specs.Held.{no_class, no_sums_of, widened};
-ghost use Rattle.inode_sums.specs.Joined.{IsJoined, class_keeps};
+ghost use Rattle.inode_sums.specs.Held.{no_class, no_sums_of, sum_of, widened};
+ghost use Rattle.inode_sums.specs.Joined.{IsJoined, IsTargeted, class_keeps};
 
 /// Amounts to the sums of an inode, and to those of one of its types.
 #[derive(Clone, Copy, Debug)]
 pub struct Gathered {
-    /// The sums of the inode, by the number of the field.
-    pub f: [u64; 9],
+    /// The sums 5 to 8 of the inode: its sizes and the lengths of its names, its bytes and those of its data.
+    pub bytes: [u64; 4],
+    /// The sums 0 to 4 of the inode: its items, what else is of it, its links, its names, its orphan items.
+    pub counts: [u32; 5],
+    /// The entries that say the type.
+    pub entries: u32,
+    /// The items that say the type.
+    pub typed: u32,
     /// The type, as directory entries number the types.
     pub sort: u8,
-    /// The entries that say the type.
-    pub entries: u64,
-    /// The items that say the type.
-    pub typed: u64,
 }
 
 impl Gathered {
@@ -24,60 +26,118 @@ impl Gathered {
         ensures { result ≡ no_sums_of }
     {
         Gathered {
-            f: [0; 9],
-            sort: 0,
+            bytes: [0; 4],
+            counts: [0; 5],
             entries: 0,
             typed: 0,
+            sort: 0,
         }
     }
 
-    // An amount to one sum of the inode alone.
-    pub fn one(field: usize, amount: u64) -> Gathered
+    // Adds an amount to a sum of the inode, or stays and gives `false` where there is no room for it.
+    pub fn raise(&mut self, field: usize, amount: u64) -> bool
         requires { field < 9 }
-        ensures sums { (n : ℕ) →
-            slice_index result.f n ≡ with_amount (slice_index no_sums_of.f) field amount n }
-        ensures types { (result.entries ≡ 0) × (result.typed ≡ 0) × (result.sort ≡ 0) }
+        ensures sums { result ≡ true → (n : ℕ) →
+            sum_of self.new n ≡ with_amount (sum_of self.old) field amount n }
+        ensures types { (self.new.sort ≡ self.old.sort)
+            × (self.new.entries ≡ self.old.entries) × (self.new.typed ≡ self.old.typed) }
+        ensures stays { result ≡ false → self.new ≡ self.old }
     {
-        let mut one = Gathered::none();
-        one.f[field] = amount;
-        one
-    }
-
-    // Adds an amount to a sum of the inode, or gives `None` where it would pass 64 bits.
-    pub fn raised(self, field: usize, amount: u64) -> Option<Gathered>
-        requires { field < 9 }
-        ensures sums { IfSome result (λ more. (n : ℕ) →
-            slice_index more.f n ≡ with_amount (slice_index self.f) field amount n) }
-        ensures types { IfSome result (λ more. (more.sort ≡ self.sort)
-            × (more.entries ≡ self.entries) × (more.typed ≡ self.typed)) }
-    {
-        let sum = self.f[field].checked_add(amount)?;
-        let mut more = self;
-        more.f[field] = sum;
-        Some(more)
-    }
-
-    // One item that says a type beside the sums of the inode, or `None` where a type is said already.
-    pub fn typed_as(self, sort: u8) -> Option<Gathered>
-        ensures { IfSome result (λ more. (self.entries ≡ 0) × (self.typed ≡ 0)
-            × (more ≡ record { f = self.f; sort = sort; entries = 0; typed = 1 })) }
-    {
-        if self.entries != 0 || self.typed != 0 {
-            return None;
+        if field < 5 {
+            return self.raise_count(field, amount);
         }
-        let mut more = self;
-        more.sort = sort;
-        more.typed = 1;
-        Some(more)
+        self.raise_bytes(field - 5, amount)
+    }
+
+    // Adds an amount to one of the sums 0 to 4.
+    fn raise_count(&mut self, field: usize, amount: u64) -> bool
+        requires { field < 5 }
+        ensures sums { result ≡ true → (n : ℕ) →
+            sum_of self.new n ≡ with_amount (sum_of self.old) field amount n }
+        ensures types { (self.new.sort ≡ self.old.sort)
+            × (self.new.entries ≡ self.old.entries) × (self.new.typed ≡ self.old.typed) }
+        ensures stays { result ≡ false → self.new ≡ self.old }
+    {
+        let sum = u64::from(self.counts[field]).saturating_add(amount);
+        let Ok(sum) = u32::try_from(sum) else {
+            return false;
+        };
+        self.counts[field] = sum;
+        true
+    }
+
+    // Adds an amount to one of the sums 5 to 8, counted from 0.
+    fn raise_bytes(&mut self, place: usize, amount: u64) -> bool
+        requires { place < 4 }
+        ensures sums { result ≡ true → (n : ℕ) →
+            sum_of self.new n ≡ with_amount (sum_of self.old) (place + 5) amount n }
+        ensures types { (self.new.sort ≡ self.old.sort)
+            × (self.new.entries ≡ self.old.entries) × (self.new.typed ≡ self.old.typed) }
+        ensures stays { result ≡ false → self.new ≡ self.old }
+    {
+        let Some(sum) = self.bytes[place].checked_add(amount) else {
+            return false;
+        };
+        self.bytes[place] = sum;
+        true
+    }
+
+    // Whether the type is this one, or none is said yet.
+    pub fn takes_type(&self, sort: u8) -> bool
+        ensures entries { result ≡ true → (same : ℕ → Bool) →
+            (if same sort then self.now.entries else 0)
+            ≡ (if same self.now.sort then self.now.entries else 0) }
+        ensures typed { result ≡ true → (same : ℕ → Bool) →
+            (if same sort then self.now.typed else 0)
+            ≡ (if same self.now.sort then self.now.typed else 0) }
+    {
+        self.sort == sort || self.entries == 0 && self.typed == 0
+    }
+
+    // Adds so many entries that lead here and say the type, or stays and gives `false` where there is no room.
+    pub fn raise_targets(&mut self, sort: u8, count: u8) -> bool
+        ensures raised { result ≡ true → IsTargeted self.old sort count self.new }
+        ensures stays { result ≡ false → self.new ≡ self.old }
+    {
+        let others = self.counts[1].checked_add(u32::from(count));
+        let entries = self.entries.checked_add(u32::from(count));
+        let (Some(others), Some(entries)) = (others, entries) else {
+            return false;
+        };
+        self.counts[1] = others;
+        self.entries = entries;
+        self.sort = sort;
+        true
+    }
+
+    // Adds an item that says the type, or stays and gives `false` where there is no room for it.
+    pub fn raise_typed(&mut self, sort: u8) -> bool
+        ensures raised { result ≡ true → self.new ≡ record {
+          bytes = self.old.bytes;
+          counts = self.old.counts;
+          entries = self.old.entries;
+          typed = self.old.typed + 1;
+          sort = sort;
+        } }
+        ensures stays { result ≡ false → self.new ≡ self.old }
+    {
+        let Some(typed) = self.typed.checked_add(1) else {
+            return false;
+        };
+        self.typed = typed;
+        self.sort = sort;
+        true
     }
 
     // Whether of the sums that have to be equal each is.
     fn is_settled(&self) -> bool
-        ensures { result ≡ true → (slice_index self.now.f 2 ≡ slice_index self.now.f 3)
-            × (slice_index self.now.f 5 ≡ slice_index self.now.f 6)
-            × (slice_index self.now.f 7 ≡ slice_index self.now.f 8) }
+        ensures { result ≡ true → (sum_of self.now 2 ≡ sum_of self.now 3)
+            × (sum_of self.now 5 ≡ sum_of self.now 6)
+            × (sum_of self.now 7 ≡ sum_of self.now 8) }
     {
-        self.f[2] == self.f[3] && self.f[5] == self.f[6] && self.f[7] == self.f[8]
+        self.counts[2] == self.counts[3]
+            && self.bytes[0] == self.bytes[1]
+            && self.bytes[2] == self.bytes[3]
     }
 }
 
@@ -121,20 +181,17 @@ impl InodeClass {
         ensures { result ≡ widened self.now }
     {
         Gathered {
-            f: [
-                u64::from(self.items),
-                u64::from(self.others),
-                u64::from(self.linked),
-                u64::from(self.linked),
-                u64::from(self.orphans),
-                0,
-                0,
-                0,
-                0,
+            bytes: [0; 4],
+            counts: [
+                u32::from(self.items),
+                u32::from(self.others),
+                u32::from(self.linked),
+                u32::from(self.linked),
+                u32::from(self.orphans),
             ],
+            entries: u32::from(self.entries),
+            typed: u32::from(self.typed),
             sort: self.sort,
-            entries: u64::from(self.entries),
-            typed: u64::from(self.typed),
         }
     }
 
@@ -156,10 +213,10 @@ impl InodeClass {
         }
         let sort = self.sort_with(more)?;
         Some(InodeClass {
-            items: up_to(self.items, more.f[0], 2),
-            others: up_to(self.others, more.f[1], 1),
-            linked: up_to(self.linked, more.f[2], 1),
-            orphans: up_to(self.orphans, more.f[4], 1),
+            items: up_to(self.items, more.counts[0], 2),
+            others: up_to(self.others, more.counts[1], 1),
+            linked: up_to(self.linked, more.counts[2], 1),
+            orphans: up_to(self.orphans, more.counts[4], 1),
             sort,
             entries: up_to(self.entries, more.entries, 1),
             typed: up_to(self.typed, more.typed, 2),
@@ -188,8 +245,8 @@ impl InodeClass {
 }
 
 // A number with more, up to the most.
-fn up_to(number: u8, more: u64, most: u8) -> u8
+fn up_to(number: u8, more: u32, most: u8) -> u8
     ensures { result ≡ min (number + more) most }
 {
-    u64::from(number).saturating_add(more).min(u64::from(most)) as u8
+    (u64::from(number) + u64::from(more)).min(u64::from(most)) as u8
 }

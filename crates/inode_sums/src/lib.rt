@@ -1,4 +1,4 @@
-//! The sums of inodes and of their types, and of all other accounts.
+//! The sums of inodes and of their types, kept apart from all other accounts.
 #![tactic(auto)]
 
 mod class;

@@ -189,7 +189,8 @@ fn root_tree<D: Disk>(
         Gives D.Disk disk.old volume.now.cache.now (handing (λ both. both.first.items.items) result)
         (λ image. root_items_in sup volume.now.map.now image) }
     ensures seen { IfOk result (λ both. IfSome (D.bytes disk.old) (λ image.
-        behind kept (root_records volume.now.sup.now volume.now.map.now (overlaid volume.now.cache.now 0 image))
+        behind kept (root_records volume.now.sup.now volume.now.map.now
+        (overlaid volume.now.cache.now 0 image))
         ≡ Ok both.second)) }
     ensures reads { IfOk result (λ both. IfSome (D.bytes disk.old) (λ _.
         D.reads disk.new + 2 * block_count kept ≤ D.reads disk.old + 2 * block_count both.second)) }

@@ -41,7 +41,8 @@ fn print_summary<K: Sink>(
         OnOk result (K.kept out.new ≡
         option_map (λ kept. kept ++ line_in style line) (K.kept out.old)) }
     ensures stopped { let line = Line.End counts.now.passed counts.now.rejected in
-        IfErr result (λ cause. IsCutPrint (K.kept out.old) (line_in style line) cause (K.kept out.new)) }
+        IfErr result (λ cause. IsCutPrint (K.kept out.old) (line_in style line) cause
+        (K.kept out.new)) }
     ensures lines { TookLines K.Sink style out.old out.new }
     ensures cause { HasPrintCause (K.faults out.old) (K.faults out.new) result }
 {

@@ -39,18 +39,22 @@ pub fn walk_changed<D: Disk, K: Keeps, T: Taker>(
     requires size { is_node_size source.now.sup.now.nodesize ≡ true }
     requires end { source.now.end ≡ D.len disk.old }
     ensures taken { ReadsInto D.Disk T.Taker disk.old source.now.cache.now into.old into.new result
-        (skip_in (K.keeps keeps.old) (K.anew keeps.old) source.now.sup.now source.now.map.now e.now) }
+        (skip_in (K.keeps keeps.old) (K.anew keeps.old)
+        source.now.sup.now source.now.map.now e.now) }
     ensures reads { ReadsCopies D.Disk source.now disk.old disk.new result
-        (skip_in (K.keeps keeps.old) (K.anew keeps.old) source.now.sup.now source.now.map.now e.now) }
+        (skip_in (K.keeps keeps.old) (K.anew keeps.old)
+        source.now.sup.now source.now.map.now e.now) }
     ensures kept { IsKept D.Disk disk.old disk.new (is_disk_halt result) }
     ensures same { OnOk result (K.keeps keeps.new ≡ K.keeps keeps.old) }
     ensures same_anew { OnOk result (K.anew keeps.new ≡ K.anew keeps.old) }
     ensures met { OnOk result (
         Meets (D.bytes disk.old) source.now.cache.now (K.met keeps.old) (K.met keeps.new)
-        (met_in (K.keeps keeps.old) (K.anew keeps.old) source.now.sup.now source.now.map.now e.now)) }
+        (met_in (K.keeps keeps.old) (K.anew keeps.old)
+        source.now.sup.now source.now.map.now e.now)) }
     ensures ended { OnOk result (
         Holds (D.bytes disk.old) source.now.cache.now (K.ended keeps.old) (K.ended keeps.new)
-        (ends_in (K.keeps keeps.old) (K.anew keeps.old) (K.lasts keeps.old) source.now.sup.now source.now.map.now e.now)) }
+        (ends_in (K.keeps keeps.old) (K.anew keeps.old) (K.lasts keeps.old)
+        source.now.sup.now source.now.map.now e.now)) }
 {
     let size = source.sup.nodesize as usize;
     let levels = (e.level as usize + 1) * size;
@@ -89,19 +93,24 @@ fn walk_keeping<D: Disk, K: Keeps, T: Taker>(
     requires room { length room.old ≡ (e.now.level + 1) * source.now.sup.now.nodesize }
     requires second { length second.old ≡ source.now.sup.now.nodesize }
     ensures taken { ReadsInto D.Disk T.Taker disk.old source.now.cache.now into.old into.new result
-        (skip_in (K.keeps keeps.old) (K.anew keeps.old) source.now.sup.now source.now.map.now e.now) }
+        (skip_in (K.keeps keeps.old) (K.anew keeps.old)
+        source.now.sup.now source.now.map.now e.now) }
     ensures reads { ReadsCopies D.Disk source.now disk.old disk.new result
-        (skip_in (K.keeps keeps.old) (K.anew keeps.old) source.now.sup.now source.now.map.now e.now) }
+        (skip_in (K.keeps keeps.old) (K.anew keeps.old)
+        source.now.sup.now source.now.map.now e.now) }
     ensures kept { IsKept D.Disk disk.old disk.new (is_disk_halt result) }
     ensures same { K.keeps keeps.new ≡ K.keeps keeps.old }
     ensures same_anew { K.anew keeps.new ≡ K.anew keeps.old }
     ensures met { OnOk result (
         Meets (D.bytes disk.old) source.now.cache.now (K.met keeps.old) (K.met keeps.new)
-        (met_in (K.keeps keeps.old) (K.anew keeps.old) source.now.sup.now source.now.map.now e.now)) }
+        (met_in (K.keeps keeps.old) (K.anew keeps.old)
+        source.now.sup.now source.now.map.now e.now)) }
     ensures same_lasts { K.lasts keeps.new ≡ K.lasts keeps.old }
     ensures ended { IfOk result (λ last.
-        HoldsLast (D.bytes disk.old) source.now.cache.now (K.ended keeps.old) (K.ended keeps.new) last
-        (ends_in (K.keeps keeps.old) (K.anew keeps.old) (K.lasts keeps.old) source.now.sup.now source.now.map.now e.now)) }
+        HoldsLast (D.bytes disk.old) source.now.cache.now (K.ended keeps.old)
+        (K.ended keeps.new) last
+        (ends_in (K.keeps keeps.old) (K.anew keeps.old) (K.lasts keeps.old)
+        source.now.sup.now source.now.map.now e.now)) }
 {
     let (first, rest) = room.split_at_mut(source.sup.nodesize as usize);
     if let Some(bound) = keeps.kept(e) {

@@ -74,7 +74,8 @@ pub trait Keeps {
     /// Holds a block that the walk is done with, and its greatest key, behind those that it was done with, where they are held.
     fn end(&mut self, e: &Expect, last: Key) -> Result<(), NoMemory>
         ensures ended { OnOk result (
-            ended self.new ≡ with_ended (ended self.old) (record { expect = e.now; last = last } ∷ [])) }
+            ended self.new ≡ with_ended (ended self.old)
+            (record { expect = e.now; last = last } ∷ [])) }
         ensures same { keeps self.new ≡ keeps self.old }
         ensures same_anew { anew self.new ≡ anew self.old }
         ensures same_met { met self.new ≡ met self.old }

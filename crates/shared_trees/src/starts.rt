@@ -81,7 +81,8 @@ impl Starts {
     ) -> Result<(), NoMemory>
         ensures ok { OnOk result ((marked : IsMarked)
             → AreListedBy (pairs_of table.now) marked (under_of self.old)
-            → AreListedBy (pairs_of table.now) (with_mark marked (place.now).tree (place.now).address)
+            → AreListedBy (pairs_of table.now)
+            (with_mark marked (place.now).tree (place.now).address)
             (under_of self.new)) }
         ensures looks { steps.new ≤ steps.old + 3 }
     {

@@ -34,7 +34,8 @@ impl Files {
     /// Adds the place of a span, where it is shown. When out of memory, nothing changes.
     pub(crate) fn add(&mut self, span: &Span) -> Result<(), NoMemory>
         ensures ok { OnOk result ((place : InFile) →
-            has_file self.new place ≡ (if is_file_of span.now place then true else has_file self.old place)) }
+            has_file self.new place
+            ≡ (if is_file_of span.now place then true else has_file self.old place)) }
         ensures err { OnErr result
             ((place : InFile) → has_file self.new place ≡ has_file self.old place) }
     {
@@ -50,7 +51,8 @@ impl Files {
     /// Takes the place of a span away, where it is shown.
     pub(crate) fn take(&mut self, span: &Span)
         ensures { (place : InFile) →
-            has_file self.new place ≡ (if is_file_of span.now place then false else has_file self.old place) }
+            has_file self.new place
+            ≡ (if is_file_of span.now place then false else has_file self.old place) }
     {
         if let Some(place) = file_of(span) {
             self.places.remove(&place);
@@ -78,7 +80,8 @@ impl Files {
     // The first place from another on that is of another inode, or behind an offset where one is given.
     fn first_stop(&self, start: ByFile, tree: u64, ino: u64, after: Option<u64>) -> Option<ByFile>
         ensures value { result ≡ find (is_file_stop tree ino after)
-            (filter (λ p. range_contains file_cmp (Included start) Unbounded p) self.now.places.keys) }
+            (filter (λ p. range_contains file_cmp (Included start) Unbounded p)
+            self.now.places.keys) }
         ensures ordered { IsOrdered file_cmp self.now.places }
     {
         let place = self

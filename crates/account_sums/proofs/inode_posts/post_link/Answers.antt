@@ -3,4 +3,4 @@ use Rattle.account_sums.proofs.inode_posts.post_link.Goals as goal
 
 pub returns : goal.returns
 returns c =
-    then_more c.add-2.result _ _ _ _ _ c.in_ok-add.ensures c.add-2.ensures
+    then_more c.add-2.result _ _ _ _ _ _ _ _ c.in_ok-add.ensures c.add-2.ensures

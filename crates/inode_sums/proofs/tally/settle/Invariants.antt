@@ -6,6 +6,7 @@ use Rattle.accounts.specs.declared.account.Account.{Account}
 use Rattle.accounts.specs.Broken.{is_broken}
 use Rattle.accounts.specs.Tally.{sums_in}
 use Rattle.inode_sums.specs.Held.{class_sums, inode_cmp}
+use Rattle.inode_sums.specs.Joined.{LeavesOthers}
 use Rattle.inode_sums.proofs.tally.settle.Given as goal
 
 -- the classes that are left come with the sums to what all come to
@@ -14,4 +15,5 @@ invariant-loop-at l = record {
   sorted : IsStrictlySortedBy inode_cmp (keys_of l.at-iterator);
   same : (account : Account) → is_broken account (λ n. sums_in l.rest account n + class_sums (λ q. lookup (is_at (inode_cmp q)) l.at-iterator) account n)
       ≡ is_broken account (λ n. sums_in l.fn.rest account n + class_sums (get inode_cmp l.fn.classes) account n);
+  others : LeavesOthers l.fn.rest l.rest;
 }

@@ -1,23 +1,20 @@
-use Rattle.std.proofs.Common.{◌∙◌, ◌∷◌, [], ap, refl}
+use Rattle.std.proofs.Common.{◌∷◌, [], ap}
+use Rattle.std.proofs.Math.Path.{fun_ext}
 use Rattle.std.specs.BTreeMap.{get}
 use Rattle.accounts.specs.Kinds.{inode_type}
-use Rattle.accounts.specs.Tally.{sums_in, with_postings}
-use Rattle.inode_sums.specs.declared.class.Gathered.{Gathered}
-use Rattle.inode_sums.specs.Held.{inode_cmp, sums_held, sums_with, to}
-use Rattle.inode_sums.proofs.Amounts.{type_total}
-use Rattle.inode_sums.proofs.Aside.{on_ok, own_typed, same_postings}
+use Rattle.accounts.specs.Tally.{kept}
+use Rattle.inode_sums.specs.Held.{class_sums, inode_cmp, to}
+use Rattle.inode_sums.proofs.Aside.{adds_alike, adds_stayed, beside_classes, on_ok}
 use Rattle.inode_sums.proofs.tally.InodeTally.add_type.Goals as goal
 
-pub returns-in-Some : goal.returns-in-Some
-returns-in-Some c =
-    let rest = sums_in c.args.self.now.rest in
-    let entry = get inode_cmp c.args.self.now.classes in
-    let own = c.args.self.now.own in
-    ap (λ (s : Gathered). sums_with rest entry (record { tree = own.tree; ino = own.ino; sums = s })) c.in-Some.ensures.2
-    ∙ own_typed rest entry own.tree own.ino c.args.sort own.sums c.in-Some.ensures.0 c.in-Some.ensures.1
-    ∙ (λ i. with_postings (sums_held c.args.self.now) (to (inode_type (c.if-self-tree.true i) (c.if-self-ino.true i) c.args.sort) 1 1 ∷ []))
+pub returns-then-raise_type : goal.returns-then-raise_type
+returns-then-raise_type c =
+    beside_classes (class_sums (get inode_cmp c.args.self.now.classes)) _ _ _ _ (c.raise_type.ensures.raised c.if-raise_type.true)
 
 pub returns : goal.returns
 returns c =
-    on_ok c.give.result c.give.ensures.sums (λ e.
-    e ∙ same_postings (sums_held c.args.self.now) _ _ (type_total c.args.tree c.args.ino c.args.sort _ refl))
+    let classes = class_sums (get inode_cmp c.args.self.now.classes) in
+    let given = to (inode_type c.args.tree c.args.ino c.args.sort) 1 1 ∷ [] in
+    on_ok c.begin.result c.begin.ensures (λ e.
+    adds_stayed classes _ c.args.self.now.owns.items c.raise_type.new.owns.items _ _ given (c.raise_type.ensures.stays c.if-raise_type.false)
+    (adds_alike _ _ _ _ _ given e (λ a. ap (kept a.kind) (fun_ext (c.typed.ensures a)))))

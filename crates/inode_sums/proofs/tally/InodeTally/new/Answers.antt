@@ -1,12 +1,15 @@
-use Rattle.std.proofs.Common.{◌∙◌, ap}
+use Rattle.std.proofs.Common.{◌≡◌, ◌∙◌, ap, arith}
 use Rattle.std.specs.BTreeMap.{get, is_at}
 use Rattle.std.specs.Map.{lookup}
-use Rattle.accounts.specs.Tally.{sums_in}
-use Rattle.inode_sums.specs.Held.{inode_cmp, sums_with}
-use Rattle.inode_sums.proofs.Aside.{none_held}
+use Rattle.accounts.specs.Sums.{total_of}
+use Rattle.inode_sums.specs.Held.{class_in, class_postings, class_sums, inode_cmp, inode_of, owns_sums}
+use Rattle.inode_sums.proofs.Amounts.{none_gathered}
 use Rattle.inode_sums.proofs.tally.InodeTally.new.Goals as goal
 
 pub returns : goal.returns
-returns c =
-    ap (λ s. sums_with (sums_in c.new.result) (get inode_cmp c.new-2.result) (record { tree = 0; ino = 0; sums = s })) c.none.ensures
-    ∙ none_held (sums_in c.new.result) (get inode_cmp c.new-2.result) 0 0 c.new.ensures (λ q. ap (lookup (is_at (inode_cmp q))) c.new-2.ensures.empty)
+returns c = λ a n.
+    let x : class_sums (get inode_cmp c.new.result) a n ≡ 0 =
+    ap (λ es. total_of (class_postings (inode_of a) (class_in (lookup (is_at (inode_cmp (inode_of a))) es))) a n) c.new.ensures.empty
+    ∙ none_gathered (inode_of a).0 (inode_of a).1 a n in
+    let y : owns_sums c.new-2.result.items a n ≡ 0 = ap (λ os. owns_sums os a n) c.new-2.ensures.items in
+    omega (arith, x, y)

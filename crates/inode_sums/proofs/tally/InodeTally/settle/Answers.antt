@@ -1,17 +1,19 @@
-use Rattle.std.proofs.Common.{◌∙◌, ap, sym}
+use Rattle.std.proofs.Common.{◌+◌, [], subst}
 use Rattle.std.specs.BTreeMap.{get}
-use Rattle.accounts.specs.Broken.{is_broken}
-use Rattle.accounts.specs.Tally.{sums_in}
-use Rattle.inode_sums.specs.Held.{inode_cmp, sums_with}
-use Rattle.inode_sums.proofs.Aside.{on_ok}
-use Rattle.inode_sums.proofs.Settled.{none_own}
+use Rattle.accounts.specs.Apart.{AddsUp}
+use Rattle.inode_sums.specs.Held.{class_sums, inode_cmp, inodes_apart, owns_sums}
+use Rattle.inode_sums.proofs.Aside.{apart_of_others, on_both}
+use Rattle.inode_sums.proofs.Settled.{all_settled}
 use Rattle.inode_sums.proofs.tally.InodeTally.settle.Goals as goal
 
 pub returns : goal.returns
 returns c =
-    let rest = sums_in c.turn_to.new.self.rest in
-    let entry = get inode_cmp c.turn_to.new.self.classes in
-    on_ok c.settle.result c.settle.ensures (λ is a.
-    is a ∙ none_own rest entry 0 0 a
-    ∙ ap (λ own. is_broken a (sums_with rest entry own a)) (sym c.in_ok-turn_to.ensures.own)
-    ∙ ap (λ s. is_broken a (s a)) c.in_ok-turn_to.ensures.sums)
+    let old = get inode_cmp c.args.self.now.classes in
+    let new = get inode_cmp c.give_all.new.classes in
+    let list = c.give_all.new.into in
+    on_both c.settle.result c.settle.ensures.broken c.settle.ensures.others
+    (all_settled (inodes_apart c.args.self.now) new list c.args.rest.now c.add_all.new.self c.settle.new.rest
+    (subst (λ before. AddsUp (inodes_apart c.args.self.now) (class_sums new) before list []) c.new-into.ensures
+    (subst (λ owns. AddsUp (λ a n. class_sums old a n + owns_sums owns a n) (class_sums new) c.new-into.result list []) c.deref.ensures.value c.in_ok-give_all.ensures))
+    c.in_ok-add_all.ensures.sums
+    (apart_of_others c.args.self.now))
