@@ -1,5 +1,5 @@
 -- What a record says of its own inode, and what its entries say of the inodes that they lead to.
-use Rattle.std.proofs.Common.{◌≡◌, ℕ, ◌+◌, List, [], ◌∷◌, ◌++◌, ap, arith}
+use Rattle.std.proofs.Common.{◌≡◌, ℕ, ◌+◌, List, [], ◌∷◌, arith}
 use Rattle.std.specs.Prelude.{flat_map}
 use Rattle.accounts.specs.declared.account.Account.{Account}
 use Rattle.accounts.specs.Sums.{total_of}

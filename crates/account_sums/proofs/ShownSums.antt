@@ -12,12 +12,12 @@ use Rattle.records.specs.SpacePostings.{sector_sum}
 use Rattle.account_sums.specs.declared.shown.Shown.{Shown}
 use Rattle.account_sums.specs.Sums.{Frees, SumsByFree, context_with, none_free, with_sectors}
 use Rattle.account_sums.specs.Kept.{shown_sums}
-use Rattle.account_sums.specs.Ranges.{inode_in}
+use Rattle.account_sums.specs.Ranges.{inode_in, range_run}
 use Rattle.account_sums.proofs.Families.{range_sums, sectors_alike}
 
 -- one more
 pub shown_more : (shown : List Shown) (one : Shown) (free : Frees) (address field : ℕ)
-    → shown_sums (shown ++ one ∷ []) free address field ≡ shown_sums shown free address field + cond (free one.tree one.ino) 0 (amount_of one.run address field)
+    → shown_sums (shown ++ one ∷ []) free address field ≡ shown_sums shown free address field + cond (free one.tree one.ino) 0 (amount_of (range_run one) address field)
 shown_more [] one free address field = omega arith
 shown_more (other ∷ shown) one free address field =
     let later = shown_more shown one free address field in
@@ -105,19 +105,19 @@ added_run old new run shown free address field is =
 
 -- what is shown loses its last, and the sums gain it, or it is left out
 module _ (before after : SectorSums) (shown : List Shown) (last : Shown) (free : Frees) (address field : ℕ) where
-  pub moved : (is_free : Bool) → free last.tree last.ino ≡ is_free → is_free ≡ false → after ≡ with_run before last.run
+  pub moved : (is_free : Bool) → free last.tree last.ino ≡ is_free → is_free ≡ false → after ≡ with_run before (range_run last)
       → after address field + shown_sums shown free address field ≡ before address field + shown_sums (shown ++ last ∷ []) free address field
   moved is_free is none added =
-      let here : after address field ≡ before address field + amount_of last.run address field = ap (λ (s : SectorSums). s address field) added in
+      let here : after address field ≡ before address field + amount_of (range_run last) address field = ap (λ (s : SectorSums). s address field) added in
       let more = shown_more shown last free address field in
-      let amount : cond (free last.tree last.ino) 0 (amount_of last.run address field) ≡ amount_of last.run address field = ap (λ b. cond b 0 (amount_of last.run address field)) (is ∙ none) in
+      let amount : cond (free last.tree last.ino) 0 (amount_of (range_run last) address field) ≡ amount_of (range_run last) address field = ap (λ b. cond b 0 (amount_of (range_run last) address field)) (is ∙ none) in
       omega (arith, here, more, amount)
 
   pub left_out : (is_free : Bool) → free last.tree last.ino ≡ is_free → is_free ≡ true
       → before address field + shown_sums shown free address field ≡ before address field + shown_sums (shown ++ last ∷ []) free address field
   left_out is_free is some =
       let more = shown_more shown last free address field in
-      let amount : cond (free last.tree last.ino) 0 (amount_of last.run address field) ≡ 0 = ap (λ b. cond b 0 (amount_of last.run address field)) (is ∙ some) in
+      let amount : cond (free last.tree last.ino) 0 (amount_of (range_run last) address field) ≡ 0 = ap (λ b. cond b 0 (amount_of (range_run last) address field)) (is ∙ some) in
       omega (arith, more, amount)
 
 -- nothing is shown

@@ -1,5 +1,5 @@
 -- Postings that are added one after the other to sums that are kept apart.
-use Rattle.std.proofs.Common.{◌≡◌, ℕ, ◌+◌, List, [], ◌∷◌, ◌++◌, ap, sym, ◌∙◌, arith}
+use Rattle.std.proofs.Common.{◌≡◌, ◌+◌, List, [], ◌∷◌, ◌++◌, ap, ◌∙◌, arith}
 use Rattle.std.specs.Prelude.{Result, Ok, Err, OnOk, flat_map}
 use Rattle.std.proofs.Math.Path.{fun_ext}
 use Rattle.accounts.specs.declared.account.Account.{Account}

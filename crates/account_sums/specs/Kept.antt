@@ -13,7 +13,7 @@ use Rattle.sector_runs.specs.Runs.{SectorSums, amount_of}
 use Rattle.sector_runs.specs.Edges.{sums_of}
 use Rattle.records.specs.Context.{is_inode}
 use Rattle.account_sums.specs.Sums.{Frees, Summed, SumsByFree}
-use Rattle.verdict.specs.declared.place.Chunk.{Chunk}
+use Rattle.account_sums.specs.Ranges.{range_run}
 use Rattle.account_sums.specs.declared.summing.Accounts.{Accounts}
 use Rattle.account_sums.specs.declared.shown.Shown.{Shown}
 use Rattle.account_sums.specs.declared.shown.SumFree.{SumFree}
@@ -27,7 +27,7 @@ free_in set tree ino = list_any (is_inode tree ino) set.inodes.keys
 abbrev pub shown_sums : List Shown → SumsByFree
 shown_sums [] free address field = 0
 shown_sums (one ∷ more) free address field =
-    (if free one.tree one.ino then 0 else amount_of one.run address field) + shown_sums more free address field
+    (if free one.tree one.ino then 0 else amount_of (range_run one) address field) + shown_sums more free address field
 
 -- what is kept of sectors
 abbrev pub sectors_in : SectorTally → SumsByFree

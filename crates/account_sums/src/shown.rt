@@ -6,7 +6,7 @@ ghost use Rattle.account_sums.specs.Ranges.{AllFit, inode_in};
 
 use accounts::Ctx;
 use records::{Rec, RecAt};
-use sector_runs::{SectorRun, Sectors};
+use sector_runs::{SectorRun, SectorUse, Sectors};
 use space_rules::run_of;
 use std::alloc::Global;
 use std::collections::BTreeSet;
@@ -63,8 +63,26 @@ pub struct Shown {
     pub tree: u64,
     // The number of the inode.
     pub ino: u64,
+    // The logical address in bytes where the first begins.
+    pub first: u64,
+    // How many they are.
+    pub count: u64,
+}
+
+impl Shown {
+    ghost use Rattle.std.specs.Prelude.{◌≡◌};
+    ghost use Rattle.account_sums.specs.Ranges.{range_run};
+
     // The sectors.
-    pub run: SectorRun,
+    fn run(&self) -> SectorRun
+        ensures { result ≡ range_run self.now }
+    {
+        SectorRun {
+            first: self.first,
+            count: self.count,
+            sort: SectorUse::Shown,
+        }
+    }
 }
 
 // The sums of all sectors. In a walk the item of an inode comes before its ranges, but no clause here rests on the
@@ -80,6 +98,7 @@ pub struct SectorTally {
 impl SectorTally {
     ghost use Rattle.std.specs.Prelude.{◌≡◌, ◌+◌, ℕ, IfOk, OnOk, if◌then◌else◌};
     ghost use Rattle.sector_runs.specs.Runs.{IsFit, IsLeastBroken, amount_of, no_sectors};
+    ghost use Rattle.sector_runs.specs.declared.run.SectorUse.TheVariants.{Shown as IsShown};
     ghost use Rattle.records.specs.Context.{sum_free_inode};
     ghost use Rattle.records.specs.Part.{IsLawful, located};
     ghost use Rattle.account_sums.specs.Kept.{free_in, sectors_in};
@@ -121,13 +140,19 @@ impl SectorTally {
     // Keeps what a range of a file shows.
     #[tactic(auto, using(crate::proofs::ShownSums::shown_more))]
     fn show(&mut self, tree: u64, ino: u64, run: SectorRun) -> Result<(), NoMemory>
-        requires { IsFit run }
+        requires fit { IsFit run }
+        requires sort { run.sort ≡ IsShown }
         ensures free { free_in self.new.free ≡ free_in self.old.free }
         ensures sums { OnOk result ((free : Frees) (address field : ℕ) →
             sectors_in self.new free address field ≡ sectors_in self.old free address field
             + (if free tree ino then 0 else amount_of run address field)) }
     {
-        match self.shown.push(Shown { tree, ino, run }) {
+        match self.shown.push(Shown {
+            tree,
+            ino,
+            first: run.first,
+            count: run.count,
+        }) {
             Ok(()) => Ok(()),
             Err(_) => Err(NoMemory),
         }
@@ -139,7 +164,7 @@ impl SectorTally {
     {
         while let Some(one) = self.shown.pop() {
             if !self.free.has(one.tree, one.ino) {
-                self.sectors.add(&one.run)?;
+                self.sectors.add(&one.run())?;
             }
         }
         Ok(self.sectors.least_broken())

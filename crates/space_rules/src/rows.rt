@@ -5,6 +5,8 @@ ghost use Rattle.accounts.specs.Posts.{Posts, PostsWhere};
 ghost use Rattle.fs_items.specs.Lent.{sums_in};
 ghost use Rattle.volume_items.specs.ChunkItems.{fields_in};
 ghost use Rattle.sector_runs.specs.Runs.{IsFit, amount_in};
+ghost use Rattle.sector_runs.specs.declared.run.SectorUse.TheVariants.{Shown as IsShown};
+ghost use Rattle.fs_items.specs.declared.file_extent.FileExtent.{FileExtent as ARange};
 ghost use Rattle.records.specs.Part.{IsLawful, part_of};
 ghost use Rattle.records.specs.Part.Part.{FileExtentPart, SumsPart};
 ghost use Rattle.records.specs.SpacePostings.{
@@ -84,12 +86,14 @@ pub fn post_rest<C: Ctx>(
 
 /// The run of sectors that a record of a tree, by the tree's id, is of: those that an extent has, that checksums are
 /// of, or that a range of a file shows. It comes to what the record posts to sectors, and `None` to nothing. Nothing
-/// is said of a record that no reader gives.
+/// is said of a record that no reader gives, but that a range of a file has no run of another use.
 pub fn run_of<C: Ctx>(ctx: &C, tree: u64, part: &Rec<'_>) -> Option<SectorRun>
     ensures sums { IsLawful (part_of part.now) → (address field : ℕ) →
         sector_sum (C.context ctx.now) tree (part_of part.now) address field
         ≡ amount_in result address field }
     ensures fits { IsLawful (part_of part.now) → IfSome result IsFit }
+    ensures shown { (range : ARange) → part_of part.now ≡ FileExtentPart range →
+        IfSome result (λ run. run.sort ≡ IsShown) }
 {
     match part {
         Rec::ExtentItem(item) => place_of(ctx, item).run(),
@@ -149,6 +153,7 @@ fn shown_run<C: Ctx>(ctx: &C, tree: u64, range: &FileExtent) -> Option<SectorRun
     ensures is { IsLawful (FileExtentPart range.now) →
         result ≡ run_in (C.context ctx.now) tree (FileExtentPart range.now) }
     ensures fits { IfSome result (λ run. run.first + 4096 * run.count < 2 ^ 64) }
+    ensures sort { IfSome result (λ run. run.sort ≡ IsShown) }
 {
     if !shows_sums(ctx, tree, range) || ctx.home(range.extent, range.extent_length).is_none() {
         return None;

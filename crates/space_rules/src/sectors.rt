@@ -14,6 +14,7 @@ pub fn sectors_at(first: u64, count: u64, sort: SectorUse) -> Option<SectorRun>
     ensures some { first + 4096 * count < 2 ^ 64 →
         result ≡ Some (record { first = first; count = count; sort = sort }) }
     ensures fits { IfSome result (λ run. run.first + 4096 * run.count < 2 ^ 64) }
+    ensures sort { IfSome result (λ run. run.sort ≡ sort) }
 {
     if count > (u64::MAX - first) / SECTOR {
         return None;

@@ -30,4 +30,5 @@ pub returns-in_default : goal.returns-in_default
 returns-in_default g c = record {
   sums = λ lawful address field. no_sector_sum (g.C.Ctx.context c.args.ctx.now) c.args.tree c.args.part.now c.in_default.not-ExtentItem c.in_default.not-FileExtent c.in_default.not-SumRun address field;
   fits = λ lawful. tt;
+  shown = λ range is. tt;
 }
