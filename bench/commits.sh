@@ -5,14 +5,18 @@
 # - The start of a replay beside `recon check`: seconds, peak memory, and the ratio; the bytes of the index beside those of the metadata.
 # - A made workload of 200 commits, replayed, beside a program in C that reads its trace, writes its bytes and flushes as often: processor
 #   time, the least of five runs of each in turns.
-# Usage: bench/commits.sh [FOLDER]    FOLDER has, or gets, the two volumes few.img and many.img. It wants btrfs-progs, python3 and gcc.
+# Usage: bench/commits.sh [FOLDER]    FOLDER has, or gets, the two volumes few.img and many.img; PROGRAM names a built program that is
+# timed in place of that of this repository. It wants btrfs-progs, python3 and gcc.
 set -eu
 cd "$(dirname "$0")/.."
 scratch=$(mktemp -d)
 trap 'rm -rf "$scratch"' EXIT
 folder=${1:-$scratch}
-(cd crates/recon && rt run -- check data/short.img < /dev/null > /dev/null 2>&1) || true
-program=$PWD/crates/recon/out/recon
+program=${PROGRAM:-}
+if [ -z "$program" ]; then
+  (cd crates/recon && rt run -- check data/short.img < /dev/null > /dev/null 2>&1) || true
+  program=$PWD/crates/recon/out/recon
+fi
 if [ ! -e "$folder/few.img" ]; then
   mkdir "$scratch/files"
   for f in 0 1 2 3 4; do

@@ -4,7 +4,7 @@ ghost use Rattle.std.specs.Prelude.{◌≡◌, ◌≤◌, IfOk, length};
 ghost use Rattle.ledger_index.specs.LongPlace as spec;
 ghost use Rattle.ledger_index.specs.LongPlaceLaws.{long_equiv, long_fed_alike, long_per, same_long};
 
-use crate::place::{front_of, head_of, two_of};
+use crate::place::{front_of, head_of, mixed_of, two_of};
 use crate::table::Exact;
 use accounts::Account;
 use std::alloc::Global;
@@ -54,6 +54,10 @@ impl Exact for LongPlace {
 
     fn kind(&self) -> u8 {
         LongPlace::kind(self)
+    }
+
+    fn mixed(&self) -> u64 {
+        mixed_of(self.kind, u64::from(self.objectid), u64::from(self.offset))
     }
 }
 

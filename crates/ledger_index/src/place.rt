@@ -110,6 +110,32 @@ impl Exact for Place {
     fn kind(&self) -> u8 {
         Place::kind(self)
     }
+
+    fn mixed(&self) -> u64 {
+        match *self {
+            Place::Plain {
+                kind,
+                block,
+                objectid,
+                offset,
+                ..
+            } => mixed_of(kind, objectid ^ block, offset),
+            Place::Named {
+                kind,
+                objectid,
+                offset,
+                ..
+            } => mixed_of(kind, u64::from(objectid), u64::from(offset)),
+        }
+    }
+}
+
+/// A number that accounts seldom have in common whose kinds and numbers differ. Those of numbers in a row are far apart.
+pub(crate) fn mixed_of(kind: u8, objectid: u64, offset: u64) -> u64 {
+    objectid
+        .wrapping_add(offset.wrapping_mul(0xd6e8_feb8_6659_fd93))
+        .wrapping_add(u64::from(kind) << 32)
+        .wrapping_mul(0x9e37_79b9_7f4a_7c15)
 }
 
 impl Hash for Place {

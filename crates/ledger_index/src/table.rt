@@ -14,10 +14,16 @@ use std::alloc::Global;
 use std::hash::Hash;
 use verdict::NoMemory;
 
+// How many hints there are.
+const SLOTS: usize = 4096;
+
 /// Keys of which equal ones are one and the same.
 pub(crate) trait Exact: Eq + Hash + Copy {
     /// The kind of the account.
     fn kind(&self) -> u8;
+
+    /// A number that keys seldom have in common. It costs less than a hash, and nothing rests on it.
+    fn mixed(&self) -> u64;
 
     ghost exact: { (x y : Self) → IsTrue (Self.eq x y) → x ≡ y };
 }
@@ -27,8 +33,8 @@ pub(crate) trait Exact: Eq + Hash + Copy {
 pub(crate) struct Table<K: Exact> {
     entries: IndexMap<K, Kept, Seeded>,
     is_seeded: bool,
-    // Where the entry stood that was last found for an account of a kind, by the kind modulo 32: a hint, and no more.
-    near: [usize; 32],
+    // Where entries stood that were last found, each at the slot of its key: hints, and no more.
+    near: [u32; SLOTS],
     ghost tidy: { AreTidy (by_key K.eq entries) },
 }
 
@@ -40,7 +46,7 @@ impl<K: Exact> Table<K> {
         Table {
             entries: IndexMap::with_hasher(alloc, Seeded::of(&[0; 16])),
             is_seeded: false,
-            near: [0; 32],
+            near: [0; SLOTS],
         }
     }
 
@@ -97,7 +103,7 @@ impl<K: Exact> Table<K> {
         let kept = Kept::one(alloc, field, amount)?;
         match self.entries.insert_full(*key, kept) {
             Ok((at, _)) => {
-                self.near[slot_of(key)] = at;
+                self.near[slot_of(key)] = hint_of(at);
                 Ok(false)
             }
             Err(_) => Err(NoMemory),
@@ -121,27 +127,32 @@ impl<K: Exact> Table<K> {
     }
 
     // Where the entry of an account stands, or `None` where it has none. The entry that was last found for an account of
-    // its kind is looked at first, without a hash.
+    // the same slot is looked at first, without a hash: accounts come again soon, as those of the names in a directory do.
     fn index_of(&mut self, key: &K) -> Option<usize>
         ensures entries { self.new.entries ≡ self.old.entries }
         ensures found { IfSome result (λ i. StandsAt K.eq self.old.entries i key.now) }
         ensures none { result ≡ None → by_key K.eq self.old.entries key.now ≡ None }
     {
-        let near = self.near[slot_of(key)];
+        let near = self.near[slot_of(key)] as usize;
         if let Some((there, _)) = self.entries.get_index(near) {
             if *there == *key {
                 return Some(near);
             }
         }
         let (at, _, _) = self.entries.get_full(key)?;
-        self.near[slot_of(key)] = at;
+        self.near[slot_of(key)] = hint_of(at);
         Some(at)
     }
 }
 
-// The slot of a key among the hints, by the kind of its account.
+// The slot of a key among the hints.
 fn slot_of<K: Exact>(key: &K) -> usize
-    ensures { result < 32 }
+    ensures { result < 4096 }
 {
-    usize::from(key.kind() % 32)
+    (key.mixed() >> 52) as usize % SLOTS
+}
+
+// A hint to an entry.
+fn hint_of(at: usize) -> u32 {
+    u32::try_from(at).unwrap_or(0)
 }

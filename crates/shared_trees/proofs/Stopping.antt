@@ -1,60 +1,108 @@
 -- Marks at stops, and the walks that keep the blocks there.
-use Rattle.std.proofs.Common.{◌≡◌, ℕ, zero, suc, ◌+◌, ◌<◌, ◌≤◌, ◌==◌, ◌&&◌, ◌||◌, Bool, true, false, List, [], ◌∷◌, length, drop, get_or, ap, refl, sym, ◌∙◌, arith}
-use Rattle.std.specs.Prelude.{None, Result, Ok, Err, if◌then◌else◌}
-use Rattle.std.proofs.lemmas.List.{drop_more}
-use Rattle.std.proofs.lemmas.Bool.Decides.{nat_tests}
+use Rattle.std.proofs.Common.{◌≡◌, ℕ, zero, suc, ◌+◌, ◌<◌, ◌≤◌, ◌==◌, ◌||◌, Bool, true, false, List, [], ◌∷◌, length, take, ◌++◌, get_or, ap, refl, subst, sym, ◌∙◌, arith}
+use Rattle.std.specs.Prelude.{None, Option, Result, Ok, Err, if◌then◌else◌}
+use Rattle.std.proofs.Common.{inl, inr}
+use Rattle.std.specs.Prelude.{is_ok, ◌⊎◌}
+use Rattle.std.proofs.lemmas.List.{take_more}
+use Rattle.std.specs.Ordering.{nat_cmp}
+use Rattle.std.specs.List.Sorted.{IsBinarySearchResult, IsNonDecreasingBy, IsPermutation}
+use Rattle.std.proofs.lemmas.Bool.{eqb-true, eq-eqb}
+use Rattle.std.proofs.lemmas.List.Sorted.{list_any-IsPermutation, searched}
 use Rattle.verdict.specs.Rules.{and_then}
 use Rattle.verdict.specs.declared.finding.Finding.{Finding}
 use Rattle.super_reader.specs.declared.Super.{Super}
 use Rattle.node_reader.specs.Stored.{Stored, block_in}
 use Rattle.node_reader.specs.declared.expect.Expect.{Expect}
 use Rattle.records.specs.Walk.{Records, behind, block_and, each, own_records, then_records, walk_of}
-use Rattle.touched_pairs.specs.Marks.{Marked, with_mark}
-use Rattle.shared_trees.specs.Keeping.{last_if_same}
+use Rattle.shared_trees.specs.declared.keeps.Met.{Met}
+use Rattle.shared_trees.specs.Known.{AreMetBy, blocks_met}
+use Rattle.verdict.specs.declared.key.Key.{Key}
+use Rattle.live_index.specs.Pairs.{Pairs}
+use Rattle.live_index.specs.declared.live.Live.{Live}
+use Rattle.shared_trees.specs.Keeping.{Under, last_if_same}
 use Rattle.shared_trees.specs.OldSide.{kept_at}
 use Rattle.shared_trees.specs.Stops.{is_stop}
 use Rattle.shared_trees.specs.Skips.{Anew, Kept, next_of, nothing, skip_and, skip_below, skip_or}
-use Rattle.shared_trees.proofs.Keepings.{none_left}
-use Rattle.shared_trees.specs.Stopping.{StopsLaw, kept_among}
+use Rattle.shared_trees.specs.Stopping.{StopsLaw, addresses_of, has_address, kept_among}
 
--- the stops that are left are all that are not marked yet
-pub record AreStopped (met : List Expect) (i : ℕ) (marks : ℕ → Bool) : Type 0 where
-  pub each : (a : ℕ) → is_stop met a ≡ (marks a || is_stop (drop i met) a)
+-- the addresses of blocks that were met are those of the blocks as they were expected
+pub same_addresses : (met : List Met) (a : ℕ) → has_address (addresses_of met) a ≡ is_stop (blocks_met met) a
+same_addresses [] a = refl
+same_addresses (one ∷ met) a = ap (λ b. (one.expect.address == a) || b) (same_addresses met a)
 
-marked : (b c r : Bool) → (b || (c || r)) ≡ ((if c then true else b) || r)
-marked true true r = refl
-marked true false r = refl
-marked false true r = refl
-marked false false r = refl
+-- and so in any order
+pub same_in_order : (met : List Met) (sorted : List ℕ) → IsPermutation (addresses_of met) sorted → (a : ℕ) → has_address sorted a ≡ is_stop (blocks_met met) a
+same_in_order met sorted same a = sym (list_any-IsPermutation (λ one. one == a) (addresses_of met) sorted same) ∙ same_addresses met a
 
-no_other : (b : Bool) → (b || false) ≡ b
-no_other true = refl
-no_other false = refl
+-- one address more
+addresses_both : (met more : List Met) → addresses_of (met ++ more) ≡ addresses_of met ++ addresses_of more
+addresses_both [] more = refl
+addresses_both (one ∷ met) more = ap (λ l. one.expect.address ∷ l) (addresses_both met more)
 
-same_tree : (tree : ℕ) → (tree == tree) ≡ true
-same_tree tree = grind (arith, nat_tests)
+pub addresses_more : (met : List Met) (i : ℕ) (d : Met) (before after : List ℕ) → i < length met → before ≡ addresses_of (take i met)
+    → after ≡ before ++ (get_or met i d).expect.address ∷ [] → after ≡ addresses_of (take (i + 1) met)
+addresses_more met i d before after inside so more =
+    more ∙ ap (λ l. l ++ (get_or met i d).expect.address ∷ []) so
+    ∙ sym (ap addresses_of (take_more met i d inside) ∙ addresses_both (take i met) (get_or met i d ∷ []))
 
-pub stopped_none : (met : List Expect) (marks : ℕ → Bool) → ((a : ℕ) → marks a ≡ false) → AreStopped met 0 marks
-stopped_none met marks none = record { each = λ a. sym (ap (λ b. b || is_stop met a) (none a)) }
+or_true : (b c : Bool) → c ≡ true → (b || c) ≡ true
+or_true true c is = refl
+or_true false c is = is
 
-pub stopped_more : (met : List Expect) (i : ℕ) (d : Expect) (tree : ℕ) (before after : Marked) → i < length met
-    → ((t a : ℕ) → after t a ≡ with_mark before tree (get_or met i d).address t a)
-    → AreStopped met i (before tree) → AreStopped met (i + 1) (after tree)
-stopped_more met i d tree before after inside more so = record { each = by }
+-- an address is one of some where one of them is equal to it, and else none
+pub has_at : (addresses : List ℕ) (a i : ℕ) → i < length addresses → get_or addresses i 0 ≡ a → has_address addresses a ≡ true
+has_at [] a i inside is = absurd (omega arith)
+has_at (one ∷ more) a zero inside is = ap (λ b. b || has_address more a) (eq-eqb one a is)
+has_at (one ∷ more) a (suc i) inside is = or_true (one == a) _ (has_at more a i (omega arith) is)
+
+no_other : (one a : ℕ) (b : Bool) → (one == a) ≡ b → (one ≡ a → ⊥) → b ≡ false
+no_other one a true is none = absurd (none (eqb-true one a is))
+no_other one a false is none = refl
+
+pub has_none : (addresses : List ℕ) (a : ℕ) → ((k : ℕ) → k < length addresses → get_or addresses k 0 ≡ a → ⊥) → has_address addresses a ≡ false
+has_none [] a none = refl
+has_none (one ∷ more) a none =
+    ap (λ b. b || has_address more a) (no_other one a (one == a) refl (none 0 (omega arith)))
+    ∙ has_none more a (λ k inside. none (suc k) (omega (arith, inside)))
+
+-- a search among rising addresses
+pub search_has : (addresses : List ℕ) (a : ℕ) (r : Result ℕ ℕ) → IsNonDecreasingBy (λ one. one) addresses
+    → IsBinarySearchResult (λ y. nat_cmp y a) addresses r → is_ok r ≡ has_address addresses a
+search_has addresses a (Ok i) rise found =
+    let at = searched addresses a (Ok i) found (λ i j. rise i j 0) in
+    sym (has_at addresses a i at.0 at.1)
+search_has addresses a (Err i) rise found =
+    let at = searched addresses a (Err i) found (λ i j. rise i j 0) in
+    sym (has_none addresses a (λ k inside is. apart k inside is at (le_or_lt k i)))
   where
-    by : (a : ℕ) → is_stop met a ≡ (after tree a || is_stop (drop (i + 1) met) a)
-    by a =
-        let c = (get_or met i d).address == a in
-        so.each a
-        ∙ ap (λ es. before tree a || is_stop es a) (drop_more met i d inside)
-        ∙ marked (before tree a) c (is_stop (drop (i + 1) met) a)
-        ∙ ap (λ t. (if (t && c) then true else before tree a) || is_stop (drop (i + 1) met) a) (sym (same_tree tree))
-        ∙ sym (ap (λ b. b || is_stop (drop (i + 1) met) a) (more tree a))
+    le_or_lt : (k i : ℕ) → (k < i) ⊎ (i ≤ k)
+    le_or_lt k i = grind (arith)
 
-pub stopped_all : (met : List Expect) (i : ℕ) (marks : ℕ → Bool) → length met ≤ i → AreStopped met i marks → (a : ℕ) → marks a ≡ is_stop met a
-stopped_all met i marks past so a = sym (so.each a ∙ ap (λ es. marks a || is_stop es a) (none_left i met past) ∙ no_other (marks a))
+    apart : (k : ℕ) → k < length addresses → get_or addresses k 0 ≡ a
+        → (i ≤ length addresses) × ((k : ℕ) → k < i → get_or addresses k 0 < a) × ((k : ℕ) → i ≤ k → k < length addresses → a < get_or addresses k 0)
+        → (k < i) ⊎ (i ≤ k) → ⊥
+    apart k inside is at (inl less) = let b = at.1 k less in omega (arith, b, is)
+    apart k inside is at (inr more) = let b = at.2 k more inside in omega (arith, b, is)
 
-pub ruleset stop_steps = (stopped_none, stopped_more, stopped_all)
+-- one of the blocks that were met
+pub stop_at : (met : List Met) (i : ℕ) (d : Met) → i < length met → is_stop (blocks_met met) (get_or met i d).expect.address ≡ true
+stop_at [] i d inside = absurd (omega arith)
+stop_at (one ∷ met) zero d inside = ap (λ b. b || is_stop (blocks_met met) one.expect.address) (eq-eqb one.expect.address one.expect.address refl)
+stop_at (one ∷ met) (suc i) d inside = or_true (one.expect.address == (get_or met i d).expect.address) _ (stop_at met i d (omega arith))
+
+-- no blocks were met
+pub met_none : (pairs : Pairs) (met : List Met) → met ≡ [] → AreMetBy pairs met
+met_none pairs met none = λ k d inside. absurd (omega (arith, inside, ap length none))
+
+-- a block at a stop is kept by the pair that is held of the stop
+pub kept_stop : (pairs : Pairs) (test : ℕ → Bool) (under : Under) (e stop : Expect) (live held : Option Live) (found : Option Key)
+    → stop.address ≡ e.address → stop.tree ≡ e.tree → test stop.address ≡ true → live ≡ pairs stop.tree stop.address → held ≡ live
+    → found ≡ last_if_same e (under e.tree e.address) held → found ≡ kept_among pairs test under e
+unfolding kept_among
+kept_stop pairs test under e stop live held found address tree passes known same is =
+    is
+    ∙ ap (last_if_same e (under e.tree e.address)) (same ∙ known ∙ (λ i. pairs (tree i) (address i)))
+    ∙ sym (ap (λ b. if b then last_if_same e (under e.tree e.address) (pairs e.tree e.address) else None) (subst (λ a. test a ≡ true) address passes))
 
 -- walks are alike that keep alike
 module _ (one other : Kept) (anew : Anew) (sup : Super) (stored : Stored) (alike : (e : Expect) → one e ≡ other e) where

@@ -1,31 +1,14 @@
--- Which blocks are kept by what is known of a tree as it was.
-use Rattle.std.specs.Prelude.{Bool, is_none, List, Option, Some, None, if◌then◌else◌}
-use Rattle.std.specs.List.{list_any}
+-- What is known of the blocks of a tree as it was.
+use Rattle.std.specs.Prelude.{◌≡◌, Bool, is_none, List, map, Option, Some, None, if◌then◌else◌}
+use Rattle.std.specs.List.{All, list_any}
 use Rattle.verdict.specs.declared.key.Key.{Key}
 use Rattle.live_index.specs.Pairs.{Pairs}
 use Rattle.live_index.specs.declared.live.Live.{Live}
-use Rattle.live_index.specs.Table.{pairs_of}
-use Rattle.touched_pairs.specs.Marks.{marked_by}
-use Rattle.touched_pairs.specs.Moves.{move_passes}
-use Rattle.shared_trees.specs.declared.known.KnownTree.{KnownTree}
+use Rattle.node_reader.specs.declared.expect.Expect.{Expect}
+use Rattle.shared_trees.specs.declared.keeps.Met.{Met}
 use Rattle.shared_trees.specs.declared.starts.Start.{Start}
-use Rattle.shared_trees.specs.Ending.{Held, Lasts}
-use Rattle.shared_trees.specs.Keeping.{Under, anew_of, kept_of}
-use Rattle.shared_trees.specs.Meeting.{Met}
-use Rattle.shared_trees.specs.Skips.{Anew, Kept}
-use Rattle.shared_trees.specs.Under.{under_of}
-
--- the blocks that are kept: those that the table knows as they are expected, that have no mark and that stand where they stood
-abbrev pub kept_by : {L : Type 0} → KnownTree L → Kept
-kept_by known = kept_of (pairs_of known.table.now) (marked_by known.marks.now) (move_passes known.moves.now) (under_of known.starts.now)
-
--- the blocks that are walked below them: the children that are listed
-abbrev pub listed_by : {L : Type 0} → KnownTree L → Anew
-listed_by known = anew_of (under_of known.starts.now)
-
--- the kept blocks that were met
-abbrev pub met_by : {L : Type 0} → KnownTree L → Met
-met_by known = Some known.met.items
+use Rattle.shared_trees.specs.Ending.{Lasts}
+use Rattle.shared_trees.specs.Keeping.{Under}
 
 -- whether the last child of a block is among those that are walked: no pointer follows it
 abbrev pub is_last_walked : List Start → Bool
@@ -40,10 +23,10 @@ last_known (Some live) = Some live.last
 unfoldable pub last_of : Pairs → Under → Lasts
 last_of pairs under e = if is_last_walked (under e.tree e.address) then None else last_known (pairs e.tree e.address)
 
--- the greatest keys that are known
-abbrev pub lasts_by : {L : Type 0} → KnownTree L → Lasts
-lasts_by known = last_of (pairs_of known.table.now) (under_of known.starts.now)
+-- the blocks that were met, as they were expected
+abbrev pub blocks_met : List Met → List Expect
+blocks_met met = map (λ (one : Met). one.expect) met
 
--- the blocks that the walk is done with
-abbrev pub ended_by : {L : Type 0} → KnownTree L → Held
-ended_by known = Some known.ended.items
+-- each of these has its pair
+abbrev pub AreMetBy : Pairs → List Met → Type 0
+AreMetBy pairs met = All (λ (one : Met). one.live ≡ pairs one.expect.tree one.expect.address) met

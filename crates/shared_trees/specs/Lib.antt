@@ -9,6 +9,7 @@ pub mod Ending
 pub mod KeepingWalk
 pub mod Under
 pub mod Known
+pub mod KnownTrees
 pub mod ImageLaw
 pub mod Listed
 pub mod Listing
@@ -25,6 +26,7 @@ pub mod MarksLaw
 pub mod LastLaw
 pub mod EndsLaw
 pub mod Stopping
+pub mod OldTrees
 pub mod MeetingLaw
 pub mod MergedLaw
 pub mod ArrayLaw

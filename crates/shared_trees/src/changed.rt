@@ -47,6 +47,7 @@ pub fn walk_changed<D: Disk, K: Keeps, T: Taker>(
     ensures kept { IsKept D.Disk disk.old disk.new (is_disk_halt result) }
     ensures same { OnOk result (K.keeps keeps.new ≡ K.keeps keeps.old) }
     ensures same_anew { OnOk result (K.anew keeps.new ≡ K.anew keeps.old) }
+    ensures same_pairs { OnOk result (K.pairs keeps.new ≡ K.pairs keeps.old) }
     ensures met { OnOk result (
         Meets (D.bytes disk.old) source.now.cache.now (K.met keeps.old) (K.met keeps.new)
         (met_in (K.keeps keeps.old) (K.anew keeps.old)
@@ -105,6 +106,7 @@ fn walk_keeping<D: Disk, K: Keeps, T: Taker>(
         Meets (D.bytes disk.old) source.now.cache.now (K.met keeps.old) (K.met keeps.new)
         (met_in (K.keeps keeps.old) (K.anew keeps.old)
         source.now.sup.now source.now.map.now e.now)) }
+    ensures same_pairs { K.pairs keeps.new ≡ K.pairs keeps.old }
     ensures same_lasts { K.lasts keeps.new ≡ K.lasts keeps.old }
     ensures ended { IfOk result (λ last.
         HoldsLast (D.bytes disk.old) source.now.cache.now (K.ended keeps.old)
@@ -155,6 +157,7 @@ fn end_kept<K: Keeps>(keeps: &mut K, e: &Expect, below: Key) -> Result<Key, NoMe
     ensures same { K.keeps keeps.new ≡ K.keeps keeps.old }
     ensures same_anew { K.anew keeps.new ≡ K.anew keeps.old }
     ensures same_met { K.met keeps.new ≡ K.met keeps.old }
+    ensures same_pairs { K.pairs keeps.new ≡ K.pairs keeps.old }
     ensures same_lasts { K.lasts keeps.new ≡ K.lasts keeps.old }
 {
     let last = keeps.last(e).unwrap_or(below);

@@ -1,10 +1,12 @@
 //! What says which blocks a walk keeps.
 
 ghost use Rattle.std.specs.Prelude.{◌≡◌, ◌+◌, ◌-◌, ◌<◌, ◌∷◌, [], length, drop, OnOk};
+ghost use Rattle.live_index.specs.Pairs.{Pairs};
 ghost use Rattle.shared_trees.specs.Ending.{Held, Lasts, with_ended};
-ghost use Rattle.shared_trees.specs.Meeting.{Met, with_met};
+ghost use Rattle.shared_trees.specs.Meeting.{Met as HeldMet, with_met};
 ghost use Rattle.shared_trees.specs.Skips.{Anew, Kept};
 
+use live_index::Live;
 use node_reader::Expect;
 use verdict::{Key, NoMemory};
 
@@ -17,6 +19,15 @@ pub struct Ended {
     pub last: Key,
 }
 
+/// A kept block that a walk met, and what a table of live pairs has of it.
+#[derive(Clone, Copy, Debug, PartialEq, Eq)]
+pub struct Met {
+    /// The block as it was expected.
+    pub expect: Expect,
+    /// Its pair in the table.
+    pub live: Option<Live>,
+}
+
 /// What says which blocks a walk keeps without reading them, and to which blocks it goes on below each of them.
 pub trait Keeps {
     /// The greatest key that is sure to stand in each block that is kept, or below it.
@@ -24,7 +35,9 @@ pub trait Keeps {
     /// The blocks that are walked below each kept block.
     ghost anew: { Self → Anew };
     /// The kept blocks that the walk met so far, in its order, where they are held.
-    ghost met: { Self → Met };
+    ghost met: { Self → HeldMet };
+    /// The live pairs by which blocks are kept.
+    ghost pairs: { Self → Pairs };
     /// The greatest key of each kept block, none where it is that of the last block that is walked below it.
     ghost lasts: { Self → Lasts };
     /// The blocks that the walk is done with so far, each behind all below it, where they are held.
@@ -36,6 +49,7 @@ pub trait Keeps {
         ensures same { keeps self.new ≡ keeps self.old }
         ensures same_anew { anew self.new ≡ anew self.old }
         ensures same_met { met self.new ≡ met self.old }
+        ensures same_pairs { pairs self.new ≡ pairs self.old }
         ensures same_lasts { lasts self.new ≡ lasts self.old }
         ensures same_ended { ended self.new ≡ ended self.old };
 
@@ -44,6 +58,7 @@ pub trait Keeps {
         ensures met { OnOk result (met self.new ≡ with_met (met self.old) (e.now ∷ [])) }
         ensures same { keeps self.new ≡ keeps self.old }
         ensures same_anew { anew self.new ≡ anew self.old }
+        ensures same_pairs { pairs self.new ≡ pairs self.old }
         ensures same_lasts { lasts self.new ≡ lasts self.old }
         ensures same_ended { ended self.new ≡ ended self.old };
 
@@ -59,6 +74,7 @@ pub trait Keeps {
         ensures same { keeps self.new ≡ keeps self.old }
         ensures same_anew { anew self.new ≡ anew self.old }
         ensures same_met { met self.new ≡ met self.old }
+        ensures same_pairs { pairs self.new ≡ pairs self.old }
         ensures same_lasts { lasts self.new ≡ lasts self.old }
         ensures same_ended { ended self.new ≡ ended self.old };
 
@@ -68,6 +84,7 @@ pub trait Keeps {
         ensures same { keeps self.new ≡ keeps self.old }
         ensures same_anew { anew self.new ≡ anew self.old }
         ensures same_met { met self.new ≡ met self.old }
+        ensures same_pairs { pairs self.new ≡ pairs self.old }
         ensures same_lasts { lasts self.new ≡ lasts self.old }
         ensures same_ended { ended self.new ≡ ended self.old };
 
@@ -79,5 +96,6 @@ pub trait Keeps {
         ensures same { keeps self.new ≡ keeps self.old }
         ensures same_anew { anew self.new ≡ anew self.old }
         ensures same_met { met self.new ≡ met self.old }
+        ensures same_pairs { pairs self.new ≡ pairs self.old }
         ensures same_lasts { lasts self.new ≡ lasts self.old };
 }

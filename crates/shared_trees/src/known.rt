@@ -1,14 +1,16 @@
 //! What is known of a tree as it was, and which of its blocks are kept by it.
 
-ghost use Rattle.std.specs.Prelude.{◌≡◌, ◌+◌, ◌-◌, ◌∷◌, ◌<◌, length, drop};
+ghost use Rattle.std.specs.Prelude.{◌≡◌, ◌+◌, ◌-◌, ◌∷◌, ◌<◌, Some, IfSome, length, drop};
+ghost use Rattle.std.specs.Option.{option_copied};
+ghost use Rattle.std.proofs.Props.{props};
 ghost use Rattle.live_index.specs.Table.{pairs_of};
 ghost use Rattle.touched_pairs.specs.Marks.{marked_by};
 ghost use Rattle.touched_pairs.specs.Moves.{move_passes};
 ghost use Rattle.shared_trees.specs.Keeping.{anew_of, bound_of, is_first, is_same, last_if_same, or_high, start_of, starts_of};
-ghost use Rattle.shared_trees.specs.Known.{ended_by, is_last_walked, kept_by, lasts_by, listed_by, met_by};
+ghost use Rattle.shared_trees.specs.Known.{AreMetBy, is_last_walked};
 ghost use Rattle.shared_trees.specs.Under.{under_of};
 
-use crate::keeps::{Ended, Keeps};
+use crate::keeps::{Ended, Keeps, Met};
 use crate::starts::{Start, Starts};
 use live_index::{Live, LiveIndex};
 use node_reader::Expect;
@@ -31,18 +33,49 @@ pub struct KnownTree<'a, 's, L> {
     pub starts: &'a Starts,
     /// The counter of looks into the table.
     pub steps: &'s mut Steps<L>,
-    /// The kept blocks that the walk met so far.
-    pub met: Vec<Expect>,
+    /// The kept blocks that the walk met so far, each with its pair.
+    pub met: Vec<Met>,
     /// The blocks that the walk is done with so far, each with its greatest key.
     pub ended: Vec<Ended>,
+    /// The pair that the table gave last, none before a walk.
+    pub found: Option<Live>,
+    ghost held: { AreMetBy (pairs_of table.now) met.items },
+    ghost stands: { IfSome found (λ live.
+        pairs_of table.now live.tree live.address ≡ Some live) } by { Prim.hlevel props },
+}
+
+impl<'a, 's, L> KnownTree<'a, 's, L> {
+    // The pair of a block in the table. A block that is asked for again is not looked for again.
+    fn pair_of(&mut self, e: &Expect) -> Option<Live>
+        ensures value { result ≡ pairs_of self.old.table.now (e.now).tree (e.now).address }
+        ensures table { self.new.table.now ≡ self.old.table.now }
+        ensures marks { self.new.marks.now ≡ self.old.marks.now }
+        ensures moves { self.new.moves.now ≡ self.old.moves.now }
+        ensures starts { self.new.starts.now ≡ self.old.starts.now }
+        ensures met { self.new.met ≡ self.old.met }
+        ensures ended { self.new.ended ≡ self.old.ended }
+    {
+        if let Some(live) = self.found
+            && live.address == e.address
+            && live.tree == e.tree
+        {
+            return Some(live);
+        }
+        self.found = self.table.get(e.tree, e.address, self.steps);
+        self.found
+    }
 }
 
 impl<'a, 's, L> Keeps for KnownTree<'a, 's, L> {
+    ghost use Rattle.shared_trees.specs.KnownTrees.{ended_by, kept_by, lasts_by, listed_by, met_by, pairs_by};
+
     ghost keeps = { kept_by };
 
     ghost anew = { listed_by };
 
     ghost met = { met_by };
+
+    ghost pairs = { pairs_by };
 
     ghost lasts = { lasts_by };
 
@@ -53,12 +86,14 @@ impl<'a, 's, L> Keeps for KnownTree<'a, 's, L> {
         if self.marks.has(e.tree, e.address) || self.moves.passes(e.address) {
             return None;
         }
-        bound_known(self.table, self.starts, e, self.steps)
+        let live = self.pair_of(e);
+        bound_in(live.as_ref(), self.starts, e)
     }
 
     #[tactic(auto, unfolding(crate::specs::Meeting::with_met))]
     fn meet(&mut self, e: &Expect) -> Result<(), NoMemory> {
-        match self.met.push(*e) {
+        let live = self.pair_of(e);
+        match self.met.push(Met { expect: *e, live }) {
             Ok(()) => Ok(()),
             Err(_) => Err(NoMemory),
         }
@@ -77,7 +112,7 @@ impl<'a, 's, L> Keeps for KnownTree<'a, 's, L> {
         if is_last_walked(self.starts.of(e.tree, e.address)) {
             return None;
         }
-        let live = self.table.get(e.tree, e.address, self.steps)?;
+        let live = self.pair_of(e)?;
         Some(live.last)
     }
 
@@ -90,18 +125,13 @@ impl<'a, 's, L> Keeps for KnownTree<'a, 's, L> {
     }
 }
 
-// The greatest key that is sure to stand in the block that is expected, or below it, where a table knows it as it is expected.
-pub(crate) fn bound_known<L>(
-    table: &LiveIndex<L>,
-    starts: &Starts,
-    e: &Expect,
-    steps: &mut Steps<L>,
-) -> Option<Key>
+// The greatest key that is sure to stand in the block that is expected, or below it, where its pair is as it is expected.
+pub(crate) fn bound_in(live: Option<&Live>, starts: &Starts, e: &Expect) -> Option<Key>
     ensures value { result ≡ last_if_same e.now (under_of starts.now (e.now).tree (e.now).address)
-        (pairs_of table.now (e.now).tree (e.now).address) }
+        (option_copied live.entry) }
 {
-    let live = table.get(e.tree, e.address, steps)?;
-    if is_same(e, &live) {
+    let live = live?;
+    if is_same(e, live) {
         Some(bound(starts.of(e.tree, e.address), live.last))
     } else {
         None

@@ -7,9 +7,10 @@ mod known;
 mod laws;
 mod old;
 mod starts;
+mod stops;
 
 pub use changed::walk_changed;
-pub use keeps::{Ended, Keeps};
+pub use keeps::{Ended, Keeps, Met};
 pub use known::KnownTree;
 pub use laws::{
     array_apart_law, array_kept_law, array_law, array_moves_law, array_shifted_law,
@@ -21,5 +22,6 @@ pub use laws::{
     supers_law, table_law, tables_law, tells_law, tree_table_law, trees_law, unshared_law,
     walk_is_own,
 };
-pub use old::{OldTree, stops_of};
+pub use old::OldTree;
 pub use starts::{Start, Starts};
+pub use stops::Stops;

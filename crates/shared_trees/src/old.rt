@@ -2,43 +2,46 @@
 
 ghost use Rattle.std.specs.Prelude.{◌≡◌, ℕ, ◌+◌, ◌-◌, ◌∷◌, ◌<◌, length, drop, IfOk};
 ghost use Rattle.live_index.specs.Table.{pairs_of};
-ghost use Rattle.touched_pairs.specs.Marks.{marked_by};
 ghost use Rattle.shared_trees.specs.Keeping.{anew_of, bound_of, is_same, start_of, starts_of};
-ghost use Rattle.shared_trees.specs.Stopping.{MarksStops, kept_by_stops, listed_by_stops, none_ended, none_last, none_met};
+ghost use Rattle.shared_trees.specs.Known.{AreMetBy};
 ghost use Rattle.shared_trees.specs.Under.{under_of};
 
 use crate::keeps::Keeps;
-use crate::known::{bound_known, count_below, next_below};
+use crate::known::{bound_in, count_below, next_below};
 use crate::starts::Starts;
+use crate::stops::Stops;
 use live_index::LiveIndex;
 use node_reader::Expect;
 use recon_disk::Steps;
-use std::alloc::Global;
-use touched_pairs::Marks;
 use verdict::{Key, NoMemory};
 
-/// What is known of a tree as it was, and where its walk stops: at the blocks that the walk of the tree as it is met. Each block that
-/// is asked for looks at most once into the table.
+/// What is known of a tree as it was, and where its walk stops: at the blocks that the walk of the tree as it is met. Each block that is
+/// asked for looks at most once into the table, and those at the stops, where they come in the order of that walk, do not.
 #[derive(Drop)]
 pub struct OldTree<'a, 's, 'm, L> {
-    /// The id under which the stops are marked.
-    pub tree: u64,
     /// The live pairs.
     pub table: &'a LiveIndex<L>,
     /// The stops.
-    pub stops: &'m Marks,
+    pub stops: &'m Stops<'m>,
     /// The children that are walked below kept blocks.
     pub starts: &'a Starts,
     /// The counter of looks into the table.
     pub steps: &'s mut Steps<L>,
+    /// How many of the stops the walk came to.
+    pub next: usize,
+    ghost held: { AreMetBy (pairs_of table.now) stops.now.met.now },
 }
 
 impl<'a, 's, 'm, L> Keeps for OldTree<'a, 's, 'm, L> {
+    ghost use Rattle.shared_trees.specs.OldTrees.{kept_by_stops, listed_by_stops, none_ended, none_last, none_met, pairs_by_stops};
+
     ghost keeps = { kept_by_stops };
 
     ghost anew = { listed_by_stops };
 
     ghost met = { none_met };
+
+    ghost pairs = { pairs_by_stops };
 
     ghost lasts = { none_last };
 
@@ -46,10 +49,18 @@ impl<'a, 's, 'm, L> Keeps for OldTree<'a, 's, 'm, L> {
 
     #[tactic(auto, unfolding(crate::specs::Stopping::kept_among))]
     fn kept(&mut self, e: &Expect) -> Option<Key> {
-        if !self.stops.has(self.tree, e.address) {
+        if let Some(stop) = self.stops.at(self.next)
+            && stop.expect.address == e.address
+            && stop.expect.tree == e.tree
+        {
+            self.next = self.next.saturating_add(1);
+            return bound_in(stop.live.as_ref(), self.starts, e);
+        }
+        if !self.stops.has(e.address) {
             return None;
         }
-        bound_known(self.table, self.starts, e, self.steps)
+        let live = self.table.get(e.tree, e.address, self.steps);
+        bound_in(live.as_ref(), self.starts, e)
     }
 
     #[tactic(auto, unfolding(crate::specs::Meeting::with_met))]
@@ -73,16 +84,4 @@ impl<'a, 's, 'm, L> Keeps for OldTree<'a, 's, 'm, L> {
     fn end(&mut self, _e: &Expect, _last: Key) -> Result<(), NoMemory> {
         Ok(())
     }
-}
-
-/// Marks at the addresses of the blocks that a walk met, all under the id of its tree. They take their memory from this allocator.
-#[tactic(auto, using(crate::proofs::Stopping::stop_steps))]
-pub fn stops_of(alloc: Global, tree: u64, met: &[Expect]) -> Result<Marks, NoMemory>
-    ensures { IfOk result (λ stops. MarksStops (marked_by stops) tree met.now) }
-{
-    let mut stops = Marks::new(alloc);
-    for e in met {
-        stops.put(tree, e.address)?;
-    }
-    Ok(stops)
 }

@@ -21,9 +21,6 @@ left_of = elim [ true ↦ λ b e. refl | false ↦ λ b e. e ]
 right_of : (a b : Bool) → (a && b) ≡ true → b ≡ true
 right_of = elim [ true ↦ λ b e. e | false ↦ λ b e. cc ]
 
-pub own_pair : (t a : ℕ) → is_pair t a t a ≡ true
-own_pair t a = and_true _ _ (itself t) (itself a)
-
 pub same_tree : (t a tree address : ℕ) → is_pair t a tree address ≡ true → t ≡ tree
 same_tree t a tree address e = eqb-true t tree (left_of _ _ e)
 

@@ -1,10 +1,11 @@
 -- Which blocks moved, chunk by chunk.
-use Rattle.std.proofs.Common.{◌≡◌, ℕ, ◌+◌, ◌-◌, ◌<◌, ◌==◌, Bool, true, false, ◌&&◌, nat_le, cond, List, [], ◌∷◌, length, take, get_or, ◌⊎◌, inl, inr, sym, ◌∙◌, refl, ap, subst, arith}
+use Rattle.std.proofs.Common.{◌≡◌, ℕ, ◌+◌, ◌-◌, ◌<◌, ◌==◌, Bool, true, false, ◌&&◌, nat_eq, nat_le, cond, List, [], ◌∷◌, length, take, get_or, ◌⊎◌, inl, inr, sym, ◌∙◌, refl, ap, subst, arith}
 use Rattle.std.specs.Prelude.{Option, Some, None, is_some, not}
+use Rattle.std.specs.Bool.{Decides}
 use Rattle.std.specs.List.{AllByRecursion, list_any}
+use Rattle.std.specs.Option.{option_eq}
 use Rattle.std.proofs.lemmas.Bool.{eqb-true}
-use Rattle.std.proofs.lemmas.Bool.Decides.{nat_tests}
-use Rattle.std.proofs.lemmas.List.Folds.{list_any_more}
+use Rattle.std.proofs.lemmas.Bool.Decides.{Decides-and, Decides-eqb, Decides-like, nat_tests}
 use Rattle.verdict.specs.Chunks.{holds_range, home, place, place_in, place_of_copies}
 use Rattle.verdict.specs.declared.place.Chunk.{Chunk}
 use Rattle.verdict.specs.declared.place.Place.{Place}
@@ -16,28 +17,18 @@ use Rattle.touched_pairs.specs.Marks.{Marked, no_mark}
 use Rattle.touched_pairs.specs.Moves.{AreApart, LieApart, changed_holds, held_and_moved, in_changed, in_changed_chunk, is_kept_chunk, is_moved, is_same_in, move_passes, same_chunk, same_second}
 use Rattle.touched_pairs.specs.Spots.{at_address}
 use Rattle.touched_pairs.specs.Touched.{same_place, stays_in_place}
-use Rattle.touched_pairs.proofs.Marking.{marked_as, marked_none, marked_then}
-use Rattle.touched_pairs.proofs.Writing.{left_of, right_of, and_true, either, or_left, or_right, decided, from_none}
+use Rattle.touched_pairs.proofs.Each.{each_more, each_start}
+use Rattle.touched_pairs.proofs.Marking.{marked_as}
+use Rattle.touched_pairs.proofs.Writing.{left_of, right_of, and_true, or_left, or_right, decided, from_none}
 
 pub moves_start : (pairs : Pairs) (move : Move) (chunks : List Chunk) (old : Marked) → AreMarkedFrom pairs (in_changed move (take 0 chunks)) (at_address (move_passes move)) old old
-moves_start pairs move chunks old = marked_none pairs (in_changed move (take 0 chunks)) (at_address (move_passes move)) old (λ t a s. none a s)
-  where
-    none : (a : ℕ) → (false && move_passes move a) ≡ true → ⊥
-    none a h = cc
+moves_start pairs move chunks old = each_start pairs (changed_holds move) (move_passes move) chunks old
 
 pub moves_more : (pairs : Pairs) (move : Move) (chunks : List Chunk) (i : ℕ) (d : Chunk) (old mid new : Marked)
     → AreMarkedFrom pairs (in_changed move (take i chunks)) (at_address (move_passes move)) old mid → i < length chunks
     → AreMarkedFrom pairs (in_changed_chunk move (get_or chunks i d)) (at_address (move_passes move)) mid new
     → AreMarkedFrom pairs (in_changed move (take (i + 1) chunks)) (at_address (move_passes move)) old new
-moves_more pairs move chunks i d old mid new begun inside more =
-    marked_then pairs (in_changed move (take i chunks)) (at_address (move_passes move)) (in_changed_chunk move (get_or chunks i d)) (at_address (move_passes move))
-    (in_changed move (take (i + 1) chunks)) (at_address (move_passes move)) old mid new begun more
-    (λ t a small low s some.
-    elim (either _ _ (sym (list_any_more (changed_holds move a) chunks i d inside) ∙ left_of _ (move_passes move a) s)) [
-      | inl before ↦ inl (and_true _ _ before (right_of (list_any (changed_holds move a) (take (i + 1) chunks)) _ s))
-      | inr here ↦ inr (and_true _ _ here (right_of (list_any (changed_holds move a) (take (i + 1) chunks)) _ s))
-    ])
-    (λ t a s. s) (λ t a s. s)
+moves_more pairs move chunks i d old mid new begun inside more = each_more pairs (changed_holds move) (move_passes move) chunks i d old mid new begun inside more
 
 pub moves_all : (pairs : Pairs) (move : Move) (chunks : List Chunk) (i : ℕ) (old new : Marked) → chunks ≡ move.old.now → take i chunks ≡ chunks
     → AreMarkedFrom pairs (in_changed move (take i chunks)) (at_address (move_passes move)) old new
@@ -188,13 +179,53 @@ moved_changed move a apart some h =
     ])
     held.0)
 
-pub moved_marked : (pairs : Pairs) (move : Move) (old new : Marked) → ((t a : ℕ) → old t a ≡ false) → AreApart move.new.now → 0 < move.nodesize
-    → AreMarkedFrom pairs (in_changed move move.old.now) (at_address (move_passes move)) old new
-    → AreMarkedFrom pairs (at_address (held_and_moved move.old.now move.new.now move.nodesize move.end)) (at_address (is_moved move.old.now move.new.now move.nodesize move.end)) no_mark new
+-- ---- lists that are the same
+
+option_decides : (x y : Option ℕ) → Decides (option_eq nat_eq x y) (x ≡ y)
+option_decides None None = ((λ _. refl), (λ _. refl))
+option_decides None (Some y) = ((λ is. cc), (λ is. cc))
+option_decides (Some x) None = ((λ is. cc), (λ is. cc))
+option_decides (Some x) (Some y) = Decides-like (x == y) (ap Some) (λ is. cc) (Decides-eqb x y)
+
+-- what `==` of two chunks compares decides whether they are the same
+pub chunk_decides : (c d : Chunk)
+    → Decides (c.start == d.start && (c.length == d.length && (c.class == d.class && (c.first == d.first && option_eq nat_eq c.second d.second)))) (c ≡ d)
+chunk_decides c d =
+    Decides-like _ alike
+    (λ is. (ap (λ x. x.start) is, (ap (λ x. x.length) is, (ap (λ x. x.class) is, (ap (λ x. x.first) is, ap (λ x. x.second) is)))))
+    (Decides-and _ _ (Decides-eqb c.start d.start)
+    (Decides-and _ _ (Decides-eqb c.length d.length)
+    (Decides-and _ _ (Decides-eqb c.class d.class) (Decides-and _ _ (Decides-eqb c.first d.first) (option_decides c.second d.second)))))
+  where
+    made : ℕ → ℕ → ℕ → ℕ → Option ℕ → Chunk
+    made s l k f o = record { start = s; length = l; class = k; first = f; second = o }
+
+    alike : (c.start ≡ d.start) × ((c.length ≡ d.length) × ((c.class ≡ d.class) × ((c.first ≡ d.first) × (c.second ≡ d.second)))) → c ≡ d
+    alike (start, (length_, (class_, (first, second)))) =
+        let same : made c.start c.length c.class c.first c.second ≡ made d.start d.length d.class d.first d.second = cc in same
+
+-- the marks on what moved
+abbrev pub AreMoveMarks : Pairs → Marked → List Chunk → List Chunk → ℕ → ℕ → Type 0
+AreMoveMarks pairs marked old new n end =
+    AreApart new → 0 < n → AreMarkedFrom pairs (at_address (held_and_moved old new n end)) (at_address (is_moved old new n end)) no_mark marked
+
+moved_marked : (pairs : Pairs) (move : Move) (none marked : Marked) → ((t a : ℕ) → none t a ≡ false)
+    → AreMarkedFrom pairs (in_changed move move.old.now) (at_address (move_passes move)) none marked
+    → AreMoveMarks pairs marked move.old.now move.new.now move.nodesize move.end
 unfolding move_passes
-moved_marked pairs move old new none apart some marked =
-    from_none pairs (at_address (held_and_moved move.old.now move.new.now move.nodesize move.end)) (at_address (is_moved move.old.now move.new.now move.nodesize move.end)) old new none
+moved_marked pairs move none marked unmarked more apart some =
+    from_none pairs (at_address (held_and_moved move.old.now move.new.now move.nodesize move.end)) (at_address (is_moved move.old.now move.new.now move.nodesize move.end)) none marked unmarked
     (marked_as pairs (in_changed move move.old.now) (at_address (move_passes move)) (at_address (held_and_moved move.old.now move.new.now move.nodesize move.end))
-    (at_address (is_moved move.old.now move.new.now move.nodesize move.end)) old new marked
+    (at_address (is_moved move.old.now move.new.now move.nodesize move.end)) none marked more
     (λ t a small low s there. and_true _ _ (moved_changed move a apart some s) (right_of (is_some (home move.old.now a move.nodesize)) _ s))
     (λ t a s. s))
+
+-- the same by the lists, the size and the end that a move is made of
+pub moved_told : (pairs : Pairs) (move : Move) (old new : List Chunk) (n end : ℕ) (none marked : Marked)
+    → move.old.now ≡ old → move.new.now ≡ new → move.nodesize ≡ n → move.end ≡ end → ((t a : ℕ) → none t a ≡ false)
+    → AreMarkedFrom pairs (in_changed move move.old.now) (at_address (move_passes move)) none marked → AreMoveMarks pairs marked old new n end
+moved_told pairs move old new n end none marked is_old is_new is_size is_end unmarked more =
+    subst (AreMoveMarks pairs marked old new n) is_end
+    (subst (λ x. AreMoveMarks pairs marked old new x move.end) is_size
+    (subst (λ x. AreMoveMarks pairs marked old x move.nodesize move.end) is_new
+    (subst (λ x. AreMoveMarks pairs marked x move.new.now move.nodesize move.end) is_old (moved_marked pairs move none marked unmarked more))))

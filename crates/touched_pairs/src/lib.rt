@@ -4,12 +4,15 @@
 mod mark;
 mod marks;
 mod moved;
+mod moves;
+mod pending;
 mod spot;
 mod test;
 mod written;
 
 pub use mark::parent_of;
 pub use marks::{Marks, PairPlace};
-pub use moved::{Move, moved_pairs};
+pub use moved::Move;
+pub use moves::moved_pairs;
 pub use test::AddressTest;
 pub use written::touched_pairs;

@@ -7,10 +7,12 @@ ghost use Rattle.live_index.specs.Table.{pairs_of};
 ghost use Rattle.touched_pairs.specs.Going.{IsNext, met};
 ghost use Rattle.touched_pairs.specs.Marking.{AreMarked, AreMarkedFrom, parent_of};
 ghost use Rattle.touched_pairs.specs.Marks.{is_pair, marked_by};
-ghost use Rattle.touched_pairs.specs.Spots.{at_address, in_chunk, in_copy, lies_between, spot_meets};
+ghost use Rattle.touched_pairs.specs.Pending.{in_chunk, in_copy, in_spot, touches};
+ghost use Rattle.touched_pairs.specs.Spots.{at_address, lies_between};
 
 use crate::marks::Marks;
-use crate::spot::Spot;
+use crate::pending::Pending;
+use crate::spot::{Spot, spots_in};
 use crate::test::AddressTest;
 use live_index::{Live, LiveIndex};
 use recon_disk::Steps;
@@ -57,60 +59,81 @@ pub fn parent_of<L>(table: &LiveIndex<L>, live: &Live, steps: &mut Steps<L>) -> 
     }
 }
 
-/// Marks the pairs of a table of whose blocks the spot meets a copy, and all that stand above them in their trees.
+/// Marks the pairs of a table of whose blocks pending writes touch a copy, and all that stand above them in their trees.
 #[tactic(auto, using(crate::proofs::Spotting::chunks))]
-pub(crate) fn mark_spot<L>(
+pub(crate) fn mark_touched<L>(
     table: &LiveIndex<L>,
-    spot: &Spot<'_>,
+    pending: &Pending<'_>,
     marks: &mut Marks,
     steps: &mut Steps<L>,
 ) -> Result<(), NoMemory>
     ensures ok { OnOk result (AreMarked (pairs_of table.now)
-        (at_address (spot_meets spot.now)) (marked_by marks.old) (marked_by marks.new)) }
+        (at_address (touches pending.now)) (marked_by marks.old) (marked_by marks.new)) }
 {
-    for chunk in spot.map.chunks() {
-        mark_chunk(table, spot, chunk, marks, steps)?;
+    for chunk in pending.map.chunks() {
+        mark_chunk(table, pending, chunk, marks, steps)?;
     }
     Ok(())
 }
 
-// Marks the pairs of a table of whose blocks the spot meets a copy in a chunk, and all that stand above them.
+// Marks the pairs of a table of whose blocks pending writes touch a copy in a chunk, and all that stand above them.
 #[tactic(auto, using(crate::proofs::Spotting::copies))]
 fn mark_chunk<L>(
     table: &LiveIndex<L>,
-    spot: &Spot<'_>,
+    pending: &Pending<'_>,
     chunk: &Chunk,
     marks: &mut Marks,
     steps: &mut Steps<L>,
 ) -> Result<(), NoMemory>
     ensures ok { OnOk result (AreMarkedFrom (pairs_of table.now)
-        (in_chunk spot.now chunk.now) (at_address (spot_meets spot.now))
+        (in_chunk pending.now chunk.now) (at_address (touches pending.now))
         (marked_by marks.old) (marked_by marks.new)) }
 {
-    mark_copy(table, spot, chunk, chunk.first, marks, steps)?;
+    mark_copy(table, pending, chunk, chunk.first, marks, steps)?;
     match chunk.second {
         None => Ok(()),
-        Some(second) => mark_copy(table, spot, chunk, second, marks, steps),
+        Some(second) => mark_copy(table, pending, chunk, second, marks, steps),
     }
 }
 
 // The same in the chunk's copy that begins at an offset of the device.
-#[tactic(auto, using(crate::proofs::Spotting::ranges))]
+#[tactic(auto, using(crate::proofs::Spotting::spots))]
 fn mark_copy<L>(
     table: &LiveIndex<L>,
-    spot: &Spot<'_>,
+    pending: &Pending<'_>,
     chunk: &Chunk,
     copy: u64,
     marks: &mut Marks,
     steps: &mut Steps<L>,
 ) -> Result<(), NoMemory>
     ensures ok { OnOk result (AreMarkedFrom (pairs_of table.now)
-        (in_copy spot.now chunk.now copy) (at_address (spot_meets spot.now))
+        (in_copy pending.now chunk.now copy) (at_address (touches pending.now))
         (marked_by marks.old) (marked_by marks.new)) }
 {
-    match spot.blocks_in(chunk, copy) {
+    for spot in spots_in(pending.spots.as_slice(), copy, chunk.length) {
+        mark_spot(table, pending, spot, chunk, copy, marks, steps)?;
+    }
+    Ok(())
+}
+
+// The same of those blocks alone of which a range of the device meets that copy.
+#[tactic(auto, using(crate::proofs::Spotting::ranges))]
+fn mark_spot<L>(
+    table: &LiveIndex<L>,
+    pending: &Pending<'_>,
+    spot: &Spot,
+    chunk: &Chunk,
+    copy: u64,
+    marks: &mut Marks,
+    steps: &mut Steps<L>,
+) -> Result<(), NoMemory>
+    ensures ok { OnOk result (AreMarkedFrom (pairs_of table.now)
+        (in_spot pending.now spot.now chunk.now copy) (at_address (touches pending.now))
+        (marked_by marks.old) (marked_by marks.new)) }
+{
+    match spot.blocks_in(chunk, copy, pending.nodesize) {
         None => Ok(()),
-        Some((from, last)) => mark_between(table, spot, from, last, marks, steps),
+        Some((from, last)) => mark_between(table, pending, from, last, marks, steps),
     }
 }
 

@@ -1,21 +1,11 @@
-//! The pairs of a table whose blocks stand at another place under new chunks.
+//! Two lists of chunks, by which a block may stand at two places.
 
-ghost use Rattle.std.specs.Prelude.{◌≡◌, ◌<◌, ◌&&◌, not, IfOk, OnOk};
-ghost use Rattle.live_index.specs.Table.{pairs_of};
-ghost use Rattle.touched_pairs.specs.Marking.{AreMarkedFrom};
-ghost use Rattle.touched_pairs.specs.Marks.{marked_by, no_mark};
-ghost use Rattle.touched_pairs.specs.Moves.{AreApart, held_and_moved, in_changed, in_changed_chunk, is_kept_chunk, is_moved, move_passes, same_chunk};
-ghost use Rattle.touched_pairs.specs.Spots.{at_address};
+ghost use Rattle.std.specs.Prelude.{◌≡◌, true};
 ghost use Rattle.touched_pairs.specs.Touched.{same_place};
 
-use crate::mark::mark_between;
-use crate::marks::Marks;
 use crate::test::AddressTest;
 use chunk_map::ChunkMap;
-use live_index::LiveIndex;
-use recon_disk::Steps;
-use std::alloc::Global;
-use verdict::{Chunk, NoMemory, Place};
+use verdict::Place;
 
 /// Two lists of chunks, by which a block may stand at two places.
 #[derive(Drop)]
@@ -28,14 +18,43 @@ pub struct Move<'a> {
     pub nodesize: u32,
     /// The device's length in bytes.
     pub end: u64,
+    // Whether both lists are known to be the same, so that no block moves.
+    pub(crate) is_same: bool,
+    ghost same: { is_same ≡ true → old.now ≡ new.now },
+}
+
+impl<'a> Move<'a> {
+    ghost use Rattle.std.specs.Prelude.{◌≡◌};
+
+    /// The move from old chunks to new ones, of blocks of `nodesize` bytes on a device of `end` bytes. It costs a pass over the chunks.
+    pub fn new(old: &'a ChunkMap, new: &'a ChunkMap, nodesize: u32, end: u64) -> Move<'a>
+        ensures old { result.old.now ≡ old.now }
+        ensures new { result.new.now ≡ new.now }
+        ensures nodesize { result.nodesize ≡ nodesize }
+        ensures end { result.end ≡ end }
+    {
+        Move {
+            old,
+            new,
+            nodesize,
+            end,
+            is_same: old.chunks() == new.chunks(),
+        }
+    }
 }
 
 impl<'a> AddressTest for Move<'a> {
+    ghost use Rattle.touched_pairs.specs.Moves.{move_passes};
+
     ghost passes = { move_passes };
 
-    /// Whether the block at a logical address stands at another place under the new chunks.
+    /// Whether the block at a logical address stands at another place under the new chunks. Where the lists are known to be the same, no
+    /// chunk is looked for.
     #[tactic(auto, unfolding(crate::specs::Moves::move_passes))]
     fn passes(&self, address: u64) -> bool {
+        if self.is_same {
+            return false;
+        }
         let size = u64::from(self.nodesize);
         let old = self.old.place(address, size, self.end);
         let new = self.new.place(address, size, self.end);
@@ -53,94 +72,4 @@ fn same_place(one: Place, other: Place) -> bool
         (Place::Two(a, b), Place::Two(c, d)) => a == c && b == d,
         _ => false,
     }
-}
-
-/// Marks on the pairs of a table whose block stands at another place, or at none, under new chunks than under the old ones that hold
-/// it, and on all pairs that stand above them in their trees. A block has `nodesize` bytes, and the device `end`. It costs a search for
-/// each chunk, and looks at the pairs of those alone that are not the same in the new list. No two of the new chunks may overlap.
-
-pub fn moved_pairs<L>(
-    alloc: Global,
-    table: &LiveIndex<L>,
-    old: &ChunkMap,
-    new: &ChunkMap,
-    nodesize: u32,
-    end: u64,
-    steps: &mut Steps<L>,
-) -> Result<Marks, NoMemory>
-    ensures ok { AreApart new.now → 0 < nodesize → IfOk result (λ marks. AreMarkedFrom
-        (pairs_of table.now)
-        (at_address (held_and_moved old.now new.now nodesize end))
-        (at_address (is_moved old.now new.now nodesize end)) no_mark (marked_by marks)) }
-{
-    let mut marks = Marks::new(alloc);
-    let test = Move {
-        old,
-        new,
-        nodesize,
-        end,
-    };
-    mark_moves(table, &test, &mut marks, steps)?;
-    Ok(marks)
-}
-
-// Marks the pairs of a table whose block stands at another place, and all that stand above them.
-#[tactic(auto, using(crate::proofs::Moving::moves))]
-fn mark_moves<L>(
-    table: &LiveIndex<L>,
-    test: &Move<'_>,
-    marks: &mut Marks,
-    steps: &mut Steps<L>,
-) -> Result<(), NoMemory>
-    ensures ok { OnOk result (AreMarkedFrom (pairs_of table.now)
-        (in_changed test.now (test.now).old.now) (at_address (move_passes test.now))
-        (marked_by marks.old) (marked_by marks.new)) }
-{
-    for chunk in test.old.chunks() {
-        mark_chunk(table, test, chunk, marks, steps)?;
-    }
-    Ok(())
-}
-
-// The same of the blocks that a chunk holds, where it is not the same among the new ones.
-fn mark_chunk<L>(
-    table: &LiveIndex<L>,
-    test: &Move<'_>,
-    chunk: &Chunk,
-    marks: &mut Marks,
-    steps: &mut Steps<L>,
-) -> Result<(), NoMemory>
-    ensures ok { OnOk result (AreMarkedFrom (pairs_of table.now)
-        (in_changed_chunk test.now chunk.now) (at_address (move_passes test.now))
-        (marked_by marks.old) (marked_by marks.new)) }
-{
-    if is_kept(test.new, chunk) {
-        return Ok(());
-    }
-    let last = chunk.start.saturating_add(chunk.length);
-    mark_between(table, test, chunk.start, last, marks, steps)
-}
-
-// Whether a chunk is the same in a list.
-fn is_kept(new: &ChunkMap, chunk: &Chunk) -> bool
-    ensures { result ≡ is_kept_chunk new.now chunk.now }
-{
-    match new.home(chunk.start, chunk.length) {
-        None => false,
-        Some(other) => same_chunk(chunk, &other),
-    }
-}
-
-// Whether two chunks hold the same addresses at the same places.
-fn same_chunk(one: &Chunk, other: &Chunk) -> bool
-    ensures { result ≡ same_chunk one.now other.now }
-{
-    one.start == other.start
-        && one.length == other.length
-        && one.first == other.first
-        && match (one.second, other.second) {
-            (None, None) => true,
-            (Some(a), Some(b)) => a == b,
-            _ => false,
-        }
 }

@@ -1,50 +1,34 @@
-//! A range of the device, and the blocks of which it meets a copy.
+//! Ranges of bytes of the device, and the blocks of which they meet a copy.
 
-ghost use Rattle.std.specs.Prelude.{◌≡◌, ◌<◌, ◌^◌, ℕ, true};
-ghost use Rattle.touched_pairs.specs.Spots.{LiesIn, meets_copy, meets_in_copy, ranges_meet, spot_meets};
+ghost use Rattle.std.specs.Prelude.{◌≡◌, ◌+◌, ◌≤◌, ◌<◌, ◌^◌, ℕ, true, nat_le, nat_lt, IfOk, IfSome};
+ghost use Rattle.std.specs.List.{list_any};
+ghost use Rattle.touched_pairs.specs.Spots.{AreSpotsOf, LiesIn, StandApart, has_offset, meets_in_copy};
+ghost use Rattle.touched_pairs.specs.Touched.{written_in};
 
-use crate::test::AddressTest;
-use chunk_map::ChunkMap;
-use verdict::{Chunk, Place};
+use std::alloc::Global;
+use verdict::{Chunk, NoMemory};
+use write_cache::WriteCache;
 
-/// A range of bytes of a device, and by which chunks blocks stand on it.
-#[derive(Drop)]
-pub(crate) struct Spot<'a> {
+/// A range of bytes of a device.
+#[derive(Clone, Copy)]
+pub(crate) struct Spot {
     /// The offset of its first byte on the device.
     pub(crate) at: u64,
     /// How many bytes it has.
     pub(crate) len: u64,
-    /// The size of a tree block in bytes.
-    pub(crate) nodesize: u32,
-    /// The device's length in bytes.
-    pub(crate) end: u64,
-    /// The chunks.
-    pub(crate) map: &'a ChunkMap,
 }
 
-impl<'a> AddressTest for Spot<'a> {
-    ghost passes = { spot_meets };
-
-    /// Whether the range meets a copy of the block at a logical address.
-    #[tactic(auto, unfolding(crate::specs::Spots::spot_meets))]
-    fn passes(&self, address: u64) -> bool {
-        let size = u64::from(self.nodesize);
-        meets_copy(
-            self.at,
-            self.len,
-            size,
-            self.map.place(address, size, self.end),
-        )
-    }
-}
-
-impl<'a> Spot<'a> {
-    /// The least and the greatest address that a block of a chunk may have that the range meets in the chunk's copy that begins at an
-    /// offset of the device, `None` where it meets nothing of that copy.
-    pub(crate) fn blocks_in(&self, chunk: &Chunk, copy: u64) -> Option<(u64, u64)>
-        ensures { (a : ℕ) → a < 2 ^ 64 →
-            meets_in_copy self.now chunk.now copy a ≡ true → LiesIn result a }
+impl Spot {
+    /// The least and the greatest address that a block of a chunk, of `nodesize` bytes, may have that the range meets in the chunk's copy
+    /// that begins at an offset of the device, `None` where it meets nothing of that copy. The least does not lie in front of the chunk, and
+    /// the greatest not behind it.
+    pub(crate) fn blocks_in(&self, chunk: &Chunk, copy: u64, nodesize: u32) -> Option<(u64, u64)>
+        ensures met { (a : ℕ) → a < 2 ^ 64 →
+            meets_in_copy self.now nodesize chunk.now copy a ≡ true → LiesIn result a }
+        ensures low { IfSome result (λ range. chunk.now.start ≤ range.0) }
+        ensures high { IfSome result (λ range. range.1 < chunk.now.start + chunk.now.length) }
     {
+        let inside = chunk.length.checked_sub(1)?;
         let more = self.len.checked_sub(1)?;
         let reach = if self.at < copy {
             more.checked_sub(copy - self.at)?
@@ -52,29 +36,48 @@ impl<'a> Spot<'a> {
             (self.at - copy).saturating_add(more)
         };
         let low = chunk.start.saturating_add(self.at.saturating_sub(copy));
-        let from = low.saturating_sub(u64::from(self.nodesize.saturating_sub(1)));
-        Some((from, chunk.start.saturating_add(reach)))
+        let from = low.saturating_sub(u64::from(nodesize.saturating_sub(1)));
+        let last = chunk.start.saturating_add(reach.min(inside));
+        Some((from.max(chunk.start), last))
+    }
+
+    // Whether it ends at an offset or before it.
+    fn ends_by(&self, offset: u64) -> bool
+        ensures { result ≡ nat_le (self.now.at + self.now.len) offset }
+    {
+        self.at <= offset && self.len <= offset - self.at
+    }
+
+    // Whether it begins before the end of `len` bytes from an offset on.
+    fn begins_before(&self, from: u64, len: u64) -> bool
+        ensures { result ≡ nat_lt self.now.at (from + len) }
+    {
+        self.at < from || self.at - from < len
     }
 }
 
-// Whether `m` bytes from an offset on meet a copy of `n` bytes.
-fn meets_copy(at: u64, m: u64, n: u64, place: Place) -> bool
-    ensures { result ≡ meets_copy at m n place }
+/// Those of some ranges in rising order that may have one of the `len` bytes from an offset on. They are found by two binary searches.
+pub(crate) fn spots_in(spots: &[Spot], from: u64, len: u64) -> &[Spot]
+    requires { StandApart spots.now }
+    ensures { (o : ℕ) → from ≤ o → o < from + len →
+        list_any (has_offset o) result.now ≡ list_any (has_offset o) spots.now }
 {
-    match place {
-        Place::Nowhere => false,
-        Place::One(first) => ranges_meet(at, m, first, n),
-        Place::Two(first, second) => ranges_meet(at, m, first, n) || ranges_meet(at, m, second, n),
-    }
+    let first = spots.partition_point(|spot| spot.ends_by(from));
+    let rest = &spots[first..];
+    let count = rest.partition_point(|spot| spot.begins_before(from, len));
+    &rest[..count]
 }
 
-// Whether two ranges of bytes have one in common.
-fn ranges_meet(at: u64, m: u64, from: u64, n: u64) -> bool
-    ensures { result ≡ ranges_meet at m from n }
+/// The ranges of the bytes that pending writes have, in rising order. The list takes its memory from this allocator.
+pub(crate) fn spots_of(alloc: Global, cache: &WriteCache) -> Result<Vec<Spot>, NoMemory>
+    ensures { IfOk result (λ spots. AreSpotsOf (written_in cache.now) spots.items) }
 {
-    if from < at {
-        at - from < n && 0 < m
-    } else {
-        from - at < m && 0 < n
+    let mut spots = Vec::new(alloc);
+    for (at, bytes) in cache.parts() {
+        let len = bytes.len() as u64;
+        if spots.push(Spot { at, len }).is_err() {
+            return Err(NoMemory);
+        }
     }
+    Ok(spots)
 }

@@ -7,9 +7,10 @@ ghost use Rattle.touched_pairs.specs.Marks.{marked_by, no_mark};
 ghost use Rattle.touched_pairs.specs.Spots.{at_address};
 ghost use Rattle.touched_pairs.specs.Touched.{touches_block, written_in};
 
-use crate::mark::mark_spot;
+use crate::mark::mark_touched;
 use crate::marks::Marks;
-use crate::spot::Spot;
+use crate::pending::Pending;
+use crate::spot::spots_of;
 use chunk_map::ChunkMap;
 use live_index::LiveIndex;
 use recon_disk::Steps;
@@ -18,7 +19,10 @@ use verdict::NoMemory;
 use write_cache::WriteCache;
 
 /// Marks on the pairs of a table of whose blocks a pending write touches a byte of a copy, and on all pairs that stand above them in
-/// their trees. A block has `nodesize` bytes, and its copies stand by the chunks of `map` on a device of `end` bytes.
+/// their trees. A block has `nodesize` bytes, and its copies stand by the chunks of `map` on a device of `end` bytes. It costs a pass
+/// over the parts of the writes, two binary searches among them for each copy of a chunk, and for each part that meets the copy a look
+/// at the pairs of those addresses at which it may meet a block there.
+#[tactic(auto, using(crate::proofs::Writing::from_none), unfolding(crate::specs::Pending::touches))]
 pub fn touched_pairs<L>(
     alloc: Global,
     table: &LiveIndex<L>,
@@ -33,15 +37,13 @@ pub fn touched_pairs<L>(
         no_mark (marked_by marks)) }
 {
     let mut marks = Marks::new(alloc);
-    for (at, bytes) in cache.parts() {
-        let spot = Spot {
-            at,
-            len: bytes.len() as u64,
-            nodesize,
-            end,
-            map,
-        };
-        mark_spot(table, &spot, &mut marks, steps)?;
-    }
+    let pending = Pending {
+        cache,
+        spots: spots_of(alloc, cache)?,
+        map,
+        nodesize,
+        end,
+    };
+    mark_touched(table, &pending, &mut marks, steps)?;
     Ok(marks)
 }

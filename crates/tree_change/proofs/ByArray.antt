@@ -288,10 +288,12 @@ module _ {D L : Type 0} (disk : Ghosts D) (old_disk new_disk : D) (some all : Tr
   map_told (Err NoMemory) tells = tt
 
 -- what is known by what is compared at each address
-pub known_as : (pairs : Pairs) (marked : Marks) (under : Under) (move : Move)
-    → known_moved pairs marked (move_passes move) under ≡ known_moved pairs marked (is_moved move.old.now move.new.now move.nodesize move.end) under
+pub known_as : (pairs : Pairs) (marked : Marks) (under : Under) (move : Move) (old new : List Chunk) (nodesize end : ℕ)
+    → move.old.now ≡ old → move.new.now ≡ new → move.nodesize ≡ nodesize → move.end ≡ end
+    → known_moved pairs marked (move_passes move) under ≡ known_moved pairs marked (is_moved old new nodesize end) under
 unfolding move_passes
-known_as pairs marked under move = refl
+known_as pairs marked under move old new nodesize end old_is new_is size_is end_is =
+    λ i. known_moved pairs marked (is_moved (old_is i) (new_is i) (size_is i) (end_is i)) under
 
 -- a sound size is above 0
 pub size_some : (n : ℕ) → is_node_size n ≡ true → 0 < n

@@ -230,12 +230,15 @@ module _ {L : Type 0} (both : Compared L) (new : Bor (List Chunk)) (moves : Bor 
   abbrev known_now : Known
   known_now = known_with (pairs_of both.kept.now) (marked_by both.marks.now) (move_passes moves.now) (under_of starts.now)
 
-  abbrev pub move_by : Move
-  move_by = record { old = both.was.map; new = new; nodesize = both.was.sup.now.nodesize; end = both.was.end }
+  pub record IsMove : Type 0 where
+    pub before : moves.now.old.now ≡ both.was.map.now
+    pub after : moves.now.new.now ≡ new.now
+    pub size : moves.now.nodesize ≡ both.was.sup.now.nodesize
+    pub until : moves.now.end ≡ both.was.end
 
-  moves_same : moves.now ≡ move_by → move_passes moves.now ≡ is_moved both.was.map.now new.now both.was.sup.now.nodesize both.was.end
+  moves_same : IsMove → move_passes moves.now ≡ is_moved both.was.map.now new.now both.was.sup.now.nodesize both.was.end
   unfolding move_passes
-  moves_same is = ap move_passes is
+  moves_same is = λ i. is_moved (is.before i) (is.after i) (is.size i) (is.until i)
 
   module _ (image : List ℕ) (c : IsCompared both image) (over : Over both image new.now c known_now) where
     abbrev was : Side
@@ -289,7 +292,7 @@ module _ {L : Type 0} (both : Compared L) (new : Bor (List Chunk)) (moves : Bor 
         elim (found_gone both image new.now c known_now over roots finding (gone_at roots (Err finding) failed)) [ ]
 
   pub rest_told : {D A : Type 0} (disk : Ghosts D) (first last : D) (some all : TreeParts) (moving : Marks) (end : ℕ) (result : Result A Halt)
-      → FitsCompared both end → moves.now ≡ move_by
+      → FitsCompared both end → IsMove
       → (AreApart new.now → 0 < both.was.sup.now.nodesize
       → AreMarkedFrom (pairs_of both.kept.now) (at_address (held_and_moved both.was.map.now new.now both.was.sup.now.nodesize both.was.end))
       (at_address (is_moved both.was.map.now new.now both.was.sup.now.nodesize both.was.end)) no_mark (marked_by moving))

@@ -1,7 +1,7 @@
 -- Live pairs by the greatest keys that are held.
 use Rattle.std.proofs.Common.{◌≡◌, ℕ, ◌+◌, ◌<◌, List, [], ◌∷◌, ◌++◌, length, take, get_or, Option, Some, None, ap, refl, sym, ◌∙◌}
 use Rattle.std.specs.Prelude.{option_to_list}
-use Rattle.std.specs.List.{filter_map}
+use Rattle.std.specs.List.{cons_option, filter_map}
 use Rattle.std.proofs.lemmas.List.{append_assoc, take_more}
 use Rattle.std.proofs.lemmas.List.Elements.{filter_map-append}
 use Rattle.verdict.specs.declared.key.Key.{Key}
@@ -9,7 +9,9 @@ use Rattle.live_index.specs.Pairs.{Pairs}
 use Rattle.node_reader.specs.declared.expect.Expect.{Expect}
 use Rattle.records.specs.declared.rec.BlockAt.{BlockAt}
 use Rattle.shared_trees.specs.declared.keeps.Ended.{Ended}
-use Rattle.tree_change.specs.Leaves.{lives_by, moved_by}
+use Rattle.shared_trees.specs.declared.keeps.Met.{Met}
+use Rattle.shared_trees.specs.Known.{blocks_met}
+use Rattle.tree_change.specs.Leaves.{lives_by, moved_by, moved_by_one}
 use Rattle.tree_change.specs.Walks.{last_at, live_with, lives_of, moved_of}
 
 -- the greatest keys are as they were told: so are the live pairs by them
@@ -37,3 +39,9 @@ some_more f old now new some xs i d inside so is more =
     more ∙ ap (λ l. l ++ option_to_list some) so ∙ append_assoc old (filter_map f (take i xs)) (option_to_list some)
     ∙ ap (λ l. old ++ (filter_map f (take i xs) ++ l)) (one some (f (get_or xs i d)) is)
     ∙ ap (λ l. old ++ l) (sym (ap (filter_map f) (take_more xs i d inside) ∙ filter_map-append f (take i xs) (get_or xs i d ∷ [])))
+
+-- the pairs of blocks that were met, by what is held of them
+pub moved_met : (pairs : Pairs) (lasts : ℕ → Key) (met : List Met)
+    → filter_map (λ (one : Met). moved_by_one pairs lasts one.expect) met ≡ moved_by pairs lasts (blocks_met met)
+moved_met pairs lasts [] = refl
+moved_met pairs lasts (one ∷ met) = ap (cons_option (moved_by_one pairs lasts one.expect)) (moved_met pairs lasts met)

@@ -8,6 +8,7 @@ pub mod Nothing
 pub mod Olds
 pub mod Whole
 pub mod Leaving
+pub mod LastKeys
 pub mod RootRules
 pub mod Naming
 pub mod Adding

@@ -4,6 +4,7 @@ use Rattle.live_index.specs.Table.{pairs_of}
 use Rattle.touched_pairs.specs.Marks.{marked_by}
 use Rattle.touched_pairs.specs.Moves.{move_passes}
 use Rattle.block_source.specs.declared.read.BlockSource.{BlockSource}
+use Rattle.shared_trees.specs.Known.{blocks_met}
 use Rattle.shared_trees.specs.Under.{under_of}
 use Rattle.tree_change.specs.Gathered.{gathers}
 use Rattle.tree_change.specs.Walks.{Known, NewWalk, Side}
@@ -25,4 +26,4 @@ side_with source image = record { sup = source.sup.now; chunks = source.map.now;
 
 -- what a walk gave
 abbrev pub new_by : NewTree → NewWalk
-new_by tree = record { read = gathers tree.read; met = tree.met.items; ended = tree.ended.items }
+new_by tree = record { read = gathers tree.read; met = blocks_met tree.met.items; ended = tree.ended.items }

@@ -68,12 +68,7 @@ pub(crate) fn change_map<D: Disk, L>(
     let some = distinct_chunks(alloc, array)?;
     let moving = moved_pairs(alloc, both.kept, &old_array, &some, nodesize, end, steps)?;
     let starts = Starts::listed(alloc, both.kept, &moving, steps)?;
-    let moves = Move {
-        old: both.was.map,
-        new: array,
-        nodesize,
-        end,
-    };
+    let moves = Move::new(both.was.map, array, nodesize, end);
     let sides = Sides {
         was: both.was,
         is,
@@ -105,12 +100,7 @@ pub(crate) fn change_rest<D: Disk, L>(
     let (nodesize, end) = (both.was.sup.nodesize, both.was.end);
     let moving = moved_pairs(alloc, both.kept, both.was.map, map, nodesize, end, steps)?;
     let starts = Starts::listed(alloc, both.kept, &moving, steps)?;
-    let moves = Move {
-        old: both.was.map,
-        new: map,
-        nodesize,
-        end,
-    };
+    let moves = Move::new(both.was.map, map, nodesize, end);
     let sides = Sides {
         was: both.was,
         is: BlockSource {

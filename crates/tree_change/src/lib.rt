@@ -7,6 +7,7 @@ mod compared;
 mod differ;
 mod distinct;
 mod gather;
+mod lasts;
 mod laws;
 mod lives;
 mod merge;

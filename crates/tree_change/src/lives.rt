@@ -1,73 +1,20 @@
 //! Blocks of walks as live pairs.
 
-ghost use Rattle.std.specs.Prelude.{◌≡◌, ℕ, ◌++◌, ◌∷◌, [], IfOk, OnOk, option_to_list};
+ghost use Rattle.std.specs.Prelude.{◌≡◌, ◌++◌, OnOk, option_to_list};
 ghost use Rattle.live_index.specs.Table.{pairs_of};
+ghost use Rattle.shared_trees.specs.Known.{blocks_met};
 ghost use Rattle.shared_trees.specs.LivePairs.{first_or_greatest};
-ghost use Rattle.verdict.specs.Rules.{no_key};
-ghost use Rattle.tree_change.specs.Walks.{last_at, live_with, lives_of, moved_of, moved_pair, moved_to, pairs_at};
-ghost use Rattle.tree_change.specs.Leaves.{last_in, lives_by, moved_by, moved_by_one, with_told};
+ghost use Rattle.tree_change.specs.Walks.{live_with, lives_of, moved_of, moved_pair, moved_to, pairs_at};
+ghost use Rattle.tree_change.specs.Leaves.{last_in, lives_by, moved_by, moved_by_one};
 
+use crate::lasts::Lasts;
 use live_index::{Live, LiveIndex};
 use node_reader::Expect;
 use recon_disk::Steps;
 use records::BlockAt;
-use shared_trees::Ended;
+use shared_trees::{Ended, Met};
 use std::alloc::Global;
-use std::collections::BTreeMap;
 use verdict::{Key, NoMemory};
-
-/// The greatest key that was told last of each block, by the block's logical address in bytes.
-#[derive(Drop)]
-pub(crate) struct Lasts {
-    keys: BTreeMap<u64, Key>,
-}
-
-impl Lasts {
-    // None yet. They take their memory from this allocator.
-    #[tactic(auto, unfolding(crate::specs::Leaves::last_in))]
-    fn new(alloc: Global) -> Lasts
-        ensures { (address : ℕ) → last_in result address ≡ no_key }
-    {
-        Lasts {
-            keys: BTreeMap::new(alloc),
-        }
-    }
-
-    // Holds the greatest key of a block, in the place of one that was told before.
-    #[tactic(auto, unfolding(crate::specs::Leaves::last_in))]
-    fn put(&mut self, one: &Ended) -> Result<(), NoMemory>
-        ensures { OnOk result ((address : ℕ) →
-            last_in self.new address ≡ with_told (last_in self.old) one.now address) }
-    {
-        match self.keys.insert(one.expect.address, one.last) {
-            Ok(_) => Ok(()),
-            Err(_) => Err(NoMemory),
-        }
-    }
-
-    // The greatest key of the block at an address, (0, 0, 0) where none was told.
-    #[tactic(auto, unfolding(crate::specs::Leaves::last_in))]
-    fn of(&self, address: u64) -> Key
-        ensures { result ≡ last_in self.now address }
-    {
-        match self.keys.get(&address) {
-            Some(key) => *key,
-            None => Key::none(),
-        }
-    }
-}
-
-// The greatest keys of the blocks that a walk is done with. They take their memory from this allocator.
-fn lasts_of(alloc: Global, ended: &[Ended]) -> Result<Lasts, NoMemory>
-    ensures { IfOk result (λ lasts. (address : ℕ) →
-        last_in lasts address ≡ last_at ended.now address) }
-{
-    let mut lasts = Lasts::new(alloc);
-    for one in ended {
-        lasts.put(one)?;
-    }
-    Ok(lasts)
-}
 
 /// Puts what the walk of a tree as it is gave behind other live pairs: the blocks that were read, and those of the kept blocks that it
 /// met of which the node above or the greatest key is another than the table has. Each of these looks once into the table. The greatest
@@ -78,15 +25,16 @@ pub(crate) fn add_new<L>(
     table: &LiveIndex<L>,
     steps: &mut Steps<L>,
     blocks: &[BlockAt],
-    met: &[Expect],
+    met: &[Met],
     ended: &[Ended],
     lives: &mut Vec<Live>,
     moved: &mut Vec<Live>,
 ) -> Result<(), NoMemory>
     ensures { OnOk result ((lives.new.items ≡ lives.old.items ++ lives_of ended.now blocks.now)
-        × (moved.new.items ≡ moved.old.items ++ moved_of (pairs_of table.now) ended.now met.now)) }
+        × (moved.new.items ≡ moved.old.items
+        ++ moved_of (pairs_of table.now) ended.now (blocks_met met.now))) }
 {
-    let lasts = lasts_of(alloc, ended)?;
+    let lasts = Lasts::new(alloc, ended)?;
     add_lives(&lasts, blocks, lives)?;
     add_moved(table, steps, &lasts, met, moved)
 }
@@ -110,14 +58,14 @@ fn add_moved<L>(
     table: &LiveIndex<L>,
     steps: &mut Steps<L>,
     lasts: &Lasts,
-    met: &[Expect],
+    met: &[Met],
     into: &mut Vec<Live>,
 ) -> Result<(), NoMemory>
     ensures { OnOk result (into.new.items ≡
-        into.old.items ++ moved_by (pairs_of table.now) (last_in lasts.now) met.now) }
+        into.old.items ++ moved_by (pairs_of table.now) (last_in lasts.now) (blocks_met met.now)) }
 {
-    for e in met {
-        push_some(into, moved_of(table, steps, lasts, e))?;
+    for one in met {
+        push_some(into, moved_of(table, steps, lasts, &one.expect))?;
     }
     Ok(())
 }

@@ -2,6 +2,8 @@
 
 ghost use Rattle.std.specs.Prelude.{◌≡◌, ◌+◌, ◌*◌, ◌≤◌, ℕ, length, IfOk, IfSome, OnOk};
 ghost use Rattle.recon_disk.specs.Keeping.{Kept};
+ghost use Rattle.live_index.specs.Table.{pairs_of};
+ghost use Rattle.shared_trees.specs.Known.{AreMetBy, blocks_met};
 ghost use Rattle.block_source.specs.Gives.{Gives, is_disk_halt};
 ghost use Rattle.block_source.specs.Takes.{handing};
 ghost use Rattle.tree_change.specs.AllTrees.{no_parts, with_parts};
@@ -19,6 +21,7 @@ use live_index::{Live, LiveIndex};
 use node_reader::Expect;
 use recon_disk::{Disk, Steps};
 use records::ItemAt;
+use shared_trees::Met;
 use std::alloc::{AllocError, Global};
 use volume_items::RootAt;
 
@@ -87,12 +90,13 @@ fn walk_before<D: Disk, L>(
     sides: &Sides<'_, L>,
     steps: &mut Steps<L>,
     room: &mut Vec<u8>,
-    met: &[Expect],
+    met: &[Met],
     before: Option<Expect>,
 ) -> Result<Gathered, Halt>
     requires fit { FitSides sides.now (D.len disk.old) }
+    requires met { AreMetBy (pairs_of (sides.now).known.table.now) met.now }
     ensures gives { Gives D.Disk disk.old (sides.now).was.cache.now (handing gathers result)
-        (λ image. old_or_none (known_by (sides.now).known) met.now
+        (λ image. old_or_none (known_by (sides.now).known) (blocks_met met.now)
         (side_with (sides.now).was image) before) }
     ensures reads { IfOk result (λ read. IfSome (D.bytes disk.old) (λ _.
         D.reads disk.new ≤ D.reads disk.old + 2 * length read.blocks.items)) }

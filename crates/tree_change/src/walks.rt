@@ -3,6 +3,8 @@
 ghost use Rattle.std.specs.Prelude.{◌≡◌, ◌+◌, ◌*◌, ◌≤◌, length, true, IfOk, IfSome};
 ghost use Rattle.verdict.specs.Trees.{is_node_size};
 ghost use Rattle.recon_disk.specs.Keeping.{Kept};
+ghost use Rattle.live_index.specs.Table.{pairs_of};
+ghost use Rattle.shared_trees.specs.Known.{AreMetBy, blocks_met};
 ghost use Rattle.block_source.specs.Gives.{Gives, is_disk_halt};
 ghost use Rattle.block_source.specs.Takes.{handing};
 ghost use Rattle.tree_change.specs.Gathered.{gathers};
@@ -14,7 +16,7 @@ use block_source::{BlockSource, Halt};
 use live_index::LiveIndex;
 use node_reader::Expect;
 use recon_disk::{Disk, Steps};
-use shared_trees::{Ended, KnownTree, OldTree, Starts, stops_of, walk_changed};
+use shared_trees::{Ended, KnownTree, Met, OldTree, Starts, Stops, walk_changed};
 use std::alloc::Global;
 use touched_pairs::{Marks, Move};
 
@@ -37,8 +39,8 @@ pub(crate) struct KnownTrees<'a, L> {
 pub(crate) struct NewTree {
     /// The blocks and items that are not kept.
     pub(crate) read: Gathered,
-    /// The kept blocks that it met.
-    pub(crate) met: Vec<Expect>,
+    /// The kept blocks that it met, each with its pair.
+    pub(crate) met: Vec<Met>,
     /// The blocks that it is done with, each with its greatest key.
     pub(crate) ended: Vec<Ended>,
 }
@@ -58,6 +60,7 @@ pub(crate) fn walk_new<D: Disk, L>(
     requires end { source.now.end ≡ D.len disk.old }
     ensures gives { Gives D.Disk disk.old source.now.cache.now (handing new_by result)
         (λ image. new_walk (known_by known.now) (side_with source.now image) e.now) }
+    ensures met { IfOk result (λ made. AreMetBy (pairs_of (known.now).table.now) made.met.items) }
     ensures reads { IfOk result (λ made. IfSome (D.bytes disk.old) (λ _.
         D.reads disk.new ≤ D.reads disk.old + 2 * length made.read.blocks.items)) }
     ensures kept { Kept D.Disk disk.old disk.new (is_disk_halt result) }
@@ -71,6 +74,7 @@ pub(crate) fn walk_new<D: Disk, L>(
         steps: &mut *steps,
         met: Vec::new(alloc),
         ended: Vec::new(alloc),
+        found: None,
     };
     walk_changed(alloc, disk, source, &mut keeps, e, room, &mut read)?;
     Ok(NewTree {
@@ -87,27 +91,29 @@ pub(crate) fn walk_old<D: Disk, L>(
     disk: &mut D,
     source: &BlockSource<'_>,
     known: &KnownTrees<'_, L>,
-    met: &[Expect],
+    met: &[Met],
     steps: &mut Steps<L>,
     room: &mut Vec<u8>,
     e: &Expect,
 ) -> Result<Gathered, Halt>
     requires size { is_node_size source.now.sup.now.nodesize ≡ true }
     requires end { source.now.end ≡ D.len disk.old }
+    requires met { AreMetBy (pairs_of (known.now).table.now) met.now }
     ensures gives { Gives D.Disk disk.old source.now.cache.now (handing gathers result)
-        (λ image. old_walk (known_by known.now) met.now (side_with source.now image) e.now) }
+        (λ image. old_walk (known_by known.now) (blocks_met met.now)
+        (side_with source.now image) e.now) }
     ensures reads { IfOk result (λ read. IfSome (D.bytes disk.old) (λ _.
         D.reads disk.new ≤ D.reads disk.old + 2 * length read.blocks.items)) }
     ensures kept { Kept D.Disk disk.old disk.new (is_disk_halt result) }
 {
-    let stops = stops_of(alloc, e.tree, met)?;
+    let stops = Stops::new(alloc, met)?;
     let mut read = Gathered::new(alloc);
     let mut keeps = OldTree {
-        tree: e.tree,
         table: known.table,
         stops: &stops,
         starts: known.starts,
         steps: &mut *steps,
+        next: 0,
     };
     walk_changed(alloc, disk, source, &mut keeps, e, room, &mut read)?;
     Ok(read)

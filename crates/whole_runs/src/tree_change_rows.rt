@@ -1,9 +1,10 @@
+use chunk_map::ChunkMap;
 use live_index::{Live, LiveIndex};
 use node_reader::{Expect, Pointer};
 use recon_disk::Steps;
-use shared_trees::{Keeps, OldTree, Start, Starts, stops_of};
+use shared_trees::{Keeps, KnownTree, OldTree, Start, Starts, Stops};
 use std::alloc::Global;
-use touched_pairs::Marks;
+use touched_pairs::{Marks, Move};
 use tree_change::{Path, PathStep};
 use verdict::{Key, NoMemory};
 
@@ -141,16 +142,33 @@ fn a_walk_of_the_tree_as_it_was_keeps_the_blocks_at_stops(rt: HostRuntime) -> Re
     let mut steps = Steps::new(());
     let table = table(rt.alloc(), &mut steps)?;
     let starts = Starts::new(rt.alloc());
-    let met = [expected(5, 0x3_8000, 9), expected(5, 0x5_0000, 7)];
-    let stops = stops_of(rt.alloc(), 5, &met)?;
+    let marks = Marks::new(rt.alloc());
+    let map = ChunkMap::new(rt.alloc());
+    let moves = Move::new(&map, &map, 16_384, 1 << 20);
+    let mut looks = Steps::new(());
+    let mut known = KnownTree {
+        table: &table,
+        marks: &marks,
+        moves: &moves,
+        starts: &starts,
+        steps: &mut looks,
+        met: Vec::new(rt.alloc()),
+        ended: Vec::new(rt.alloc()),
+        found: None,
+    };
+    known.meet(&expected(5, 0x3_8000, 9))?;
+    known.meet(&expected(5, 0x5_0000, 7))?;
+    let stops = Stops::new(rt.alloc(), known.met.as_slice())?;
     let mut old = OldTree {
-        tree: 5,
         table: &table,
         stops: &stops,
         starts: &starts,
         steps: &mut steps,
+        next: 0,
     };
     let rows = [
+        // In the order in which the stops were met, and again.
+        (expected(5, 0x3_8000, 7), Some(inode(257))),
         (expected(5, 0x3_8000, 7), Some(inode(257))),
         // Another generation, a block that the table has not, and one that is at no stop.
         (expected(5, 0x3_8000, 9), None),

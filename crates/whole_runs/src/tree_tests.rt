@@ -106,12 +106,7 @@ fn walked(
     table.insert(known_root(), &mut steps)?;
     let end = image.len() as u64;
     let marks = touched_pairs(alloc, &table, &cache, &map, sup.nodesize, end, &mut steps)?;
-    let moves = Move {
-        old: &map,
-        new: &map,
-        nodesize: sup.nodesize,
-        end,
-    };
+    let moves = Move::new(&map, &map, sup.nodesize, end);
     let starts = Starts::new(alloc);
     let mut known = KnownTree {
         table: &table,
@@ -121,6 +116,7 @@ fn walked(
         steps: &mut steps,
         met: Vec::new(alloc),
         ended: Vec::new(alloc),
+        found: None,
     };
     let mut disk = MemDisk::new(Vec::from_slice(alloc, image)?, Vec::new(alloc));
     let source = BlockSource {

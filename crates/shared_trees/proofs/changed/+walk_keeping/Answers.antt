@@ -29,6 +29,7 @@ loop-i-init g t c = record {
   same_anew = c.kept.ensures.same_anew;
   met = node_read (g.K.Keeps.keeps c.args.keeps.now) (g.K.Keeps.anew c.args.keeps.now) (g.D.Disk.bytes c.args.disk.now) c.args.source.now.cache.now c.args.source.now.sup.now c.args.source.now.map.now c.args.e.now c.in_ok-block.block
       (g.K.Keeps.met c.args.keeps.now) (g.K.Keeps.met c.kept.new.self) (sym c.kept.ensures.value ∙ c.in_default.is) c.if-e-eq0-2.false c.in_ok-block.ensures.gives c.kept.ensures.same_met;
+  same_pairs = c.kept.ensures.same_pairs;
   same_lasts = c.kept.ensures.same_lasts;
   ended = ends_start (g.K.Keeps.keeps c.args.keeps.now) (g.K.Keeps.anew c.args.keeps.now) (g.K.Keeps.lasts c.args.keeps.now) (g.D.Disk.bytes c.args.disk.now) c.args.source.now.cache.now c.args.source.now.sup.now c.args.source.now.map.now c.args.e.now.level (children_of (c.args.e.now.level - 1) c.args.e.now (pointers_from c.in_ok-block.block 0)) (g.K.Keeps.ended c.args.keeps.now) (g.K.Keeps.ended c.kept.new.self) _ c.kept.ensures.same_ended c.none-last-2.ensures;
 }
@@ -69,6 +70,7 @@ loop-place-init g t c = record {
   met = node_met (g.K.Keeps.keeps c.args.keeps.now) (g.K.Keeps.anew c.args.keeps.now) (g.D.Disk.bytes c.args.disk.now) c.args.source.now.cache.now c.args.source.now.sup.now c.args.source.now.map.now c.args.e.now c.in-Some.bound
       (g.K.Keeps.met c.args.keeps.now) (g.K.Keeps.met c.meet.new.self) (sym c.kept.ensures.value ∙ c.in-Some.is) (search rules) c.if-e-eq0.false
       (c.in_ok-meet.ensures.met ∙ ap (λ m. with_met m (c.args.e.now ∷ [])) c.kept.ensures.same_met);
+  same_pairs = c.in_ok-meet.ensures.same_pairs ∙ c.kept.ensures.same_pairs;
   same_lasts = c.in_ok-meet.ensures.same_lasts ∙ c.kept.ensures.same_lasts;
   ended = ends_start (g.K.Keeps.keeps c.args.keeps.now) (g.K.Keeps.anew c.args.keeps.now) (g.K.Keeps.lasts c.args.keeps.now) (g.D.Disk.bytes c.args.disk.now) c.args.source.now.cache.now c.args.source.now.sup.now c.args.source.now.map.now c.args.e.now.level (g.K.Keeps.anew c.args.keeps.now c.args.e.now) (g.K.Keeps.ended c.args.keeps.now) (g.K.Keeps.ended c.meet.new.self) _
       (c.in_ok-meet.ensures.same_ended ∙ c.kept.ensures.same_ended) c.none-last.ensures;
@@ -91,6 +93,7 @@ loop-place-preserved g t c = record {
       c.next-child.ensures.level c.loop-place.invariant.taken.kept.bytes
       (c.next-child.ensures.same ∙ c.loop-place.invariant.same) (c.next-child.ensures.same_anew ∙ c.loop-place.invariant.same_anew) c.next-child.ensures.same_met
       c.loop-place.invariant.met c.in_ok-last-2.ensures.met;
+  same_pairs = c.in_ok-last-2.ensures.same_pairs ∙ c.next-child.ensures.same_pairs ∙ c.loop-place.invariant.same_pairs;
   same_lasts = c.in_ok-last-2.ensures.same_lasts ∙ c.next-child.ensures.same_lasts ∙ c.loop-place.invariant.same_lasts;
   ended = ends_step (g.K.Keeps.keeps c.args.keeps.now) (g.K.Keeps.anew c.args.keeps.now) (g.K.Keeps.lasts c.args.keeps.now) (g.D.Disk.bytes c.args.disk.now) c.args.source.now.cache.now c.args.source.now.sup.now c.args.source.now.map.now c.args.e.now.level c.next-child.result
       (drop c.loop-place.place (g.K.Keeps.anew c.args.keeps.now c.args.e.now)) (drop (c.loop-place.place + 1) (g.K.Keeps.anew c.args.keeps.now c.args.e.now))
@@ -150,6 +153,7 @@ loop-i-preserved g t c = record {
       c.child_at-child.ensures.next c.child_at-child.ensures.level c.loop-i.invariant.taken.kept.bytes
       c.loop-i.invariant.same c.loop-i.invariant.same_anew refl
       c.loop-i.invariant.met c.in_ok-last-4.ensures.met;
+  same_pairs = c.in_ok-last-4.ensures.same_pairs ∙ c.loop-i.invariant.same_pairs;
   same_lasts = c.in_ok-last-4.ensures.same_lasts ∙ c.loop-i.invariant.same_lasts;
   ended = ends_step (g.K.Keeps.keeps c.args.keeps.now) (g.K.Keeps.anew c.args.keeps.now) (g.K.Keeps.lasts c.args.keeps.now) (g.D.Disk.bytes c.args.disk.now) c.args.source.now.cache.now c.args.source.now.sup.now c.args.source.now.map.now c.args.e.now.level c.child_at-child.result
       (children_of (c.args.e.now.level - 1) c.args.e.now (pointers_from c.in_ok-block.block c.loop-i.i))

@@ -30,6 +30,7 @@ invariant-loop-place g l =
       same_anew : g.K.Keeps.anew l.keeps ≡ anew;
       met : MetSoFar (g.D.Disk.bytes l.fn.disk) l.source.cache.now (g.K.Keeps.met l.fn.keeps) (g.K.Keeps.met l.keeps) (left_of kept anew (g.D.Disk.bytes l.fn.disk) l.source.cache.now sup l.source.map.now l.e.level (drop l.place (anew l.e)))
           (met_in kept anew sup l.source.map.now l.e);
+      same_pairs : g.K.Keeps.pairs l.keeps ≡ g.K.Keeps.pairs l.fn.keeps;
       same_lasts : g.K.Keeps.lasts l.keeps ≡ g.K.Keeps.lasts l.fn.keeps;
       ended : EndsSoFar (g.D.Disk.bytes l.fn.disk) l.source.cache.now (g.K.Keeps.ended l.fn.keeps) (g.K.Keeps.ended l.keeps) (left (drop l.place (anew l.e)) l.last) (left (anew l.e) no_key);
     }
@@ -50,6 +51,7 @@ invariant-loop-i g l =
       same_anew : g.K.Keeps.anew l.keeps ≡ anew;
       met : MetSoFar (g.D.Disk.bytes l.fn.disk) l.source.cache.now (g.K.Keeps.met l.fn.keeps) (g.K.Keeps.met l.keeps) (left_of kept anew (g.D.Disk.bytes l.fn.disk) l.source.cache.now sup l.source.map.now l.e.level (children_of (l.e.level - 1) l.e (pointers_from l.block l.i)))
           (met_in kept anew sup l.source.map.now l.e);
+      same_pairs : g.K.Keeps.pairs l.keeps ≡ g.K.Keeps.pairs l.fn.keeps;
       same_lasts : g.K.Keeps.lasts l.keeps ≡ g.K.Keeps.lasts l.fn.keeps;
       ended : EndsSoFar (g.D.Disk.bytes l.fn.disk) l.source.cache.now (g.K.Keeps.ended l.fn.keeps) (g.K.Keeps.ended l.keeps)
           (left (children_of (l.e.level - 1) l.e (pointers_from l.block l.i)) l.last) (left (children_of (l.e.level - 1) l.e (pointers_from l.block 0)) no_key);

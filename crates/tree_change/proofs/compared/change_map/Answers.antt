@@ -22,7 +22,8 @@ returns-clause-tells g c =
     let distinct = c.in_ok-some.ensures sound.0 sound.1 in
     map_told g.D.Disk c.args.disk.now c.change_chunks.new.disk c.args.all.now c.change_chunks.new.all both array _
     (known_array both array old_array some moving under (g.D.Disk.len c.args.disk.now)) (λ image. refl) (λ image. refl)
-    (known_as (pairs_of both.kept.now) (marked_by both.marks.now) under _) refl refl refl refl refl refl
+    (known_as (pairs_of both.kept.now) (marked_by both.marks.now) under _ _ _ _ _ c.new-moves.ensures.old c.new-moves.ensures.new
+    c.new-moves.ensures.nodesize c.new-moves.ensures.end) refl refl refl refl refl refl
     (λ image is. array_known both array old_array some moving under (g.D.Disk.len c.args.disk.now) c.requires.fit image is
     c.in_ok-old_array.ensures distinct.1 (c.in_ok-moving.ensures.ok distinct.0 (size_some _ c.requires.fit.was_size)) c.in_ok-starts.ensures.ok)
     c.change_chunks.result c.change_chunks.ensures.tells

@@ -1,11 +1,23 @@
+use Rattle.std.proofs.Common.{◌++◌, ap, ◌∙◌}
+use Rattle.std.specs.List.{filter_map}
+use Rattle.std.proofs.lemmas.List.{take_all}
 use Rattle.live_index.specs.Table.{pairs_of}
+use Rattle.shared_trees.specs.declared.keeps.Met.{Met}
 use Rattle.tree_change.specs.Leaves.{last_in, moved_by_one}
-use Rattle.tree_change.proofs.Leaving.{some_more}
+use Rattle.tree_change.proofs.Leaving.{moved_met, some_more}
 use Rattle.tree_change.proofs.lives.add_moved.Goals as goal
 
 -- src/lives.rt:115:5
-pub loop-e-preserved : goal.loop-e-preserved
-loop-e-preserved g c =
-    some_more (moved_by_one (pairs_of c.args.table.now) (last_in c.args.lasts.now))
-    c.args.into.now.items c.loop-e.into.items c.push_some.new.into.items _ c.args.met.now c.loop-e.e-index _ c.loop-e-test.true c.loop-e.invariant
+pub loop-one-preserved : goal.loop-one-preserved
+loop-one-preserved g c =
+    some_more (λ (one : Met). moved_by_one (pairs_of c.args.table.now) (last_in c.args.lasts.now) one.expect)
+    c.args.into.now.items c.loop-one.into.items c.push_some.new.into.items _ c.args.met.now c.loop-one.one-index _ c.loop-one-test.true c.loop-one.invariant
     c.moved_of.ensures c.in_ok-push_some.ensures
+
+pub returns : goal.returns
+returns g c =
+    c.loop-one.invariant
+    ∙ ap (λ l. c.args.into.now.items ++ l)
+    (ap (filter_map (λ (one : Met). moved_by_one (pairs_of c.args.table.now) (last_in c.args.lasts.now) one.expect))
+    (take_all c.loop-one.one-index c.args.met.now c.loop-one-test.false)
+    ∙ moved_met (pairs_of c.args.table.now) (last_in c.args.lasts.now) c.args.met.now)

@@ -1,8 +1,11 @@
 use Rattle.std.proofs.Common.{◌≡◌, ◌++◌, take}
+use Rattle.std.specs.List.{filter_map}
 use Rattle.live_index.specs.Table.{pairs_of}
-use Rattle.tree_change.specs.Leaves.{last_in, moved_by}
+use Rattle.shared_trees.specs.declared.keeps.Met.{Met}
+use Rattle.tree_change.specs.Leaves.{last_in, moved_by_one}
 use Rattle.tree_change.proofs.lives.add_moved.Given as goal
 
 -- those of the blocks so far are added
-abbrev pub invariant-loop-e : goal.invariant-loop-e
-invariant-loop-e g l = l.into.items ≡ l.initial.into.items ++ moved_by (pairs_of l.table) (last_in l.lasts) (take l.e-index l.met)
+abbrev pub invariant-loop-one : goal.invariant-loop-one
+invariant-loop-one g l =
+    l.into.items ≡ l.initial.into.items ++ filter_map (λ (one : Met). moved_by_one (pairs_of l.table) (last_in l.lasts) one.expect) (take l.one-index l.met)

@@ -1,4 +1,8 @@
+use Rattle.std.proofs.Common.{ap}
 use Rattle.shared_trees.specs.KeepingWalk.{skip_in}
+use Rattle.shared_trees.specs.Known.{blocks_met}
+use Rattle.live_index.specs.Table.{pairs_of}
+use Rattle.shared_trees.proofs.Stopping.{met_none}
 use Rattle.tree_change.specs.Gathered.{gathers}
 use Rattle.tree_change.specs.Told.{known_by}
 use Rattle.tree_change.specs.Walks.{kept_by, listed_by}
@@ -9,7 +13,7 @@ pub returns-clause-gives : goal.returns-clause-gives
 returns-clause-gives g c =
     new_ok (g.D.Disk.bytes c.args.disk.now) c.args.source.now.cache.now (known_by c.args.known.now) c.args.source.now.sup.now
     c.args.source.now.map.now c.args.e.now _ _ _ _ _ _
-    c.new-read.ensures c.new.ensures.items c.new-2.ensures.items
+    c.new-read.ensures (ap blocks_met c.new.ensures.items) c.new-2.ensures.items
     c.in_ok-walk_changed.ensures.taken c.in_ok-walk_changed.ensures.met c.in_ok-walk_changed.ensures.ended
 
 pub returns-clause-reads : goal.returns-clause-reads
@@ -20,3 +24,9 @@ returns-clause-reads g c =
     (skip_in (kept_by known) (listed_by known) source.sup.now source.map.now c.args.e.now) (gathers c.new-read.result)
     (gathers c.walk_changed.new.into) _ _
     c.new-read.ensures c.in_ok-walk_changed.ensures.taken c.in_ok-walk_changed.ensures.reads
+
+pub invariant_of-keeps : goal.invariant_of-keeps
+invariant_of-keeps g c = record {
+  held = met_none (pairs_of c.args.known.now.table.now) _ c.new.ensures.items;
+  stands = tt;
+}

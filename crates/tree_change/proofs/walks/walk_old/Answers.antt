@@ -1,6 +1,7 @@
 use Rattle.std.proofs.Common.{rules}
-use Rattle.touched_pairs.specs.Marks.{marked_by}
 use Rattle.shared_trees.specs.KeepingWalk.{skip_in}
+use Rattle.shared_trees.specs.Known.{blocks_met}
+use Rattle.shared_trees.specs.OldTrees.{is_stopped}
 use Rattle.shared_trees.specs.Stopping.{kept_among}
 use Rattle.tree_change.specs.Gathered.{gathers}
 use Rattle.tree_change.specs.Told.{known_by}
@@ -11,15 +12,15 @@ use Rattle.tree_change.proofs.walks.walk_old.Goals as goal
 pub returns-clause-gives : goal.returns-clause-gives
 returns-clause-gives g c =
     let source = c.args.source.now in
-    old_ok (g.D.Disk.bytes c.args.disk.now) source.cache.now (known_by c.args.known.now) (marked_by c.in_ok-stops.stops c.args.e.now.tree)
-    c.args.met.now source.sup.now source.map.now c.args.e.now _ _ c.new-read.ensures c.in_ok-stops.ensures c.in_ok-walk_changed.ensures.taken
+    old_ok (g.D.Disk.bytes c.args.disk.now) source.cache.now (known_by c.args.known.now) (is_stopped c.in_ok-stops.stops)
+    (blocks_met c.args.met.now) source.sup.now source.map.now c.args.e.now _ _ c.new-read.ensures c.in_ok-stops.ensures.stops c.in_ok-walk_changed.ensures.taken
 
 pub returns-clause-reads : goal.returns-clause-reads
 returns-clause-reads g c =
     let known = known_by c.args.known.now in
     let source = c.args.source.now in
     reads_ok (g.D.Disk.bytes c.args.disk.now) source.cache.now source
-    (skip_in (kept_among known.pairs (marked_by c.in_ok-stops.stops c.args.e.now.tree) known.under) (listed_by known) source.sup.now source.map.now
+    (skip_in (kept_among known.pairs (is_stopped c.in_ok-stops.stops) known.under) (listed_by known) source.sup.now source.map.now
     c.args.e.now)
     (gathers c.new-read.result) (gathers c.walk_changed.new.into) _ _
     c.new-read.ensures c.in_ok-walk_changed.ensures.taken c.in_ok-walk_changed.ensures.reads
@@ -28,6 +29,6 @@ pub returns-in_err-walk_changed-clause-gives : goal.returns-in_err-walk_changed-
 returns-in_err-walk_changed-clause-gives g c =
     let known = known_by c.args.known.now in
     let source = c.args.source.now in
-    old_halts g.D.Disk c.args.disk.now source.cache.now known (marked_by c.in_ok-stops.stops c.args.e.now.tree)
-    c.args.met.now source.sup.now source.map.now c.args.e.now (gathers c.new-read.result) c.in_err-walk_changed.field-0.0 _
-    (search rules) c.in_ok-stops.ensures c.in_err-walk_changed.ensures.taken
+    old_halts g.D.Disk c.args.disk.now source.cache.now known (is_stopped c.in_ok-stops.stops)
+    (blocks_met c.args.met.now) source.sup.now source.map.now c.args.e.now (gathers c.new-read.result) c.in_err-walk_changed.field-0.0 _
+    (search rules) c.in_ok-stops.ensures.stops c.in_err-walk_changed.ensures.taken

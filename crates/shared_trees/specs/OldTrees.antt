@@ -1,0 +1,45 @@
+-- Which blocks the walk of a tree as it was keeps: those at its stops.
+use Rattle.std.specs.Prelude.{ℕ, Bool, List, None}
+use Rattle.node_reader.specs.declared.expect.Expect.{Expect}
+use Rattle.live_index.specs.Pairs.{Pairs}
+use Rattle.live_index.specs.Table.{pairs_of}
+use Rattle.shared_trees.specs.declared.old.OldTree.{OldTree}
+use Rattle.shared_trees.specs.declared.stops.Stops.{Stops}
+use Rattle.shared_trees.specs.Ending.{Held, Lasts}
+use Rattle.shared_trees.specs.Keeping.{anew_of}
+use Rattle.shared_trees.specs.Known.{blocks_met}
+use Rattle.shared_trees.specs.Meeting.{Met}
+use Rattle.shared_trees.specs.Skips.{Anew, Kept}
+use Rattle.shared_trees.specs.Stopping.{has_address, kept_among}
+use Rattle.shared_trees.specs.Under.{under_of}
+
+-- whether a stop has an address
+abbrev pub is_stopped : Stops → ℕ → Bool
+is_stopped stops = has_address stops.addresses.items
+
+-- the blocks at the stops, as they were expected
+abbrev pub stops_in : Stops → List Expect
+stops_in stops = blocks_met stops.met.now
+
+-- the blocks that are kept: those at stops, where the table knows them as they are expected
+abbrev pub kept_by_stops : {L : Type 0} → OldTree L → Kept
+kept_by_stops old = kept_among (pairs_of old.table.now) (is_stopped old.stops.now) (under_of old.starts.now)
+
+-- the pairs by which they are kept
+abbrev pub pairs_by_stops : {L : Type 0} → OldTree L → Pairs
+pairs_by_stops old = pairs_of old.table.now
+
+-- the blocks that are walked below them: the children that are listed
+abbrev pub listed_by_stops : {L : Type 0} → OldTree L → Anew
+listed_by_stops old = anew_of (under_of old.starts.now)
+
+-- the blocks that the walk meets are not held
+abbrev pub none_met : {L : Type 0} → OldTree L → Met
+none_met old = None
+
+-- no greatest keys are told, and the blocks that the walk is done with are not held
+abbrev pub none_last : {L : Type 0} → OldTree L → Lasts
+none_last old e = None
+
+abbrev pub none_ended : {L : Type 0} → OldTree L → Held
+none_ended old = None

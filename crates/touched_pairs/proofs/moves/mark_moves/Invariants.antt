@@ -1,0 +1,12 @@
+use Rattle.std.proofs.Common.{◌≡◌, take}
+use Rattle.live_index.specs.Table.{pairs_of}
+use Rattle.touched_pairs.specs.Marking.{AreMarkedFrom}
+use Rattle.touched_pairs.specs.Marks.{marked_by}
+use Rattle.touched_pairs.specs.Moves.{in_changed, move_passes}
+use Rattle.touched_pairs.specs.Spots.{at_address}
+use Rattle.touched_pairs.proofs.moves.mark_moves.Given as goal
+
+abbrev pub invariant-loop-chunk : goal.invariant-loop-chunk
+invariant-loop-chunk g l =
+    AreMarkedFrom (pairs_of l.table) (in_changed l.test (take l.chunk-index l.chunk-items)) (at_address (move_passes l.test)) (marked_by l.initial.marks) (marked_by l.marks)
+    × (l.chunk-items ≡ l.test.old.now)
