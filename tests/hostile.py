@@ -6,7 +6,8 @@ cases take about twenty minutes. Prints one line, and ends with 1 at the first c
 
 What must hold of each run:
 - it ends by itself with 0 or 1, of a replay also 3, with nothing on standard error and only lines of the known forms;
-- it takes at most ten times the time of the sound volume or half a second, and at most twice its memory and 64 MiB;
+- it takes, the first time or once of two more, at most ten times the time of the sound volume or half a second, and at most twice its
+  memory and 64 MiB;
 - a check leaves the image as it was, and so does a replay that refuses it;
 - a replay's lines and its status follow from the records and from which commits passed, and the image then holds the
   writes of what passed and nothing else.
