@@ -28,13 +28,20 @@ pub(crate) trait Exact: Eq + Hash + Copy {
     ghost exact: { (x y : Self) → IsTrue (Self.eq x y) → x ≡ y };
 }
 
+// Where an entry stood that was last found, and some bits of the number of its key.
+#[derive(Clone, Copy)]
+struct Hint {
+    at: u32,
+    bits: u32,
+}
+
 /// The sums of accounts that have keys of this type. An entry stands for exactly those whose sums are not all zero.
 #[derive(Drop)]
 pub(crate) struct Table<K: Exact> {
     entries: IndexMap<K, Kept, Seeded>,
     is_seeded: bool,
-    // Where entries stood that were last found, each at the slot of its key: hints, and no more.
-    near: [u32; SLOTS],
+    // Where entries stood that were last found, each at the slot of its key. Nothing rests on it.
+    near: [Hint; SLOTS],
     ghost tidy: { AreTidy (by_key K.eq entries) },
 }
 
@@ -46,7 +53,7 @@ impl<K: Exact> Table<K> {
         Table {
             entries: IndexMap::with_hasher(alloc, Seeded::of(&[0; 16])),
             is_seeded: false,
-            near: [0; SLOTS],
+            near: [Hint { at: 0, bits: 0 }; SLOTS],
         }
     }
 
@@ -103,7 +110,7 @@ impl<K: Exact> Table<K> {
         let kept = Kept::one(alloc, field, amount)?;
         match self.entries.insert_full(*key, kept) {
             Ok((at, _)) => {
-                self.near[slot_of(key)] = hint_of(at);
+                self.near[slot_of(key)] = hint_of(key, at);
                 Ok(false)
             }
             Err(_) => Err(NoMemory),
@@ -127,20 +134,22 @@ impl<K: Exact> Table<K> {
     }
 
     // Where the entry of an account stands, or `None` where it has none. The entry that was last found for an account of
-    // the same slot is looked at first, without a hash: accounts come again soon, as those of the names in a directory do.
+    // the same slot is looked at first, without a hash, where its bits are those of the account: accounts come again soon, as
+    // those of the names in a directory do.
     fn index_of(&mut self, key: &K) -> Option<usize>
         ensures entries { self.new.entries ≡ self.old.entries }
         ensures found { IfSome result (λ i. StandsAt K.eq self.old.entries i key.now) }
         ensures none { result ≡ None → by_key K.eq self.old.entries key.now ≡ None }
     {
-        let near = self.near[slot_of(key)] as usize;
-        if let Some((there, _)) = self.entries.get_index(near) {
-            if *there == *key {
-                return Some(near);
-            }
+        let hint = self.near[slot_of(key)];
+        if hint.bits == bits_of(key)
+            && let Some((there, _)) = self.entries.get_index(hint.at as usize)
+            && *there == *key
+        {
+            return Some(hint.at as usize);
         }
         let (at, _, _) = self.entries.get_full(key)?;
-        self.near[slot_of(key)] = hint_of(at);
+        self.near[slot_of(key)] = hint_of(key, at);
         Some(at)
     }
 }
@@ -152,7 +161,15 @@ fn slot_of<K: Exact>(key: &K) -> usize
     (key.mixed() >> 52) as usize % SLOTS
 }
 
-// A hint to an entry.
-fn hint_of(at: usize) -> u32 {
-    u32::try_from(at).unwrap_or(0)
+// The bits of a key by which its hint is told from others at the slot.
+fn bits_of<K: Exact>(key: &K) -> u32 {
+    (key.mixed() >> 32) as u32
+}
+
+// A hint to the entry of a key.
+fn hint_of<K: Exact>(key: &K, at: usize) -> Hint {
+    Hint {
+        at: u32::try_from(at).unwrap_or(0),
+        bits: bits_of(key),
+    }
 }
