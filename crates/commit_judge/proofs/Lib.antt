@@ -9,7 +9,6 @@ pub mod COpened
 pub mod CReady
 pub mod CTables
 pub mod EFresh
-pub mod EHot
 pub mod EPlan
 pub mod ERoots
 pub mod JCounts

@@ -109,6 +109,25 @@ fn the_table_is_read_in_three_orders(rt: HostRuntime) -> Result<(), NoMemory> {
 }
 
 #[test]
+fn pairs_are_walked_in_the_order_of_their_keys(rt: HostRuntime) -> Result<(), NoMemory> {
+    let mut steps = Steps::new(());
+    let index = filled(rt.alloc(), &mut steps)?;
+    let mut walk = index.behind(&pair(5, 0x10000, 0, inode(256)), &mut steps);
+    for found in [
+        Some((5, 0x4000)),
+        Some((5, 0xc000)),
+        Some((5, 0x8000)),
+        Some((256, 0x4000)),
+        None,
+    ] {
+        assert_eq!(rt; place(walk.next(&mut steps)), found);
+    }
+    // One look for the walk, and one for each step.
+    assert_eq!(rt; steps.looks(), 5 + 1 + 5);
+    Ok(())
+}
+
+#[test]
 fn a_pair_takes_the_place_of_another(rt: HostRuntime) -> Result<(), NoMemory> {
     let mut steps = Steps::new(());
     let mut index = filled(rt.alloc(), &mut steps)?;

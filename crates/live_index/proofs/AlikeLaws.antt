@@ -1,7 +1,7 @@
 -- The orders keep saying the same as the table when a pair is added, takes the place of another, or goes away.
 use Rattle.std.proofs.Common.{◌≡◌, ℕ, Bool, true, false, cond, ◌&&◌, refl, sym, ap, ◌∙◌, subst}
 use Rattle.std.specs.Prelude.{◌==◌, Option, Some, None, IfSome, is_some}
-use Rattle.std.proofs.lemmas.Bool.{eqb-true, eq-eqb}
+use Rattle.std.proofs.lemmas.Bool.{eqb-true}
 use Rattle.std.proofs.Math.Path.{fun_ext}
 use Rattle.verdict.specs.OnDisk.{key_same}
 use Rattle.verdict.specs.declared.key.Key.{Key}
@@ -9,7 +9,7 @@ use Rattle.live_index.specs.declared.live.Live.{Live}
 use Rattle.live_index.specs.declared.orders.Orders.{Orders}
 use Rattle.live_index.specs.declared.places.ByAddress.{ByAddress}
 use Rattle.live_index.specs.declared.places.ByFirst.{ByFirst}
-use Rattle.live_index.specs.Orders.{AreAdded, AreAlike, AreKept, AreMoved, AreTaken, IsFirstFrom, IsNextKey, has_address, has_key, is_address_of, is_key_of, key_place}
+use Rattle.live_index.specs.Orders.{AreAdded, AreAlike, AreKept, AreMoved, AreTaken, IsFirstFrom, IsNextKey, first_at, has_address, has_key, is_address_of, is_key_of, with_first}
 use Rattle.live_index.specs.Pairs.{IsLeastFrom, IsNextFirst, Pairs, comes_before, has_first, with_pair, without_pair}
 
 -- ---- one place of a table
@@ -26,9 +26,6 @@ one_place p t a t' a' e f = ap (λ x. p x a) e ∙ ap (p t') f
 
 pub tested_place : (p : Pairs) (t a t' a' : ℕ) → (t == t' && a == a') ≡ true → p t' a' ≡ p t a
 tested_place p t a t' a' e = sym (one_place p t a t' a' (eqb-true _ _ (and_left _ _ e)) (eqb-true _ _ (and_right (t == t') _ e)))
-
-itself : (t : ℕ) → (t == t) ≡ true
-itself t = eq-eqb t t refl
 
 some_is : {A : Type 0} (x y : A) → Some x ≡ Some y → x ≡ y
 some_is x y e = cc
@@ -62,39 +59,39 @@ address_taken : (b c : Bool) (y : Option Live) → cond (b && c) false (is_some 
 address_taken = elim [ true ↦ elim [ true ↦ λ y. refl | false ↦ λ y. refl ] | false ↦ elim [ true ↦ λ y. refl | false ↦ λ y. refl ] ]
 
 first_with : (level : ℕ) (key : Key) (b : Bool) (new : Live) (y : Option Live)
-    → has_first level key (cond b (Some new) y) ≡ cond b (new.level == level && key_same new.first key) (has_first level key y)
+    → with_first level key (cond b (Some new) y) ≡ cond b (cond (new.level == level && key_same new.first key) (Some new) None) (with_first level key y)
 first_with level key = elim [ true ↦ λ new y. refl | false ↦ λ new y. refl ]
 
-first_without : (level : ℕ) (key : Key) (b : Bool) (y : Option Live) → has_first level key (cond b None y) ≡ cond b false (has_first level key y)
+first_without : (level : ℕ) (key : Key) (b : Bool) (y : Option Live) → with_first level key (cond b None y) ≡ cond b None (with_first level key y)
 first_without level key = elim [ true ↦ λ y. refl | false ↦ λ y. refl ]
 
-key_added : (t l k a x : Bool) → ((t && a) ≡ true → x ≡ false) → cond (t && (l && (k && a))) true x ≡ cond (t && a) (l && k) x
+key_added : {A : Type 0} (t l k a : Bool) (v n x : A) → ((t && a) ≡ true → x ≡ n) → cond (t && (l && (k && a))) v x ≡ cond (t && a) (cond (l && k) v n) x
 key_added = elim [
   | true ↦ elim [
-    | true ↦ elim [ true ↦ elim [ true ↦ λ x h. refl | false ↦ λ x h. refl ] | false ↦ elim [ true ↦ λ x h. h refl | false ↦ λ x h. refl ] ]
-    | false ↦ elim [ true ↦ elim [ true ↦ λ x h. h refl | false ↦ λ x h. refl ] | false ↦ elim [ true ↦ λ x h. h refl | false ↦ λ x h. refl ] ]
+    | true ↦ elim [ true ↦ elim [ true ↦ λ v n x h. refl | false ↦ λ v n x h. refl ] | false ↦ elim [ true ↦ λ v n x h. h refl | false ↦ λ v n x h. refl ] ]
+    | false ↦ elim [ true ↦ elim [ true ↦ λ v n x h. h refl | false ↦ λ v n x h. refl ] | false ↦ elim [ true ↦ λ v n x h. h refl | false ↦ λ v n x h. refl ] ]
   ]
-  | false ↦ λ l k a x h. refl
+  | false ↦ λ l k a v n x h. refl
 ]
 
-key_taken : (t l k a x : Bool) → ((t && a) ≡ true → x ≡ (l && k)) → cond (t && (l && (k && a))) false x ≡ cond (t && a) false x
+key_taken : {A : Type 0} (t l k a : Bool) (v n x : A) → ((t && a) ≡ true → x ≡ cond (l && k) v n) → cond (t && (l && (k && a))) n x ≡ cond (t && a) n x
 key_taken = elim [
   | true ↦ elim [
-    | true ↦ elim [ true ↦ elim [ true ↦ λ x h. refl | false ↦ λ x h. refl ] | false ↦ elim [ true ↦ λ x h. h refl | false ↦ λ x h. refl ] ]
-    | false ↦ elim [ true ↦ elim [ true ↦ λ x h. h refl | false ↦ λ x h. refl ] | false ↦ elim [ true ↦ λ x h. h refl | false ↦ λ x h. refl ] ]
+    | true ↦ elim [ true ↦ elim [ true ↦ λ v n x h. refl | false ↦ λ v n x h. refl ] | false ↦ elim [ true ↦ λ v n x h. h refl | false ↦ λ v n x h. refl ] ]
+    | false ↦ elim [ true ↦ elim [ true ↦ λ v n x h. h refl | false ↦ λ v n x h. refl ] | false ↦ elim [ true ↦ λ v n x h. h refl | false ↦ λ v n x h. refl ] ]
   ]
-  | false ↦ λ l k a x h. refl
+  | false ↦ λ l k a v n x h. refl
 ]
 
-inner : (b y x : Bool) → cond b y (cond b false x) ≡ cond b y x
-inner = elim [ true ↦ λ y x. refl | false ↦ λ y x. refl ]
+pub inner : {A : Type 0} (b : Bool) (y n x : A) → cond b y (cond b n x) ≡ cond b y x
+inner = elim [ true ↦ λ y n x. refl | false ↦ λ y n x. refl ]
 
-key_moved : (t l k a l' k' x : Bool) → ((t && a) ≡ true → x ≡ (l' && k'))
-    → cond (t && (l && (k && a))) true (cond (t && (l' && (k' && a))) false x) ≡ cond (t && a) (l && k) x
-key_moved t l k a l' k' x h =
-    ap (cond (t && (l && (k && a))) true) (key_taken t l' k' a x h)
-    ∙ key_added t l k a (cond (t && a) false x) (λ e. ap (λ b. cond b false x) e)
-    ∙ inner (t && a) (l && k) x
+key_moved : {A : Type 0} (t l k a l' k' : Bool) (v v' n x : A) → ((t && a) ≡ true → x ≡ cond (l' && k') v' n)
+    → cond (t && (l && (k && a))) v (cond (t && (l' && (k' && a))) n x) ≡ cond (t && a) (cond (l && k) v n) x
+key_moved t l k a l' k' v v' n x h =
+    ap (cond (t && (l && (k && a))) v) (key_taken t l' k' a v' n x h)
+    ∙ key_added t l k a v n (cond (t && a) n x) (λ e. ap (λ b. cond b n x) e)
+    ∙ inner (t && a) (cond (l && k) v n) n x
 
 -- ---- the orders say the same as the table
 
@@ -107,9 +104,9 @@ alike_added p o n new alike none added = record {
       ∙ address_added (new.address == place.address) (new.tree == place.tree) new (p place.tree place.address);
   keys = λ place.
       added.keys place
-      ∙ ap (cond (is_key_of new place) true) (alike.keys place)
-      ∙ key_added (new.tree == place.tree) (new.level == place.level) (key_same new.first place.first) (new.address == place.address) _
-      (λ e. ap (has_first place.level place.first) (tested_place p new.tree new.address place.tree place.address e ∙ none))
+      ∙ ap (cond (is_key_of new place) (Some new)) (alike.keys place)
+      ∙ key_added (new.tree == place.tree) (new.level == place.level) (key_same new.first place.first) (new.address == place.address) (Some new) None _
+      (λ e. ap (with_first place.level place.first) (tested_place p new.tree new.address place.tree place.address e ∙ none))
       ∙ sym (first_with place.level place.first (new.tree == place.tree && new.address == place.address) new (p place.tree place.address));
 }
 
@@ -132,10 +129,10 @@ alike_moved p o n was new alike is moved =
           (λ e. ap is_some (tested_place p new.tree new.address place.tree place.address e ∙ is));
       keys = λ place.
           moved.keys place
-          ∙ ap (λ b. cond (is_key_of new place) true (cond b false (has_key o place))) (named place)
-          ∙ ap (λ x. cond (is_key_of new place) true (cond (new.tree == place.tree && (was.level == place.level && (key_same was.first place.first && new.address == place.address))) false x)) (alike.keys place)
-          ∙ key_moved (new.tree == place.tree) (new.level == place.level) (key_same new.first place.first) (new.address == place.address) (was.level == place.level) (key_same was.first place.first) _
-          (λ e. ap (has_first place.level place.first) (tested_place p new.tree new.address place.tree place.address e ∙ is))
+          ∙ ap (λ b. cond (is_key_of new place) (Some new) (cond b None (first_at o place))) (named place)
+          ∙ ap (λ x. cond (is_key_of new place) (Some new) (cond (new.tree == place.tree && (was.level == place.level && (key_same was.first place.first && new.address == place.address))) None x)) (alike.keys place)
+          ∙ key_moved (new.tree == place.tree) (new.level == place.level) (key_same new.first place.first) (new.address == place.address) (was.level == place.level) (key_same was.first place.first) (Some new) (Some was) None _
+          (λ e. ap (with_first place.level place.first) (tested_place p new.tree new.address place.tree place.address e ∙ is))
           ∙ sym (first_with place.level place.first (new.tree == place.tree && new.address == place.address) new (p place.tree place.address));
     }
 
@@ -152,11 +149,11 @@ alike_taken p o n t a live alike is taken =
           ∙ ap (λ x. is_some (cond (t == place.tree && x == place.address) None (p place.tree place.address))) own.1;
       keys = λ place.
           taken.keys place
-          ∙ ap (cond (is_key_of live place) false) (alike.keys place)
-          ∙ key_taken (live.tree == place.tree) (live.level == place.level) (key_same live.first place.first) (live.address == place.address) _
-          (λ e. ap (has_first place.level place.first) (tested_place p live.tree live.address place.tree place.address e ∙ one_place p live.tree live.address t a own.0 own.1 ∙ is))
-          ∙ ap (λ x. cond (x == place.tree && live.address == place.address) false (has_first place.level place.first (p place.tree place.address))) own.0
-          ∙ ap (λ x. cond (t == place.tree && x == place.address) false (has_first place.level place.first (p place.tree place.address))) own.1
+          ∙ ap (cond (is_key_of live place) None) (alike.keys place)
+          ∙ key_taken (live.tree == place.tree) (live.level == place.level) (key_same live.first place.first) (live.address == place.address) (Some live) None _
+          (λ e. ap (with_first place.level place.first) (tested_place p live.tree live.address place.tree place.address e ∙ one_place p live.tree live.address t a own.0 own.1 ∙ is))
+          ∙ ap (λ x. cond (x == place.tree && live.address == place.address) None (with_first place.level place.first (p place.tree place.address))) own.0
+          ∙ ap (λ x. cond (t == place.tree && x == place.address) None (with_first place.level place.first (p place.tree place.address))) own.1
           ∙ sym (first_without place.level place.first (t == place.tree && a == place.address) (p place.tree place.address));
     }
 
@@ -182,12 +179,6 @@ put_back p was new tree address is = fun_ext (λ t. fun_ext (λ a.
     ∙ ap (λ x. cond (new.tree == t && x == a) (Some was) (with_pair p new t a)) address
     ∙ cond_twice (new.tree == t && new.address == a) (Some was) (Some new) (p t a) (λ e. tested_place p new.tree new.address t a e ∙ is)))
 
-unless : {A : Type 0} (b : Bool) (x z : A) → (b ≡ true → z ≡ x) → cond b x z ≡ z
-unless = elim [ true ↦ λ x z h. sym (h refl) | false ↦ λ x z h. refl ]
-
-pub nothing_taken : (p : Pairs) (t a : ℕ) → p t a ≡ None → p ≡ without_pair p t a
-nothing_taken p t a none = fun_ext (λ t'. fun_ext (λ a'. sym (unless (t == t' && a == a') None (p t' a') (λ e. tested_place p t a t' a' e ∙ none))))
-
 -- ---- what the orders find is what the table has
 
 none_if : (y : Option Live) → is_some y ≡ false → y ≡ None
@@ -212,37 +203,35 @@ some_least p o address tree place (Some live) alike first is =
           none_if (p t a) (sym (alike.addresses (record { address = a; tree = t })) ∙ first.2 (record { address = a; tree = t }) low lower),
     )
 
+some_unless : (b : Bool) (live : Live) → is_some (cond b (Some live) None) ≡ b
+some_unless = elim [ true ↦ λ live. refl | false ↦ λ live. refl ]
+
+first_had : (level : ℕ) (key : Key) (y : Option Live) → is_some (with_first level key y) ≡ has_first level key y
+first_had level key None = refl
+first_had level key (Some live) = some_unless (has_first level key (Some live)) live
+
+-- whether the order by first key has a place
+key_has : (p : Pairs) (o : Orders) (place : ByFirst) → AreAlike p o → has_key o place ≡ has_first place.level place.first (p place.tree place.address)
+key_has p o place alike = ap is_some (alike.keys place) ∙ first_had place.level place.first (p place.tree place.address)
+
 pub next_found : (p : Pairs) (o : Orders) (tree level : ℕ) (key : Key) (r : Option Key) → AreAlike p o → IsNextKey o tree level key r → IsNextFirst p tree level key r
-next_found p o tree level key None alike none = λ a k h. sym (alike.keys (record { tree = tree; level = level; first = k; address = a })) ∙ none a k h
+next_found p o tree level key None alike none = λ a k h. sym (key_has p o (record { tree = tree; level = level; first = k; address = a }) alike) ∙ none a k h
 next_found p o tree level key (Some next) alike found = (
   found.0,
-  (found.1.0, sym (alike.keys (record { tree = tree; level = level; first = next; address = found.1.0 })) ∙ found.1.1),
-  λ a k h before. sym (alike.keys (record { tree = tree; level = level; first = k; address = a })) ∙ found.2 a k h before,
+  (found.1.0, sym (key_has p o (record { tree = tree; level = level; first = next; address = found.1.0 }) alike) ∙ found.1.1),
+  λ a k h before. sym (key_has p o (record { tree = tree; level = level; first = k; address = a }) alike) ∙ found.2 a k h before,
 )
 
 -- ---- the empty table
 
-pub no_pairs_alike : (p : Pairs) (o : Orders) → ((t a : ℕ) → p t a ≡ None) → ((place : ByAddress) → has_address o place ≡ false) → ((place : ByFirst) → has_key o place ≡ false) → AreAlike p o
+pub no_pairs_alike : (p : Pairs) (o : Orders) → ((t a : ℕ) → p t a ≡ None) → ((place : ByAddress) → has_address o place ≡ false) → ((place : ByFirst) → first_at o place ≡ None) → AreAlike p o
 no_pairs_alike p o none addresses keys = record {
   own = λ t a live is. absurd (let no : None ≡ Some live = sym (none t a) ∙ is in cc);
   addresses = λ place. addresses place ∙ sym (ap is_some (none place.tree place.address));
-  keys = λ place. keys place ∙ sym (ap (has_first place.level place.first) (none place.tree place.address));
+  keys = λ place. keys place ∙ sym (ap (with_first place.level place.first) (none place.tree place.address));
 }
 
--- ---- the key of a pair that stands is had
-
-all_true : (t l k : Bool) → t ≡ true → l ≡ true → k ≡ true → (t && (l && k)) ≡ true
-all_true t l k e f g = ap (λ x. x && (l && k)) e ∙ ap (λ x. x && k) f ∙ g
-
-itself_key : (k : Key) → key_same k k ≡ true
-itself_key k = all_true _ _ _ (itself k.objectid) (itself k.kind) (itself k.offset)
-
-pub key_had : (p : Pairs) (o : Orders) (t a : ℕ) (live : Live) → AreAlike p o → p t a ≡ Some live → has_key o (key_place live) ≡ true
-key_had p o t a live alike is =
-    let own : (live.tree ≡ t) × (live.address ≡ a) = alike.own t a live is in
-    alike.keys (key_place live)
-    ∙ ap (has_first live.level live.first) (one_place p live.tree live.address t a own.0 own.1 ∙ is)
-    ∙ ap (λ x. x && key_same live.first live.first) (itself live.level) ∙ itself_key live.first
+-- ---- a pair that is found stands under its own tree and address
 
 pub own_found : (p : Pairs) (o : Orders) (t a : ℕ) (r : Option Live) → AreAlike p o → r ≡ p t a → IfSome r (λ live. (live.tree ≡ t) × (live.address ≡ a))
 own_found p o t a None alike is = tt

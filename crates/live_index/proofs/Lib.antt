@@ -2,3 +2,4 @@ pub mod AlikeLaws
 pub mod IndexLaws
 pub mod NarrowLaws
 pub mod PlaceLaws
+pub mod WalkLaws

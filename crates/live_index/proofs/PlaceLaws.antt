@@ -1,12 +1,14 @@
--- Places in the three orders: which are alike, which come first, and what sets of them have after a change.
+-- Places in the three orders: which are alike, which come first, and what a set or a map of them has after a change.
 use Rattle.std.proofs.Common.{◌≡◌, ℕ, ◌≤◌, Bool, true, false, cond, ◌&&◌, List, [], ◌∷◌, refl, sym, ap, ◌∙◌, subst, arith}
-use Rattle.std.specs.Prelude.{◌==◌, Option, Some, None}
+use Rattle.std.specs.Prelude.{◌==◌, Option, Some, None, is_some}
 use Rattle.std.specs.Ordering.{nat_cmp, ordering_then, is_eq, is_gt}
 use Rattle.std.specs.Cmp.{unsigned_tied}
 use Rattle.std.specs.declared.cmp.Ordering.{Ordering}
 use Rattle.std.specs.declared.cmp.Ordering.TheVariants.{Less, Equal, Greater}
 use Rattle.std.specs.declared.ops.Bound.TheVariants.{Included, Excluded, Unbounded}
+use Rattle.std.specs.BTreeMap as map
 use Rattle.std.specs.BTreeMap.{is_at}
+use Rattle.std.specs.BTreeMap.Range.{IsRangeOf}
 use Rattle.std.specs.BTreeSet as set
 use Rattle.std.proofs.lemmas.Bool.{eqb-true}
 use Rattle.std.proofs.lemmas.Bool.Decides.{nat_tests}
@@ -18,6 +20,7 @@ use Rattle.live_index.specs.declared.places.ByAddress.{ByAddress}
 use Rattle.live_index.specs.declared.places.ByFirst.{ByFirst}
 use Rattle.live_index.specs.Orders.{address_place, by_address, by_first, by_key, by_tree, is_address_of, is_key_of, key_place}
 use Rattle.live_index.specs.Pairs.{comes_before}
+use Rattle.live_index.proofs.AlikeLaws.{inner}
 
 -- ---- places that are alike
 
@@ -88,10 +91,10 @@ pub set_address : (s n : set.BTreeSet ByAddress) (b : Bool) (k : ByAddress) (liv
 set_address s n b k live is updates place =
     updates.0 place ∙ ap (λ t. cond t b (set.contains by_address s place)) (tied_address k place ∙ ap (λ x. x.address == place.address && x.tree == place.tree) is)
 
-pub set_key : (s n : set.BTreeSet ByFirst) (b : Bool) (k : ByFirst) (live : Live) → k ≡ key_place live → set.UpdatesBy by_first (by_first k) s n b
-    → (place : ByFirst) → set.contains by_first n place ≡ cond (is_key_of live place) b (set.contains by_first s place)
-set_key s n b k live is updates place =
-    updates.0 place ∙ ap (λ t. cond t b (set.contains by_first s place)) (tied_key k place ∙ ap (λ x. same_place x place) is)
+pub map_key : (m n : map.BTreeMap ByFirst Live) (w : Option Live) (k : ByFirst) (live : Live) → k ≡ key_place live → map.UpdatesBy by_first (by_first k) m n w
+    → (place : ByFirst) → map.get by_first n place ≡ cond (is_key_of live place) w (map.get by_first m place)
+map_key m n w k live is updates place =
+    updates.0 place ∙ ap (λ t. cond t w (map.get by_first m place)) (tied_key k place ∙ ap (λ x. same_place x place) is)
 
 -- what is added and taken again is as before, where it was not there
 pub undone_address : (s : set.BTreeSet ByAddress) (live : Live) → set.contains by_address s (address_place live) ≡ false → (place : ByAddress)
@@ -102,23 +105,20 @@ undone_address s live none place =
       | false ↦ λ e. refl
     ] refl
 
--- a key in the place of another: where both are one place, where that is had, nothing changes; else the new one is added and the old one is taken
-pub moved_same : (s : set.BTreeSet ByFirst) (from to : Live) → key_place from ≡ key_place to → set.contains by_first s (key_place from) ≡ true → (place : ByFirst)
-    → set.contains by_first s place ≡ cond (is_key_of to place) true (cond (is_key_of from place) false (set.contains by_first s place))
-moved_same s from to is had place =
-    let alike : is_key_of to place ≡ is_key_of from place = ap (λ x. same_place x place) (sym is) in
-    elim (is_key_of from place) as (λ b. is_key_of from place ≡ b → set.contains by_first s place ≡ cond (is_key_of to place) true (cond b false (set.contains by_first s place))) [
-      | true ↦ λ e. ap (set.contains by_first s) (sym (same_key (key_place from) place e)) ∙ had ∙ sym (ap (λ b. cond b true false) (alike ∙ e))
-      | false ↦ λ e. sym (ap (λ b. cond b true (set.contains by_first s place)) (alike ∙ e))
-    ] refl
+-- a pair in the place of another: where both are at one place, it replaces that; else the new one is added and the old one is taken
+pub moved_same : (m : map.BTreeMap ByFirst Live) (from to : Live) → key_place from ≡ key_place to → (place : ByFirst)
+    → cond (is_key_of to place) (Some to) (map.get by_first m place) ≡ cond (is_key_of to place) (Some to) (cond (is_key_of from place) None (map.get by_first m place))
+moved_same m from to is place =
+    sym (inner (is_key_of to place) (Some to) None (map.get by_first m place))
+    ∙ ap (λ b. cond (is_key_of to place) (Some to) (cond b None (map.get by_first m place))) (ap (λ x. same_place x place) (sym is))
 
-pub moved_other : (s : set.BTreeSet ByFirst) (from to : Live) → same_place (key_place from) (key_place to) ≡ false → (place : ByFirst)
-    → cond (is_key_of from place) false (cond (is_key_of to place) true (set.contains by_first s place)) ≡ cond (is_key_of to place) true (cond (is_key_of from place) false (set.contains by_first s place))
-moved_other s from to apart place =
-    elim (is_key_of to place) as (λ b. is_key_of to place ≡ b → cond (is_key_of from place) false (cond b true (set.contains by_first s place)) ≡ cond b true (cond (is_key_of from place) false (set.contains by_first s place))) [
+pub moved_other : (m : map.BTreeMap ByFirst Live) (from to : Live) → same_place (key_place from) (key_place to) ≡ false → (place : ByFirst)
+    → cond (is_key_of from place) None (cond (is_key_of to place) (Some to) (map.get by_first m place)) ≡ cond (is_key_of to place) (Some to) (cond (is_key_of from place) None (map.get by_first m place))
+moved_other m from to apart place =
+    elim (is_key_of to place) as (λ b. is_key_of to place ≡ b → cond (is_key_of from place) None (cond b (Some to) (map.get by_first m place)) ≡ cond b (Some to) (cond (is_key_of from place) None (map.get by_first m place))) [
       | true ↦ λ e.
           let other : is_key_of from place ≡ false = ap (same_place (key_place from)) (sym (same_key (key_place to) place e)) ∙ apart in
-          ap (λ b. cond b false true) other
+          ap (λ b. cond b None (Some to)) other
       | false ↦ λ e. refl
     ] refl
 
@@ -188,51 +188,54 @@ place t l k a = record { tree = t; level = l; first = k; address = a }
 beyond : (t l : ℕ) (k q : Key) (a b : ℕ) → key_below k q ≡ true → by_first (place t l k a) (place t l q b) ≡ Less
 beyond t l k q a b h = then_equal _ _ (tie t t refl) ∙ then_equal _ _ (tie l l refl) ∙ then_less _ _ (key_less k q h)
 
-abbrev NextIs : set.BTreeSet ByFirst → ℕ → ℕ → Key → Option Key → Type 0
-NextIs s t l key None = (a : ℕ) (k : Key) → key_below key k ≡ true → set.contains by_first s (place t l k a) ≡ false
-NextIs s t l key (Some next) =
-    (key_below key next ≡ true)
-    × ((a : ℕ) × (set.contains by_first s (place t l next a) ≡ true))
-    × ((a : ℕ) (k : Key) → key_below key k ≡ true → key_below k next ≡ true → set.contains by_first s (place t l k a) ≡ false)
+abbrev had : map.BTreeMap ByFirst Live → ByFirst → Bool
+had m place = is_some (map.get by_first m place)
 
-pub no_key_after : (s : set.BTreeSet ByFirst) (t l : ℕ) (key : Key) (top : ℕ) (r : List ByFirst) → set.IsKeyRangeOf by_first (Excluded (place t l key top)) Unbounded s r → r ≡ []
-    → (a : ℕ) (k : Key) → key_below key k ≡ true → set.contains by_first s (place t l k a) ≡ false
-no_key_after s t l key top r range is a k h = range.5 is (place t l k a) (beyond t l key k top a h, tt)
+abbrev NextIs : map.BTreeMap ByFirst Live → ℕ → ℕ → Key → Option Key → Type 0
+NextIs m t l key None = (a : ℕ) (k : Key) → key_below key k ≡ true → had m (place t l k a) ≡ false
+NextIs m t l key (Some next) =
+    (key_below key next ≡ true)
+    × ((a : ℕ) × (had m (place t l next a) ≡ true))
+    × ((a : ℕ) (k : Key) → key_below key k ≡ true → key_below k next ≡ true → had m (place t l k a) ≡ false)
+
+pub no_key_after : (m : map.BTreeMap ByFirst Live) (t l : ℕ) (key : Key) (top : ℕ) (r : List (ByFirst × Live)) → IsRangeOf by_first (Excluded (place t l key top)) Unbounded m r → r ≡ []
+    → (a : ℕ) (k : Key) → key_below key k ≡ true → had m (place t l k a) ≡ false
+no_key_after m t l key top r range is a k h = ap is_some (range.5 is (place t l k a) (beyond t l key k top a h, tt))
 
 other_group : (t l t' l' : ℕ) (o p : Ordering) → (t' == t && l' == l) ≡ false → ordering_then (nat_cmp t t') (ordering_then (nat_cmp l l') o) ≡ Less → ordering_then (nat_cmp t' t) (ordering_then (nat_cmp l' l) p) ≡ Greater
 other_group t l t' l' o p h e = grind (arith, nat_tests)
 
-pub other_key_after : (s : set.BTreeSet ByFirst) (t l : ℕ) (key : Key) (top : ℕ) (r : List ByFirst) → set.IsKeyRangeOf by_first (Excluded (place t l key top)) Unbounded s r
-    → (first : ByFirst) (rest : List ByFirst) → r ≡ first ∷ rest → (first.tree == t && first.level == l) ≡ false
-    → (a : ℕ) (k : Key) → key_below key k ≡ true → set.contains by_first s (place t l k a) ≡ false
-other_key_after s t l key top r range first rest is apart a k h =
-    let here : set.IsKeyRangeOf by_first (Excluded (place t l key top)) Unbounded s (first ∷ rest) = subst (set.IsKeyRangeOf by_first (Excluded (place t l key top)) Unbounded s) is range in
-    let later : by_first first (place t l k a) ≡ Greater = other_group t l first.tree first.level _ _ apart here.1.0.0 in
-    absent_if _ (λ had. sym (ap is_gt later) ∙ here.2 (place t l k a) (beyond t l key k top a h, tt) had)
+pub other_key_after : (m : map.BTreeMap ByFirst Live) (t l : ℕ) (key : Key) (top : ℕ) (r : List (ByFirst × Live)) → IsRangeOf by_first (Excluded (place t l key top)) Unbounded m r
+    → (first : ByFirst × Live) (rest : List (ByFirst × Live)) → r ≡ first ∷ rest → (first.0.tree == t && first.0.level == l) ≡ false
+    → (a : ℕ) (k : Key) → key_below key k ≡ true → had m (place t l k a) ≡ false
+other_key_after m t l key top r range first rest is apart a k h =
+    let here : IsRangeOf by_first (Excluded (place t l key top)) Unbounded m (first ∷ rest) = subst (IsRangeOf by_first (Excluded (place t l key top)) Unbounded m) is range in
+    let later : by_first first.0 (place t l k a) ≡ Greater = other_group t l first.0.tree first.0.level _ _ apart here.1.0.0 in
+    absent_if _ (λ is_had. sym (ap is_gt later) ∙ here.2 (place t l k a) (beyond t l key k top a h, tt) is_had)
 
-pub key_found : (s : set.BTreeSet ByFirst) (t l : ℕ) (key : Key) (top : ℕ) (r : List ByFirst) → set.IsKeyRangeOf by_first (Excluded (place t l key top)) Unbounded s r
-    → (first : ByFirst) (rest : List ByFirst) → r ≡ first ∷ rest → first.tree ≡ t → first.level ≡ l → first.address ≤ top
-    → (key_below key first.first ≡ true)
-    × ((a : ℕ) × (set.contains by_first s (place t l first.first a) ≡ true))
-    × ((a : ℕ) (k : Key) → key_below key k ≡ true → key_below k first.first ≡ true → set.contains by_first s (place t l k a) ≡ false)
-key_found s t l key top r range first rest is tree level low =
-    let here : set.IsKeyRangeOf by_first (Excluded (place t l key top)) Unbounded s (first ∷ rest) = subst (set.IsKeyRangeOf by_first (Excluded (place t l key top)) Unbounded s) is range in
-    let itself : place t l first.first first.address ≡ first = λ i. record { tree = sym tree i; level = sym level i; first = first.first; address = first.address } in (
-      key_after key first.first top first.address low
-          (sym (then_equal _ _ (tie t first.tree (sym tree)) ∙ then_equal _ _ (tie l first.level (sym level))) ∙ here.1.0.0),
-      (first.address, ap (set.contains by_first s) itself ∙ here.1.1),
+pub key_found : (m : map.BTreeMap ByFirst Live) (t l : ℕ) (key : Key) (top : ℕ) (r : List (ByFirst × Live)) → IsRangeOf by_first (Excluded (place t l key top)) Unbounded m r
+    → (first : ByFirst × Live) (rest : List (ByFirst × Live)) → r ≡ first ∷ rest → first.0.tree ≡ t → first.0.level ≡ l → first.0.address ≤ top
+    → (key_below key first.0.first ≡ true)
+    × ((a : ℕ) × (had m (place t l first.0.first a) ≡ true))
+    × ((a : ℕ) (k : Key) → key_below key k ≡ true → key_below k first.0.first ≡ true → had m (place t l k a) ≡ false)
+key_found m t l key top r range first rest is tree level low =
+    let here : IsRangeOf by_first (Excluded (place t l key top)) Unbounded m (first ∷ rest) = subst (IsRangeOf by_first (Excluded (place t l key top)) Unbounded m) is range in
+    let itself : place t l first.0.first first.0.address ≡ first.0 = λ i. record { tree = sym tree i; level = sym level i; first = first.0.first; address = first.0.address } in (
+      key_after key first.0.first top first.0.address low
+          (sym (then_equal _ _ (tie t first.0.tree (sym tree)) ∙ then_equal _ _ (tie l first.0.level (sym level))) ∙ here.1.0.0),
+      (first.0.address, ap (had m) itself ∙ ap is_some here.1.1),
       λ a k h before.
-          let later : by_first first (place t l k a) ≡ Greater = then_equal _ _ (tie first.tree t tree) ∙ then_equal _ _ (tie first.level l level) ∙ then_greater _ _ (key_greater k first.first before) in
-          absent_if _ (λ had. sym (ap is_gt later) ∙ here.2 (place t l k a) (beyond t l key k top a h, tt) had),
+          let later : by_first first.0 (place t l k a) ≡ Greater = then_equal _ _ (tie first.0.tree t tree) ∙ then_equal _ _ (tie first.0.level l level) ∙ then_greater _ _ (key_greater k first.0.first before) in
+          absent_if _ (λ is_had. sym (ap is_gt later) ∙ here.2 (place t l k a) (beyond t l key k top a h, tt) is_had),
     )
 
 -- the key of the first place behind, where it is one of the tree and the level
-pub next_is : (s : set.BTreeSet ByFirst) (t l : ℕ) (key : Key) (top : ℕ) (r : List ByFirst) → set.IsKeyRangeOf by_first (Excluded (place t l key top)) Unbounded s r
-    → (first : ByFirst) (rest : List ByFirst) → r ≡ first ∷ rest → first.address ≤ top
-    → (found : Option Key) → found ≡ cond (first.tree == t && first.level == l) (Some first.first) None → NextIs s t l key found
-next_is s t l key top r range first rest is low found so =
-    elim (first.tree == t && first.level == l) as (λ b. (first.tree == t && first.level == l) ≡ b → found ≡ cond b (Some first.first) None → NextIs s t l key found) [
-      | true ↦ λ e f. subst (NextIs s t l key) (sym f)
-          (key_found s t l key top r range first rest is (eqb-true _ _ (and_left _ _ e)) (eqb-true _ _ (and_right (first.tree == t) _ e)) low)
-      | false ↦ λ e f. subst (NextIs s t l key) (sym f) (other_key_after s t l key top r range first rest is e)
+pub next_is : (m : map.BTreeMap ByFirst Live) (t l : ℕ) (key : Key) (top : ℕ) (r : List (ByFirst × Live)) → IsRangeOf by_first (Excluded (place t l key top)) Unbounded m r
+    → (first : ByFirst × Live) (rest : List (ByFirst × Live)) → r ≡ first ∷ rest → first.0.address ≤ top
+    → (found : Option Key) → found ≡ cond (first.0.tree == t && first.0.level == l) (Some first.0.first) None → NextIs m t l key found
+next_is m t l key top r range first rest is low found so =
+    elim (first.0.tree == t && first.0.level == l) as (λ b. (first.0.tree == t && first.0.level == l) ≡ b → found ≡ cond b (Some first.0.first) None → NextIs m t l key found) [
+      | true ↦ λ e f. subst (NextIs m t l key) (sym f)
+          (key_found m t l key top r range first rest is (eqb-true _ _ (and_left _ _ e)) (eqb-true _ _ (and_right (first.0.tree == t) _ e)) low)
+      | false ↦ λ e f. subst (NextIs m t l key) (sym f) (other_key_after m t l key top r range first rest is e)
     ] refl so

@@ -2,11 +2,13 @@
 //! visits it and its logical address. Each look into it is counted.
 #![tactic(auto)]
 
+mod in_order;
 mod index;
 mod kept;
 mod live;
 mod orders;
 mod places;
 
+pub use in_order::InKeyOrder;
 pub use kept::LiveIndex;
 pub use live::Live;

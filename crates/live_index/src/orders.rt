@@ -1,33 +1,33 @@
 //! The pairs by address and by first key.
 
 ghost use Rattle.std.specs.Prelude.{◌≡◌, ◌<◌, ◌^◌, ◌==◌, ◌&&◌, true, false, Some, None, OnOk, OnErr, if◌then◌else◌};
-ghost use Rattle.live_index.specs.Orders.{AreAdded, AreKept, AreMoved, AreTaken, IsFirstFrom, IsNextKey, address_place, has_address, has_key, key_place};
+ghost use Rattle.live_index.specs.Orders.{AreAdded, AreKept, AreMoved, AreTaken, IsFirstFrom, IsNextKey, address_place, first_at, has_address, key_place};
 ghost use Rattle.live_index.specs.declared.places.ByAddress.{ByAddress as AtAddress};
 ghost use Rattle.live_index.specs.declared.places.ByFirst.{ByFirst as AtFirst};
 
 use crate::Live;
 use crate::places::{ByAddress, ByFirst};
 use std::alloc::Global;
-use std::collections::BTreeSet;
+use std::collections::{BTreeMap, BTreeSet};
 use std::ops::Bound;
 use verdict::{Key, NoMemory};
 
-/// The places of pairs in two orders.
+/// The places of pairs in two orders. At its place by first key stands the pair itself.
 #[derive(Drop)]
 pub(crate) struct Orders {
     by_address: BTreeSet<ByAddress>,
-    by_first: BTreeSet<ByFirst>,
+    pub(crate) by_first: BTreeMap<ByFirst, Live>,
 }
 
 impl Orders {
     /// No places. They take their memory from this allocator.
     pub(crate) fn new(alloc: Global) -> Orders
         ensures addresses { (place : AtAddress) → has_address result place ≡ false }
-        ensures keys { (place : AtFirst) → has_key result place ≡ false }
+        ensures keys { (place : AtFirst) → first_at result place ≡ None }
     {
         Orders {
             by_address: BTreeSet::new(alloc),
-            by_first: BTreeSet::new(alloc),
+            by_first: BTreeMap::new(alloc),
         }
     }
 
@@ -39,7 +39,7 @@ impl Orders {
     {
         let address = address_of(live);
         match self.by_address.insert(address) {
-            Ok(_) => match self.by_first.insert(key_of(live)) {
+            Ok(_) => match self.by_first.insert(key_of(live), *live) {
                 Ok(_) => Ok(()),
                 Err(_) => {
                     self.by_address.remove(&address);
@@ -58,21 +58,19 @@ impl Orders {
         self.by_first.remove(&key_of(live));
     }
 
-    /// Puts the key of a pair in the place of that of the pair `from`, which has the same tree and
-    /// address. When memory is wanting, nothing changes.
+    /// Puts a pair at its key, in the place of the pair `from`, which has the same tree and address.
+    /// When memory is wanting, nothing changes.
     pub(crate) fn exchange(&mut self, from: &Live, to: &Live) -> Result<(), NoMemory>
-        requires { has_key self.old (key_place from.now) ≡ true }
         ensures ok { OnOk result (AreMoved self.old self.new from.now to.now) }
         ensures err { OnErr result (AreKept self.old self.new) }
     {
         let old = key_of(from);
         let new = key_of(to);
-        if old == new {
-            return Ok(());
-        }
-        match self.by_first.insert(new) {
+        match self.by_first.insert(new, *to) {
             Ok(_) => {
-                self.by_first.remove(&old);
+                if old != new {
+                    self.by_first.remove(&old);
+                }
                 Ok(())
             }
             Err(_) => Err(NoMemory),
@@ -97,7 +95,7 @@ impl Orders {
             first,
             address: u64::MAX,
         };
-        let place = self
+        let (place, _) = self
             .by_first
             .range((Bound::Excluded(after), Bound::Unbounded))
             .next()?;
@@ -129,7 +127,7 @@ fn address_of(live: &Live) -> ByAddress
 }
 
 // Where a pair stands by its first key.
-fn key_of(live: &Live) -> ByFirst
+pub(crate) fn key_of(live: &Live) -> ByFirst
     ensures { result ≡ key_place live.now }
 {
     ByFirst {

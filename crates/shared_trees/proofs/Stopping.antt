@@ -1,4 +1,4 @@
--- Marks at stops, and the walks that keep the blocks there.
+-- The addresses of stops, and the walks that keep the blocks there.
 use Rattle.std.proofs.Common.{◌≡◌, ℕ, zero, suc, ◌+◌, ◌<◌, ◌≤◌, ◌==◌, ◌||◌, Bool, true, false, List, [], ◌∷◌, length, take, ◌++◌, get_or, ap, refl, subst, sym, ◌∙◌, arith}
 use Rattle.std.specs.Prelude.{None, Option, Result, Ok, Err, if◌then◌else◌}
 use Rattle.std.proofs.Common.{inl, inr}

@@ -1,13 +1,11 @@
 -- Which blocks the walk of a tree as it was keeps: those at its stops.
-use Rattle.std.specs.Prelude.{ℕ, Bool, List, None}
-use Rattle.node_reader.specs.declared.expect.Expect.{Expect}
+use Rattle.std.specs.Prelude.{ℕ, Bool, None}
 use Rattle.live_index.specs.Pairs.{Pairs}
 use Rattle.live_index.specs.Table.{pairs_of}
 use Rattle.shared_trees.specs.declared.old.OldTree.{OldTree}
 use Rattle.shared_trees.specs.declared.stops.Stops.{Stops}
 use Rattle.shared_trees.specs.Ending.{Held, Lasts}
 use Rattle.shared_trees.specs.Keeping.{anew_of}
-use Rattle.shared_trees.specs.Known.{blocks_met}
 use Rattle.shared_trees.specs.Meeting.{Met}
 use Rattle.shared_trees.specs.Skips.{Anew, Kept}
 use Rattle.shared_trees.specs.Stopping.{has_address, kept_among}
@@ -16,10 +14,6 @@ use Rattle.shared_trees.specs.Under.{under_of}
 -- whether a stop has an address
 abbrev pub is_stopped : Stops → ℕ → Bool
 is_stopped stops = has_address stops.addresses.items
-
--- the blocks at the stops, as they were expected
-abbrev pub stops_in : Stops → List Expect
-stops_in stops = blocks_met stops.met.now
 
 -- the blocks that are kept: those at stops, where the table knows them as they are expected
 abbrev pub kept_by_stops : {L : Type 0} → OldTree L → Kept

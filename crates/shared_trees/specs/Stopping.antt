@@ -1,4 +1,4 @@
--- Which blocks the walk of a tree as it was keeps, by marks at its stops.
+-- Which blocks the walk of a tree as it was keeps, by the addresses of its stops.
 use Rattle.std.specs.Prelude.{ℕ, ◌≡◌, ◌==◌, Bool, List, map, None, if◌then◌else◌}
 use Rattle.std.specs.List.{list_any}
 use Rattle.super_reader.specs.declared.Super.{Super}

@@ -12,15 +12,16 @@ ghost use Rattle.shared_trees.specs.Under.{under_of};
 
 use crate::keeps::{Ended, Keeps, Met};
 use crate::starts::{Start, Starts};
-use live_index::{Live, LiveIndex};
+use live_index::{InKeyOrder, Live, LiveIndex};
 use node_reader::Expect;
 use recon_disk::Steps;
 use touched_pairs::{AddressTest, Marks, Move};
 use verdict::{Key, NoMemory};
 
 /// What is known of a tree as it was: its live pairs, the marks of those that writes touch and of all above them, which blocks stand at
-/// another place now, and the children that moved or are above one that did. Each block that is
-/// asked for looks at most once into the table, and once more for its greatest key.
+/// another place now, and the children that moved or are above one that did. Each block that is asked for looks at most three times into
+/// the table, and as often once more for its greatest key. The children of a node are asked for in the order of their keys: most look once,
+/// at the pair behind the one that was found last.
 #[derive(Drop)]
 pub struct KnownTree<'a, 's, L> {
     /// The live pairs.
@@ -39,7 +40,10 @@ pub struct KnownTree<'a, 's, L> {
     pub ended: Vec<Ended>,
     /// The pair that the table gave last, none before a walk.
     pub found: Option<Live>,
+    /// The walk over the pairs behind one that was looked for, none before a walk.
+    pub behind: Option<InKeyOrder<'a, L>>,
     ghost held: { AreMetBy (pairs_of table.now) met.items },
+    ghost walks: { IfSome behind (λ walk. walk.table.now ≡ table.now) } by { Prim.hlevel props },
     ghost stands: { IfSome found (λ live.
         pairs_of table.now live.tree live.address ≡ Some live) } by { Prim.hlevel props },
 }
@@ -61,8 +65,30 @@ impl<'a, 's, L> KnownTree<'a, 's, L> {
         {
             return Some(live);
         }
-        self.found = self.table.get(e.tree, e.address, self.steps);
+        self.found = self.look_for(e);
         self.found
+    }
+
+    // The same, looked for in the table: first at the pair that comes next in the order of keys.
+    fn look_for(&mut self, e: &Expect) -> Option<Live>
+        ensures value { result ≡ pairs_of self.old.table.now (e.now).tree (e.now).address }
+        ensures table { self.new.table.now ≡ self.old.table.now }
+        ensures marks { self.new.marks.now ≡ self.old.marks.now }
+        ensures moves { self.new.moves.now ≡ self.old.moves.now }
+        ensures starts { self.new.starts.now ≡ self.old.starts.now }
+        ensures met { self.new.met ≡ self.old.met }
+        ensures ended { self.new.ended ≡ self.old.ended }
+    {
+        if let Some(walk) = &mut self.behind
+            && let Some(live) = walk.next(self.steps)
+            && live.address == e.address
+            && live.tree == e.tree
+        {
+            return Some(live);
+        }
+        let live = self.table.get(e.tree, e.address, self.steps)?;
+        self.behind = Some(self.table.behind(&live, self.steps));
+        Some(live)
     }
 }
 

@@ -25,7 +25,7 @@ impl<'m> Stops<'m> {
     ghost use Rattle.std.specs.Prelude.{IfSome, true};
     ghost use Rattle.live_index.specs.Pairs.{Pairs};
     ghost use Rattle.shared_trees.specs.Known.{AreMetBy};
-    ghost use Rattle.shared_trees.specs.OldTrees.{is_stopped, stops_in};
+    ghost use Rattle.shared_trees.specs.OldTrees.{is_stopped};
 
     /// The blocks that a walk met. Their addresses take their memory from this allocator.
     pub fn new(alloc: Global, met: &'m [Met]) -> Result<Stops<'m>, NoMemory>

@@ -16,7 +16,7 @@ use Rattle.block_source.specs.declared.halt.Halt.TheVariants.{Found, Disk, NoMem
 use Rattle.tree_change.specs.AllTrees.{gone_all, has_id, named_at, named_parts, no_parts, root_named, with_parts}
 use Rattle.tree_change.specs.Making.{AddsParts, IsAdded, TellsParts, gone_in, gone_parts_in, named_parts_in, parts_by, parts_in}
 use Rattle.tree_change.specs.Walks.{Parts}
-use Rattle.tree_change.specs.declared.trees.Sides.{Sides}
+use Rattle.tree_change.specs.declared.sides.Sides.{Sides}
 use Rattle.tree_change.specs.declared.trees.TreeParts.{TreeParts}
 
 -- parts by what they hold

@@ -20,7 +20,7 @@ use Rattle.tree_change.specs.Gathered.{located_item}
 use Rattle.tree_change.specs.Merging.{IsSortedOf}
 use Rattle.tree_change.specs.Walks.{Known, Parts}
 use Rattle.tree_change.specs.declared.change.Change.{Change}
-use Rattle.tree_change.specs.declared.compared.Compared.{Compared}
+use Rattle.tree_change.specs.declared.sides.Compared.{Compared}
 use Rattle.tree_change.proofs.AllTrees.{all_trees}
 use Rattle.tree_change.proofs.Contents.{contents_array, contents_chunks, contents_roots, contents_trees, walked_all}
 use Rattle.tree_change.proofs.EachTree.{one_tree}

@@ -41,8 +41,8 @@ use Rattle.tree_change.specs.Merging.{IsSortedOf, chunks_left}
 use Rattle.tree_change.specs.OneTree.{IsTree, KnowsNothing, KnowsTree, side_of}
 use Rattle.tree_change.specs.Told.{known_by}
 use Rattle.tree_change.specs.Walks.{Known, Parts, Side, tree_parts}
-use Rattle.tree_change.specs.declared.compared.Compared.{Compared}
-use Rattle.tree_change.specs.declared.trees.Sides.{Sides}
+use Rattle.tree_change.specs.declared.sides.Compared.{Compared}
+use Rattle.tree_change.specs.declared.sides.Sides.{Sides}
 use Rattle.tree_change.specs.declared.trees.TreeParts.{TreeParts}
 use Rattle.tree_change.proofs.Chunks.{chunks_found, chunks_made}
 use Rattle.tree_change.proofs.EachTree.{one_tree}

@@ -40,8 +40,8 @@ use Rattle.tree_change.specs.Merging.{IsSortedOf, named_before, root_at, roots_l
 use Rattle.tree_change.specs.OneTree.{IsTree, KnowsNothing, side_of}
 use Rattle.tree_change.specs.Told.{side_with}
 use Rattle.tree_change.specs.Walks.{Known, Parts, Side, tree_parts}
-use Rattle.tree_change.specs.declared.compared.Compared.{Compared}
-use Rattle.tree_change.specs.declared.trees.Sides.{Sides}
+use Rattle.tree_change.specs.declared.sides.Compared.{Compared}
+use Rattle.tree_change.specs.declared.sides.Sides.{Sides}
 use Rattle.tree_change.specs.declared.trees.TreeParts.{TreeParts}
 use Rattle.tree_change.proofs.EachTree.{one_tree}
 use Rattle.tree_change.proofs.EveryTree.{knows_one}
@@ -218,13 +218,16 @@ module _ {L : Type 0} (both : Compared L) (image : List ℕ) (chunks : List Chun
     found_gone roots finding failed = gone image both.cache.now old olds trees pairs side known roots finding over failed
 
 -- the two sides by the new chunks, and what is known
-module _ {L : Type 0} (both : Compared L) (new : Bor (List Chunk)) (moves : Bor Move) (starts : Bor Starts) where
+module _ {L : Type 0} (both : Compared L) (new : Bor (List Chunk)) (moves : Bor Move) (starts : Bor Starts)
+    (same : both.is_same ≡ true → both.kept.now ≡ both.table.now) where
   abbrev pub sides_by : Sides L
   sides_by = record {
     was = both.was;
     is = record { cache = both.cache; map = new; sup = both.fresh; end = both.was.end };
     table = both.table;
     known = record { table = both.kept; marks = both.marks; moves = moves; starts = starts };
+    is_same = both.is_same;
+    same = same;
   }
 
   abbrev known_now : Known

@@ -20,7 +20,7 @@ use Rattle.tree_change.specs.Merging.{IsSortedOf}
 use Rattle.tree_change.specs.Walks.{Known, Parts}
 use Rattle.tree_change.specs.declared.change.Change.{Change}
 use Rattle.tree_change.specs.declared.change.Diff.TheVariants.{Change as Changed}
-use Rattle.tree_change.specs.declared.compared.Compared.{Compared}
+use Rattle.tree_change.specs.declared.sides.Compared.{Compared}
 use Rattle.tree_change.specs.declared.trees.TreeParts.{TreeParts}
 use Rattle.tree_change.proofs.Adding.{none_before}
 use Rattle.tree_change.proofs.AllChanges.{change_is, finds_array, finds_map, finds_rest}

@@ -18,7 +18,7 @@ use Rattle.tree_change.specs.Gathered.{Gathers}
 use Rattle.tree_change.specs.Making.{TellsParts, is_side, parts_in, was_side}
 use Rattle.tree_change.specs.Told.{known_by, side_with}
 use Rattle.tree_change.specs.Walks.{Known, NewWalk, Parts, Side, lives_of, moved_of, new_walk, old_or_none, pairs_at, parts_of, tree_parts}
-use Rattle.tree_change.specs.declared.trees.Sides.{Sides}
+use Rattle.tree_change.specs.declared.sides.Sides.{Sides}
 use Rattle.tree_change.specs.declared.trees.TreeParts.{TreeParts}
 
 -- both walks give what changes

@@ -11,7 +11,7 @@ use Rattle.tree_change.specs.AllTrees.{with_parts}
 use Rattle.tree_change.specs.Making.FindsOthers.{InTree, InItems, InNamed, InGone}
 use Rattle.tree_change.specs.Making.{AddsParts, FindsOthers, IsAdded, MakesOthers, MakesRoots, RootsJudged, TellsOthers, TellsRoots, gone_parts_in, named_parts_in, parts_by, parts_in}
 use Rattle.tree_change.specs.Walks.{Parts}
-use Rattle.tree_change.specs.declared.trees.Sides.{Sides}
+use Rattle.tree_change.specs.declared.sides.Sides.{Sides}
 use Rattle.tree_change.specs.declared.trees.TreeParts.{TreeParts}
 use Rattle.tree_change.proofs.Adding.{with_with}
 

@@ -28,7 +28,7 @@ use Rattle.tree_change.specs.Change.{IsDifference, ReadsFew}
 use Rattle.tree_change.specs.Compared.{IsBased, IsCompared, TellsChange, TellsOld, judged_by}
 use Rattle.tree_change.specs.declared.change.Change.{Change}
 use Rattle.tree_change.specs.declared.change.Diff.TheVariants.{Change as Changed}
-use Rattle.tree_change.specs.declared.compared.Compared.{Compared}
+use Rattle.tree_change.specs.declared.sides.Compared.{Compared}
 
 -- the superblock of an image can be read
 pub readable : (image : List ℕ) (sup : Super) → superblock_in image ≡ Ok sup → IsReadable sup

@@ -14,7 +14,7 @@ use Rattle.tree_change.specs.Gathered.{located_item}
 use Rattle.tree_change.specs.Making.{IsAdded, MakesChunks, MakesRoots, RootsJudged, parts_by, parts_in}
 use Rattle.tree_change.specs.Merging.{IsSortedOf, chunks_left, named_before, roots_left}
 use Rattle.tree_change.specs.Walks.{Parts}
-use Rattle.tree_change.specs.declared.trees.Sides.{Sides}
+use Rattle.tree_change.specs.declared.sides.Sides.{Sides}
 use Rattle.tree_change.specs.declared.trees.TreeParts.{TreeParts}
 
 module _ {L : Type 0} (sides : Sides L) where

@@ -18,7 +18,7 @@ use Rattle.tree_change.specs.Making.{TellsParts, gone_in, parts_by}
 use Rattle.tree_change.specs.Told.{known_by, side_with}
 use Rattle.tree_change.specs.Walks.{gone_parts, no_walk, old_walk, pairs_at, parts_of}
 use Rattle.tree_change.specs.declared.gather.Gathered.{Gathered}
-use Rattle.tree_change.specs.declared.trees.Sides.{Sides}
+use Rattle.tree_change.specs.declared.sides.Sides.{Sides}
 use Rattle.tree_change.specs.declared.trees.TreeParts.{TreeParts}
 use Rattle.tree_change.proofs.Adding.{parts_same}
 

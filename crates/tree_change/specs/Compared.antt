@@ -35,7 +35,7 @@ use Rattle.tree_change.specs.OneTree.{KnowsNothing, KnowsTree, side_of}
 use Rattle.tree_change.specs.Walks.{Known, Parts, Side, tree_parts}
 use Rattle.tree_change.specs.declared.change.Change.{Change}
 use Rattle.tree_change.specs.declared.change.Diff.TheVariants.{Change as Changed}
-use Rattle.tree_change.specs.declared.compared.Compared.{Compared}
+use Rattle.tree_change.specs.declared.sides.Compared.{Compared}
 use Rattle.tree_change.specs.declared.trees.TreeParts.{TreeParts}
 
 -- What is known of an image for which the bases stand: its walks have no finding, and what is known is what they give.

@@ -22,7 +22,7 @@ use Rattle.tree_change.specs.Gathered.{located_item}
 use Rattle.tree_change.specs.Merging.{IsSortedOf, chunks_left, named_before, root_at, roots_left}
 use Rattle.tree_change.specs.Told.{known_by, side_with}
 use Rattle.tree_change.specs.Walks.{Parts, Side, gone_parts, tree_parts}
-use Rattle.tree_change.specs.declared.trees.Sides.{Sides}
+use Rattle.tree_change.specs.declared.sides.Sides.{Sides}
 use Rattle.tree_change.specs.declared.trees.TreeParts.{TreeParts}
 
 -- both sides are read by sound sizes from a device of so many bytes, the one as it was without pending writes

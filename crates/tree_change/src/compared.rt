@@ -6,38 +6,16 @@ ghost use Rattle.tree_change.specs.Compared.{FitsCompared, TellsMap, TellsRest};
 
 use crate::array::{lie_apart, refuse_map};
 use crate::distinct::distinct_chunks;
+use crate::sides::{Compared, Sides};
 use crate::tops::{change_chunks, change_others};
-use crate::trees::{Sides, TreeParts};
+use crate::trees::TreeParts;
 use crate::walks::KnownTrees;
 use block_source::{BlockSource, Halt, system_chunks};
 use chunk_map::ChunkMap;
-use live_index::LiveIndex;
 use recon_disk::{Disk, Steps};
 use shared_trees::Starts;
 use std::alloc::Global;
-use super_reader::Super;
-use touched_pairs::{Marks, Move, moved_pairs};
-use volume_items::RootAt;
-use write_cache::WriteCache;
-
-/// The image as it was, and the new image that pending writes make of it.
-#[derive(Clone, Copy)]
-pub(crate) struct Compared<'a, L> {
-    /// The image as it was, by its superblock and its chunks, without pending writes.
-    pub(crate) was: BlockSource<'a>,
-    /// The pending writes.
-    pub(crate) cache: &'a WriteCache,
-    /// The superblock of the new image.
-    pub(crate) fresh: &'a Super,
-    /// Where the old trees begin, in the order of their keys.
-    pub(crate) roots: &'a [RootAt],
-    /// The old live pairs.
-    pub(crate) table: &'a LiveIndex<L>,
-    /// The pairs by which blocks are kept: the old ones, or none where blocks are not read alike in both images.
-    pub(crate) kept: &'a LiveIndex<L>,
-    /// Of these the pairs that a write touches, and all above them.
-    pub(crate) marks: &'a Marks,
-}
+use touched_pairs::{Move, moved_pairs};
 
 /// The new chunks, by what changes in the chunk tree, which is put behind other parts. The new chunk tree is read by these chunks of
 /// the new system array.
@@ -79,6 +57,7 @@ pub(crate) fn change_map<D: Disk, L>(
             moves: &moves,
             starts: &starts,
         },
+        is_same: both.is_same,
     };
     change_chunks(alloc, disk, &sides, steps, room, all)
 }
@@ -116,6 +95,7 @@ pub(crate) fn change_rest<D: Disk, L>(
             moves: &moves,
             starts: &starts,
         },
+        is_same: both.is_same,
     };
     change_others(alloc, disk, &sides, steps, room, both.roots, all)
 }

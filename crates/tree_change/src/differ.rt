@@ -11,8 +11,9 @@ ghost use Rattle.tree_change.specs.Change.{GivesDifference};
 ghost use Rattle.tree_change.specs.Compared.{FitsCompared, IsFinished, TellsChange, TellsOld};
 
 use crate::change::{Change, Diff};
-use crate::compared::{Compared, change_map, change_rest};
+use crate::compared::{change_map, change_rest};
 use crate::merge::{sort_items, sort_lives};
+use crate::sides::Compared;
 use crate::trees::TreeParts;
 use block_source::{BlockSource, Fault, Halt, system_chunks, told};
 use chunk_map::{Bases, ChunkMap};
@@ -86,11 +87,8 @@ fn change_from<D: Disk, L>(
     check_readable(was.sup)?;
     check_readable(fresh)?;
     let nothing = LiveIndex::new(alloc);
-    let kept = if are_read_alike(was.sup, fresh) {
-        table
-    } else {
-        &nothing
-    };
+    let is_same = are_read_alike(was.sup, fresh);
+    let kept = if is_same { table } else { &nothing };
     let marks = touched_pairs(
         alloc,
         kept,
@@ -108,6 +106,7 @@ fn change_from<D: Disk, L>(
         roots,
         table,
         kept,
+        is_same,
         marks: &marks,
     };
     compare(alloc, disk, &both, steps)

@@ -13,6 +13,7 @@ mod lives;
 mod merge;
 mod path;
 mod roots;
+mod sides;
 mod tops;
 mod trees;
 mod walks;

@@ -1,15 +1,14 @@
 //! Blocks of walks as live pairs.
 
-ghost use Rattle.std.specs.Prelude.{◌≡◌, ◌++◌, OnOk, option_to_list};
+ghost use Rattle.std.specs.Prelude.{◌≡◌, ◌++◌, true, OnOk, option_to_list};
 ghost use Rattle.live_index.specs.Table.{pairs_of};
-ghost use Rattle.shared_trees.specs.Known.{blocks_met};
+ghost use Rattle.shared_trees.specs.Known.{AreMetBy, blocks_met};
 ghost use Rattle.shared_trees.specs.LivePairs.{first_or_greatest};
 ghost use Rattle.tree_change.specs.Walks.{live_with, lives_of, moved_of, moved_pair, moved_to, pairs_at};
 ghost use Rattle.tree_change.specs.Leaves.{last_in, lives_by, moved_by, moved_by_one};
 
 use crate::lasts::Lasts;
 use live_index::{Live, LiveIndex};
-use node_reader::Expect;
 use recon_disk::Steps;
 use records::BlockAt;
 use shared_trees::{Ended, Met};
@@ -17,12 +16,13 @@ use std::alloc::Global;
 use verdict::{Key, NoMemory};
 
 /// Puts what the walk of a tree as it is gave behind other live pairs: the blocks that were read, and those of the kept blocks that it
-/// met of which the node above or the greatest key is another than the table has. Each of these looks once into the table. The greatest
-/// keys take their memory from this allocator.
+/// met of which the node above or the greatest key is another than the table has. Each of these looks once into the table, unless the
+/// walk asked the same table for its pair. The greatest keys take their memory from this allocator.
 #[tactic(auto, using(crate::proofs::Leaving::lives_alike, crate::proofs::Leaving::moved_alike))]
 pub(crate) fn add_new<L>(
     alloc: Global,
     table: &LiveIndex<L>,
+    is_asked: bool,
     steps: &mut Steps<L>,
     blocks: &[BlockAt],
     met: &[Met],
@@ -30,13 +30,14 @@ pub(crate) fn add_new<L>(
     lives: &mut Vec<Live>,
     moved: &mut Vec<Live>,
 ) -> Result<(), NoMemory>
+    requires asked { is_asked ≡ true → AreMetBy (pairs_of table.now) met.now }
     ensures { OnOk result ((lives.new.items ≡ lives.old.items ++ lives_of ended.now blocks.now)
         × (moved.new.items ≡ moved.old.items
         ++ moved_of (pairs_of table.now) ended.now (blocks_met met.now))) }
 {
     let lasts = Lasts::new(alloc, ended)?;
     add_lives(&lasts, blocks, lives)?;
-    add_moved(table, steps, &lasts, met, moved)
+    add_moved(table, is_asked, steps, &lasts, met, moved)
 }
 
 // Puts the blocks that were read behind other live pairs.
@@ -56,16 +57,18 @@ fn add_lives(lasts: &Lasts, blocks: &[BlockAt], into: &mut Vec<Live>) -> Result<
 // Puts those of the kept blocks behind other live pairs that are not as the table has them.
 fn add_moved<L>(
     table: &LiveIndex<L>,
+    is_asked: bool,
     steps: &mut Steps<L>,
     lasts: &Lasts,
     met: &[Met],
     into: &mut Vec<Live>,
 ) -> Result<(), NoMemory>
+    requires asked { is_asked ≡ true → AreMetBy (pairs_of table.now) met.now }
     ensures { OnOk result (into.new.items ≡
         into.old.items ++ moved_by (pairs_of table.now) (last_in lasts.now) (blocks_met met.now)) }
 {
     for one in met {
-        push_some(into, moved_of(table, steps, lasts, &one.expect))?;
+        push_some(into, moved_of(table, is_asked, steps, lasts, one))?;
     }
     Ok(())
 }
@@ -73,13 +76,21 @@ fn add_moved<L>(
 // The pair of a kept block, where it is not as the table has it.
 fn moved_of<L>(
     table: &LiveIndex<L>,
+    is_asked: bool,
     steps: &mut Steps<L>,
     lasts: &Lasts,
-    e: &Expect,
+    one: &Met,
 ) -> Option<Live>
-    ensures { result ≡ moved_by_one (pairs_of table.now) (last_in lasts.now) e.now }
+    requires asked { is_asked ≡ true →
+        one.now.live ≡ pairs_of table.now one.now.expect.tree one.now.expect.address }
+    ensures { result ≡ moved_by_one (pairs_of table.now) (last_in lasts.now) one.now.expect }
 {
-    let live = table.get(e.tree, e.address, steps);
+    let e = &one.expect;
+    let live = if is_asked {
+        one.live
+    } else {
+        table.get(e.tree, e.address, steps)
+    };
     moved_pair(live, e.parent, lasts.of(e.address))
 }
 

@@ -7,7 +7,8 @@ ghost use Rattle.tree_change.specs.Making.{FitSides, TellsChunks, TellsOthers, T
 
 use crate::merge::{merge_chunks, merge_roots};
 use crate::roots::check_roots;
-use crate::trees::{Sides, TreeParts, change_all_gone, change_named, change_tree};
+use crate::sides::Sides;
+use crate::trees::{TreeParts, change_all_gone, change_named, change_tree};
 use block_source::{Halt, chunk_root, top_root};
 use chunk_map::ChunkMap;
 use recon_disk::{Disk, Steps};

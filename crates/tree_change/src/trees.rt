@@ -15,9 +15,10 @@ ghost use Rattle.tree_change.specs.Making.{AddsParts, FitSides, TellsParts, gone
 use crate::gather::Gathered;
 use crate::lives::{add_known, add_new};
 use crate::roots::{ids_of, named_at};
-use crate::walks::{KnownTrees, walk_new, walk_old};
-use block_source::{BlockSource, Halt};
-use live_index::{Live, LiveIndex};
+use crate::sides::Sides;
+use crate::walks::{walk_new, walk_old};
+use block_source::Halt;
+use live_index::Live;
 use node_reader::Expect;
 use recon_disk::{Disk, Steps};
 use records::ItemAt;
@@ -38,19 +39,6 @@ pub(crate) struct TreeParts {
     pub(crate) old_items: Vec<ItemAt>,
     /// The items of the new pairs.
     pub(crate) new_items: Vec<ItemAt>,
-}
-
-/// An image and the image that pending writes make of it, and what is known of the first.
-#[derive(Clone, Copy)]
-pub(crate) struct Sides<'a, L> {
-    /// The image as it was.
-    pub(crate) was: BlockSource<'a>,
-    /// The image as it is, with the pending writes.
-    pub(crate) is: BlockSource<'a>,
-    /// Its live pairs as it was.
-    pub(crate) table: &'a LiveIndex<L>,
-    /// What is known of its trees as they were, for what is kept.
-    pub(crate) known: KnownTrees<'a, L>,
 }
 
 impl TreeParts {
@@ -131,6 +119,7 @@ pub(crate) fn change_tree<D: Disk, L>(
     add_new(
         alloc,
         sides.table,
+        sides.is_same,
         steps,
         &new.read.blocks,
         &new.met,

@@ -75,6 +75,7 @@ pub(crate) fn walk_new<D: Disk, L>(
         met: Vec::new(alloc),
         ended: Vec::new(alloc),
         found: None,
+        behind: None,
     };
     walk_changed(alloc, disk, source, &mut keeps, e, room, &mut read)?;
     Ok(NewTree {

@@ -1,8 +1,9 @@
+use crate::tree_tests::known_by;
 use chunk_map::ChunkMap;
 use live_index::{Live, LiveIndex};
 use node_reader::{Expect, Pointer};
 use recon_disk::Steps;
-use shared_trees::{Keeps, KnownTree, OldTree, Start, Starts, Stops};
+use shared_trees::{Keeps, OldTree, Start, Starts, Stops};
 use std::alloc::Global;
 use touched_pairs::{Marks, Move};
 use tree_change::{Path, PathStep};
@@ -146,16 +147,7 @@ fn a_walk_of_the_tree_as_it_was_keeps_the_blocks_at_stops(rt: HostRuntime) -> Re
     let map = ChunkMap::new(rt.alloc());
     let moves = Move::new(&map, &map, 16_384, 1 << 20);
     let mut looks = Steps::new(());
-    let mut known = KnownTree {
-        table: &table,
-        marks: &marks,
-        moves: &moves,
-        starts: &starts,
-        steps: &mut looks,
-        met: Vec::new(rt.alloc()),
-        ended: Vec::new(rt.alloc()),
-        found: None,
-    };
+    let mut known = known_by(rt.alloc(), &table, &marks, &moves, &starts, &mut looks);
     known.meet(&expected(5, 0x3_8000, 9))?;
     known.meet(&expected(5, 0x5_0000, 7))?;
     let stops = Stops::new(rt.alloc(), known.met.as_slice())?;

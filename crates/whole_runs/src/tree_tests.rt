@@ -1,5 +1,8 @@
 //! The walk that keeps blocks, over the file tree of the base image.
 
+ghost use Rattle.std.specs.Prelude.{◌≡◌};
+ghost use Rattle.live_index.specs.Table.{pairs_of};
+
 use block_source::{BlockSource, Halt};
 use chunk_map::ChunkMap;
 use image_maker::base_image;
@@ -12,7 +15,7 @@ use std::alloc::Global;
 use std::process::Abort;
 use std::test::Fail;
 use super_reader::read_super;
-use touched_pairs::{Move, touched_pairs};
+use touched_pairs::{Marks, Move, touched_pairs};
 use verdict::kinds::{INODE_ITEM, INODE_REF};
 use verdict::{Chunk, Family, Key, NoMemory};
 use write_cache::WriteCache;
@@ -108,16 +111,7 @@ fn walked(
     let marks = touched_pairs(alloc, &table, &cache, &map, sup.nodesize, end, &mut steps)?;
     let moves = Move::new(&map, &map, sup.nodesize, end);
     let starts = Starts::new(alloc);
-    let mut known = KnownTree {
-        table: &table,
-        marks: &marks,
-        moves: &moves,
-        starts: &starts,
-        steps: &mut steps,
-        met: Vec::new(alloc),
-        ended: Vec::new(alloc),
-        found: None,
-    };
+    let mut known = known_by(alloc, &table, &marks, &moves, &starts, &mut steps);
     let mut disk = MemDisk::new(Vec::from_slice(alloc, image)?, Vec::new(alloc));
     let source = BlockSource {
         cache: &cache,
@@ -140,6 +134,30 @@ fn walked(
         Err(Halt::NoMemory) => return Err(NoMemory.into()),
     };
     Ok((found, disk.reads()))
+}
+
+// What is known of a tree as it was by these, before a walk.
+pub(crate) fn known_by<'a, 's>(
+    alloc: Global,
+    table: &'a LiveIndex<()>,
+    marks: &'a Marks,
+    moves: &'a Move<'a>,
+    starts: &'a Starts,
+    steps: &'s mut Steps<()>,
+) -> KnownTree<'a, 's, ()>
+    ensures pairs { pairs_of result.table.now ≡ pairs_of table.now }
+{
+    KnownTree {
+        table,
+        marks,
+        moves,
+        starts,
+        steps,
+        met: Vec::new(alloc),
+        ended: Vec::new(alloc),
+        found: None,
+        behind: None,
+    }
 }
 
 #[test]

@@ -1,6 +1,6 @@
 use Rattle.std.proofs.Common.{ap, ◌∙◌}
 use Rattle.touched_pairs.specs.Touched.{any_written, written_in}
-use Rattle.commit_judge.proofs.EHot.{touch_law}
+use Rattle.touched_pairs.proofs.Writing.{touch_law}
 use Rattle.commit_judge.proofs.hot.touches.Goals as goal
 
 pub returns : goal.returns

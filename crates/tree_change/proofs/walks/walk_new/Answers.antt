@@ -28,5 +28,6 @@ returns-clause-reads g c =
 pub invariant_of-keeps : goal.invariant_of-keeps
 invariant_of-keeps g c = record {
   held = met_none (pairs_of c.args.known.now.table.now) _ c.new.ensures.items;
+  walks = tt;
   stands = tt;
 }

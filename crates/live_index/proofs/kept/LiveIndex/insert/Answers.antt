@@ -4,7 +4,7 @@ use Rattle.std.specs.Prelude.{None, Some, is_some}
 use Rattle.live_index.specs.InOrder.{pairs_in}
 use Rattle.live_index.specs.Orders.{AreAlike}
 use Rattle.live_index.specs.Pairs.{AreNarrow, with_pair}
-use Rattle.live_index.proofs.AlikeLaws.{alike_added, alike_kept, alike_moved, key_had}
+use Rattle.live_index.proofs.AlikeLaws.{alike_added, alike_kept, alike_moved}
 use Rattle.live_index.proofs.IndexLaws.{pairs_back, pairs_put, pairs_restored, pairs_same, pairs_there}
 use Rattle.live_index.proofs.NarrowLaws.{narrow_with}
 use Rattle.live_index.proofs.kept.LiveIndex.insert.Goals as goal
@@ -42,13 +42,6 @@ invariant_of-self-in-Err-add g c =
           (alike_kept (pairs_in c.args.self.now.pairs) c.args.self.now.orders c.add.new.self c.args.self.now.alike c.in-Err-add.ensures.err);
       narrow = subst AreNarrow (sym now) c.args.self.now.narrow;
     }
-
--- src/index.rt:49:36
-pub exchange-requires : goal.exchange-requires
-exchange-requires g c =
-    let there : pairs_in c.args.self.now.pairs c.args.live.tree c.args.live.address ≡ Some c.in-Ok-Some.old =
-    sym (pairs_there c.args.self.now.pairs c.place_of-place.result c.args.live.tree c.args.live.address c.place_of-place.ensures) ∙ sym c.in-Ok-Some.ensures.old ∙ c.in-Ok-Some.field-0-is in
-    key_had (pairs_in c.args.self.now.pairs) c.args.self.now.orders _ _ c.in-Ok-Some.old c.args.self.now.alike there
 
 -- src/index.rt:49:36
 pub invariant_of-self-in-Ok-exchange : goal.invariant_of-self-in-Ok-exchange
