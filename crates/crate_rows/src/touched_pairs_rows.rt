@@ -89,23 +89,35 @@ fn a_write_marks_the_block_of_which_it_meets_a_copy_and_all_above(
     let mut steps = Steps::new(());
     let table = table(rt.alloc(), &mut steps)?;
     let map = map_of(&rt, rt.alloc(), &[chunk(8_388_608, 36, Some(SECOND))])?;
-    let rows: [(u64, &[u8], [bool; 4]); 6] = [
+    // Where the bytes are written, which pairs are marked, and how often the table is looked into.
+    let rows: [(&[u64], &[u8], [bool; 4], u64); 7] = [
         // The last byte of the leaf's second copy, and the first of its first.
-        (SECOND + 32_767, &[1], [true, true, false, false]),
-        (LEAF, &[1], [true, true, false, false]),
+        (&[SECOND + 32_767], &[1], [true, true, false, false], 4),
+        (&[LEAF], &[1], [true, true, false, false], 4),
         // Two bytes, the last of the one leaf and the first of the other.
-        (OTHER - 1, &[1, 2], [true, true, true, false]),
-        (ALONE + 5, &[1], [false, false, false, true]),
+        (&[OTHER - 1], &[1, 2], [true, true, true, false], 6),
+        (&[ALONE + 5], &[1], [false, false, false, true], 3),
         // Before the first copy, and behind the last block's.
-        (START - 1, &[1], [false; 4]),
-        (ALONE + 16_384, &[1], [false; 4]),
+        (&[START - 1], &[1], [false; 4], 0),
+        (&[ALONE + 16_384], &[1], [false; 4], 1),
+        // Three bytes of one leaf, in both copies: it is found once.
+        (
+            &[LEAF, SECOND + 16_384, SECOND + 20_000],
+            &[1],
+            [true, true, false, false],
+            6,
+        ),
     ];
-    for (at, bytes, wanted) in rows {
+    for (offsets, bytes, wanted, looks) in rows {
         let mut cache = WriteCache::new(rt.alloc());
-        assert!(rt; at < END && bytes.len() < 10);
-        cache.put(at, bytes)?;
+        for at in offsets {
+            assert!(rt; *at < END && bytes.len() < 10);
+            cache.put(*at, bytes)?;
+        }
+        let mut steps = Steps::new(());
         let marks = touched_pairs(rt.alloc(), &table, &cache, &map, NODESIZE, END, &mut steps)?;
-        assert_eq!(rt; marked(&marks), wanted, "a write at {at}");
+        assert_eq!(rt; marked(&marks), wanted, "writes at {offsets:?}");
+        assert_eq!(rt; steps.looks(), looks, "writes at {offsets:?}");
     }
     Ok(())
 }
@@ -115,23 +127,27 @@ fn a_chunk_that_changed_marks_the_blocks_that_moved(rt: HostRuntime) -> Result<(
     let mut steps = Steps::new(());
     let table = table(rt.alloc(), &mut steps)?;
     let old = map_of(&rt, rt.alloc(), &[chunk(8_388_608, 36, Some(SECOND))])?;
-    let rows: [(&[Chunk], [bool; 4]); 5] = [
+    // The new chunks, which pairs are marked, and how often the table is looked into.
+    let rows: [(&[Chunk], [bool; 4], u64); 5] = [
         // The same chunk, and one of another class at the same places.
-        (&[chunk(8_388_608, 36, Some(SECOND))], [false; 4]),
-        (&[chunk(8_388_608, 4, Some(SECOND))], [false; 4]),
+        (&[chunk(8_388_608, 36, Some(SECOND))], [false; 4], 0),
+        (&[chunk(8_388_608, 4, Some(SECOND))], [false; 4], 0),
         // A copy elsewhere, one copy less, and none.
-        (&[chunk(8_388_608, 36, Some(SECOND + 4096))], [true; 4]),
-        (&[], [true; 4]),
-        // A chunk that ends before the last two blocks: what is left of it stays in place.
+        (&[chunk(8_388_608, 36, Some(SECOND + 4096))], [true; 4], 9),
+        (&[], [true; 4], 9),
+        // A chunk that ends before the last two blocks: what is left of it stays in place, and is not asked for.
         (
             &[chunk(32_768, 36, Some(SECOND))],
             [true, false, true, true],
+            6,
         ),
     ];
-    for (chunks, wanted) in rows {
+    for (chunks, wanted, looks) in rows {
         let new = map_of(&rt, rt.alloc(), chunks)?;
+        let mut steps = Steps::new(());
         let marks = moved_pairs(rt.alloc(), &table, &old, &new, NODESIZE, END, &mut steps)?;
         assert_eq!(rt; marked(&marks), wanted);
+        assert_eq!(rt; steps.looks(), looks);
     }
     Ok(())
 }

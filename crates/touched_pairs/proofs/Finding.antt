@@ -1,10 +1,11 @@
 -- Which of some ranges in rising order have an offset of a range.
-use Rattle.std.proofs.Common.{◌≡◌, ℕ, zero, suc, ◌+◌, ◌<◌, ◌≤◌, Bool, true, false, ◌||◌, leb, ltb, List, [], ◌∷◌, length, take, drop, get_or, inl, inr, sym, ◌∙◌, refl, ap, subst, arith}
-use Rattle.std.specs.List.{AllWithin, list_any}
+use Rattle.std.proofs.Common.{◌≡◌, ℕ, zero, suc, ◌+◌, ◌<◌, ◌≤◌, Bool, true, false, ◌||◌, leb, ltb, cond, List, [], ◌∷◌, length, take, drop, get_or, inl, inr, sym, ◌∙◌, refl, ap, subst, arith}
+use Rattle.std.specs.List.{AllWithin, count_by, list_any}
 use Rattle.std.specs.List.Sorted.{IsNonDecreasingBy, IsPartitionPoint, IsPartitionedBy}
 use Rattle.std.proofs.lemmas.Bool.{cases_lt}
 use Rattle.std.proofs.lemmas.Bool.Decides.{nat_tests}
 use Rattle.std.proofs.lemmas.List.Sorted.{IsNonDecreasingBy-drop, IsNonDecreasingBy-take, IsPartitionedBy-leb, IsPartitionedBy-ltb}
+use Rattle.std.proofs.lemmas.List.Sums.{sum_by-take-drop, sum_by-take-le}
 use Rattle.touched_pairs.specs.declared.spot.Spot.{Spot}
 use Rattle.touched_pairs.specs.Spots.{StandApart, has_offset}
 
@@ -61,3 +62,11 @@ spots_found spots rest from len first count o is ends begins low high =
     any_before (has_offset o) rest count (λ k d h l. begins_above (from + len) o _ high (begins.1 k d h l))
     ∙ ap (list_any (has_offset o)) is
     ∙ any_behind (has_offset o) spots first (λ k d h l. ends_below from o _ low (ends.0 k d h l))
+
+-- of those that are found no more pass a test than of all
+pub found_fewer : {X : Type 0} (test : X → Bool) (xs : List X) (i m n : ℕ) → count_by test (take n (take m (drop i xs))) ≤ count_by test xs
+found_fewer test xs i m n =
+    let one : count_by test (take n (take m (drop i xs))) ≤ count_by test (take m (drop i xs)) = sum_by-take-le (λ x. cond (test x) 1 0) (take m (drop i xs)) n in
+    let two : count_by test (take m (drop i xs)) ≤ count_by test (drop i xs) = sum_by-take-le (λ x. cond (test x) 1 0) (drop i xs) m in
+    let three : count_by test (take i xs) + count_by test (drop i xs) ≡ count_by test xs = sum_by-take-drop (λ x. cond (test x) 1 0) xs i in
+    omega arith

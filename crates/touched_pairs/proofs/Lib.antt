@@ -1,8 +1,12 @@
 pub mod MarkLaws
 pub mod Marking
 pub mod Going
+pub mod Ranges
 pub mod Writing
 pub mod Finding
 pub mod Each
-pub mod Spotting
+pub mod Counting
 pub mod Moving
+pub mod Adding
+pub mod Gaps
+pub mod Telling

@@ -1,13 +1,15 @@
 -- The steps that mark pairs of a table.
-use Rattle.std.proofs.Common.{◌≡◌, ℕ, ◌<◌, ◌^◌, ◌==◌, Bool, true, false, ◌&&◌, cond, ◌⊎◌, inl, inr, sym, ◌∙◌, refl, ap, subst, arith}
-use Rattle.std.specs.Prelude.{Option, Some, None, is_some}
+use Rattle.std.proofs.Common.{◌≡◌, ℕ, ◌+◌, ◌<◌, ◌≤◌, ◌^◌, ◌==◌, nat_lt, Bool, true, false, ◌&&◌, cond, ◌⊎◌, inl, inr, sym, ◌∙◌, refl, ap, subst, arith}
+use Rattle.std.specs.Prelude.{Option, Some, None, is_some, Result, Ok, Err, OnOk}
 use Rattle.std.proofs.lemmas.Bool.{eqb-true}
 use Rattle.std.proofs.lemmas.Bool.Decides.{nat_tests}
+use Rattle.recon_disk.specs.Outside.{counted}
 use Rattle.live_index.specs.declared.live.Live.{Live}
 use Rattle.live_index.specs.Pairs.{Pairs, Stands}
-use Rattle.touched_pairs.specs.Marking.{AreMarked, AreMarkedFrom, ClimbsTo, parent_of}
+use Rattle.touched_pairs.specs.declared.marks.Marks.{Marks}
+use Rattle.touched_pairs.specs.Marking.{AreMarked, AreMarkedFrom, ClimbsTo, if_above, parent_of}
 use Rattle.touched_pairs.specs.Marking.ClimbsTo.{Here, Up}
-use Rattle.touched_pairs.specs.Marks.{Marked, is_pair, with_mark}
+use Rattle.touched_pairs.specs.Marks.{Marked, count_of, is_pair, marked_by, with_mark}
 
 itself : (n : ℕ) → (n == n) ≡ true
 itself n = grind (arith, nat_tests)
@@ -164,7 +166,64 @@ marked_child pairs live up old mid new small low stands above tree address there
         (subst (λ x. parent_of pairs x live ≡ Some up) (tree_of t from is) above)
         (subst (ClimbsTo pairs t a) (sym (same_address up.tree up.address t from is) ∙ address) way)
 
-pub ruleset steps = (marked_before, marked_root, marked_child)
+-- ---- how often the table is looked at
+
+above_is : (live up : Live) (o : Option Live) → if_above live o ≡ Some up → (x : Live) × (o ≡ Some x) × (live.level < x.level)
+above_is live up None h = absurd (no_up None up refl h)
+above_is live up (Some x) h = (x, refl, less (nat_lt live.level x.level) refl h)
+  where
+    less : (b : Bool) → nat_lt live.level x.level ≡ b → cond b (Some x) None ≡ Some up → live.level < x.level
+    less true is _ = grind (arith, nat_tests)
+    less false is none = absurd (no_up None up refl none)
+
+same_level : (one other : Live) → Some one ≡ Some other → one.level ≡ other.level
+same_level one other same = ap (λ x. elim x as (λ _. ℕ) [ None ↦ 0 | Some l ↦ l.level ]) same
+
+-- what stands above a pair is on no lesser level
+climbs_up : (pairs : Pairs) (t to from : ℕ) (low high : Live) → ClimbsTo pairs t to from → pairs t from ≡ Some low → pairs t to ≡ Some high → low.level ≤ high.level
+climbs_up pairs t to _ low high Here is_low is_high =
+    let same : low.level ≡ high.level = same_level low high (sym is_low ∙ is_high) in omega arith
+climbs_up pairs t to _ low high (Up from live up here above way) is_low is_high =
+    let found = above_is live up (pairs t live.parent) above in
+    let rest : found.0.level ≤ high.level = climbs_up pairs t to live.parent found.0 high way found.1 is_high in
+    let less : live.level < found.0.level = found.2 in
+    let same : live.level ≡ low.level = same_level live low (sym here ∙ is_low) in
+    omega arith
+
+-- so to mark what stands above a pair does not mark the pair
+still_unmarked : (pairs : Pairs) (live up : Live) (old mid : Marked) → Stands pairs live → up.address ≡ live.parent → pairs live.tree live.parent ≡ Some up → live.level < up.level
+    → AreMarked pairs (is_pair up.tree up.address) old mid → old live.tree live.address ≡ false → mid live.tree live.address ≡ false
+still_unmarked pairs live up old mid stands address there higher more none = by (mid live.tree live.address) refl
+  where
+    both : (b : Bool) → b ≡ true → b ≡ false → ⊥
+    both b t f = cc
+
+    no_way : (from : ℕ) → is_pair up.tree up.address live.tree from ≡ true → ClimbsTo pairs live.tree live.address from → ⊥
+    no_way from is way =
+        let upto : up.level ≤ live.level = climbs_up pairs live.tree live.address live.parent up live
+        (subst (ClimbsTo pairs live.tree live.address) (sym (same_address up.tree up.address live.tree from is) ∙ address) way) there stands in
+        omega arith
+
+    by : (b : Bool) → mid live.tree live.address ≡ b → mid live.tree live.address ≡ false
+    by false is = is
+    by true is = absurd (elim (more.only live.tree live.address is) [
+      | inl had ↦ both (old live.tree live.address) had none
+      | inr from ↦ no_way from.0 from.1 from.3
+    ])
+
+-- so a look for the pair above is no more than the mark that follows
+pub looks_child : {T E : Type 0} (r : Result T E) (pairs : Pairs) (live up : Live) (old mid : Marks) (start looked after count : ℕ)
+    → Stands pairs live → up.address ≡ live.parent → pairs live.tree live.parent ≡ Some up → live.level < up.level
+    → AreMarked pairs (is_pair up.tree up.address) (marked_by old) (marked_by mid) → marked_by old live.tree live.address ≡ false
+    → looked ≡ counted start → after + count_of old ≤ looked + count_of mid
+    → OnOk r (count ≡ count_of mid + cond (marked_by mid live.tree live.address) 0 1) → OnOk r (after + count_of old ≤ start + count)
+looks_child (Err e) pairs live up old mid start looked after count stands address there higher more none looks above put = tt
+looks_child (Ok x) pairs live up old mid start looked after count stands address there higher more none looks above put =
+    let one : count ≡ count_of mid + 1 =
+    put ∙ ap (λ b. count_of mid + cond b 0 1) (still_unmarked pairs live up (marked_by old) (marked_by mid) stands address there higher more none) in
+    omega (arith, looks)
+
+pub ruleset steps = (marked_before, marked_root, marked_child, looks_child)
 
 -- some pairs, and then others
 pub marked_then : (pairs : Pairs) (first first_may later later_may must may : Marked) (old mid new : Marked)

@@ -7,12 +7,13 @@ use Rattle.std.specs.Ordering.{nat_cmp}
 use Rattle.std.specs.FinMap.{FinMap, get, get-empty}
 use Rattle.std.proofs.lemmas.Bool.{cases_lt}
 use Rattle.std.proofs.lemmas.Bool.Decides.{nat_tests}
-use Rattle.std.proofs.lemmas.List.{append-nil, append_assoc}
+use Rattle.std.proofs.lemmas.List.{append-nil}
 use Rattle.live_index.specs.Pairs.{Pairs}
 use Rattle.write_cache.specs.Cache.{with_bytes}
 use Rattle.write_cache.specs.Pieces.{AreDisjoint, ArePartsOf, Piece, map_of}
 use Rattle.write_cache.proofs.CacheLaws.{get-with_bytes_in, get-with_bytes_out}
 use Rattle.touched_pairs.specs.declared.spot.Spot.{Spot}
+use Rattle.touched_pairs.specs.Looks.{spot_of}
 use Rattle.touched_pairs.specs.Marking.{AreMarkedFrom}
 use Rattle.touched_pairs.specs.Marks.{Marked, no_mark}
 use Rattle.touched_pairs.specs.Spots.{AreSpotsOf, StandApart, has_offset}
@@ -50,7 +51,7 @@ written_one written at (suc n) h = by (written_one written (suc at) n) (either (
     by rest (inl here) = (at, omega arith, omega arith, here)
     by rest (inr later) = let found = rest later in (found.0, omega (arith, found.1), omega (arith, found.2), found.3)
 
-one_written : (written : Written) (at n o : ℕ) → at ≤ o → o < at + n → written o ≡ true → any_written written at n ≡ true
+pub one_written : (written : Written) (at n o : ℕ) → at ≤ o → o < at + n → written o ≡ true → any_written written at n ≡ true
 unfolding any_written
 one_written written at zero o low high h = absurd (omega arith)
 one_written written at (suc n) o low high h = by (one_written written (suc at) n o) (cases_lt at o)
@@ -69,10 +70,6 @@ touch_law waits pending at n both =
     (λ h. both.1 (written_one (written_in pending) at n h))
 
 -- ---- the ranges of the parts
-
--- the range of a part
-abbrev pub spot_of : Piece → Spot
-spot_of p = record { at = p.at; len = length p.bytes }
 
 has_low : (o : ℕ) (p : Piece) → has_offset o (spot_of p) ≡ true → p.at ≤ o
 has_low o p h = grind (arith, nat_tests)
@@ -106,7 +103,7 @@ begins_behind from (p ∷ pieces) (suc j) d are inside =
     let later : p.at + length p.bytes ≤ (get_or (map spot_of pieces) j d).at = begins_behind (p.at + length p.bytes) pieces j d are.2 (omega arith) in
     omega arith
 
-stand_apart : (from : ℕ) (pieces : List Piece) → AreDisjoint from pieces → StandApart (map spot_of pieces)
+pub stand_apart : (from : ℕ) (pieces : List Piece) → AreDisjoint from pieces → StandApart (map spot_of pieces)
 stand_apart from [] are i j d before inside = absurd (omega arith)
 stand_apart from (p ∷ pieces) are i zero d before inside = absurd (omega arith)
 stand_apart from (p ∷ pieces) are zero (suc j) d before inside = begins_behind (p.at + length p.bytes) pieces j d are.2 (omega arith)
@@ -118,24 +115,19 @@ pub record AreListedTo (m : FinMap nat_cmp ℕ) (spots : List Spot) (left : List
   pub parts : ArePartsOf m pieces
   pub joined : spots ++ map spot_of left ≡ map spot_of pieces
 
-pub spots_start : (m : FinMap nat_cmp ℕ) (spots : List Spot) (pieces : List Piece) → spots ≡ [] → ArePartsOf m pieces → AreListedTo m spots pieces
-spots_start m spots pieces none are = record { pieces = pieces; parts = are; joined = ap (λ l. l ++ map spot_of pieces) none }
-
-pub spots_more : (m : FinMap nat_cmp ℕ) (spots : List Spot) (piece : Piece) (left : List Piece) → AreListedTo m spots (piece ∷ left) → AreListedTo m (spots ++ spot_of piece ∷ []) left
-spots_more m spots piece left listed = record {
-  pieces = listed.pieces;
-  parts = listed.parts;
-  joined = append_assoc spots (spot_of piece ∷ []) (map spot_of left) ∙ listed.joined;
-}
+-- at the end they are those of all
+listed_parts : (m : FinMap nat_cmp ℕ) (spots : List Spot) (left : List Piece) → left ≡ [] → (listed : AreListedTo m spots left) → spots ≡ map spot_of listed.pieces
+listed_parts m spots left none listed = sym (append-nil spots) ∙ ap (λ l. spots ++ map spot_of l) (sym none) ∙ listed.joined
 
 pub spots_end : (m : FinMap nat_cmp ℕ) (spots : List Spot) (left : List Piece) → left ≡ [] → AreListedTo m spots left → AreSpotsOf (written_in m) spots
-spots_end m spots left none listed = subst (AreSpotsOf (written_in m)) (sym is) (record {
+spots_end m spots left none listed = subst (AreSpotsOf (written_in m)) (sym (listed_parts m spots left none listed)) (record {
   apart = stand_apart 0 listed.pieces listed.parts.disjoint;
-  whole = λ o h. sym (map_has listed.pieces o) ∙ subst (λ x. is_some (get x o) ≡ true) (sym listed.parts.whole) h;
+  whole = λ o. subst (λ x. is_some (get x o) ≡ list_any (has_offset o) (map spot_of listed.pieces)) listed.parts.whole (map_has listed.pieces o);
 })
-  where
-    is : spots ≡ map spot_of listed.pieces
-    is = sym (append-nil spots) ∙ ap (λ l. spots ++ map spot_of l) (sym none) ∙ listed.joined
+
+pub parts_end : (m : FinMap nat_cmp ℕ) (spots : List Spot) (left : List Piece) → left ≡ [] → AreListedTo m spots left
+    → (parts : List Piece) × ArePartsOf m parts × (spots ≡ map spot_of parts)
+parts_end m spots left none listed = (listed.pieces, listed.parts, listed_parts m spots left none listed)
 
 -- where there was no mark, none was
 pub from_none : (pairs : Pairs) (must may old new : Marked) → ((t a : ℕ) → old t a ≡ false) → AreMarkedFrom pairs must may old new → AreMarkedFrom pairs must may no_mark new

@@ -5,3 +5,6 @@ pub mod Spots
 pub mod Pending
 pub mod Going
 pub mod Moves
+pub mod Looks
+pub mod Adding
+pub mod Leaving

@@ -1,10 +1,9 @@
 -- Blocks that stand at another place under a new list of chunks than under the old one.
 use Rattle.std.specs.Prelude.{ℕ, ◌+◌, ◌≤◌, ◌⊎◌, Bool, true, false, not, ◌&&◌, ◌==◌, List, [], ◌∷◌, Option, Some, None, is_some}
-use Rattle.std.specs.List.{AllByRecursion, list_any}
-use Rattle.verdict.specs.Chunks.{holds_range, home}
+use Rattle.std.specs.List.{AllByRecursion}
+use Rattle.verdict.specs.Chunks.{home}
 use Rattle.verdict.specs.declared.place.Chunk.{Chunk}
 use Rattle.touched_pairs.specs.declared.moved.Move.{Move}
-use Rattle.touched_pairs.specs.Marks.{Marked}
 use Rattle.touched_pairs.specs.Touched.{stays_in_place}
 
 -- whether the block at an address does not stand where it stood
@@ -44,13 +43,3 @@ is_kept_chunk new chunk = is_same_in chunk (home new chunk.start chunk.length)
 -- whether the block at an address moved, by what is compared
 unfoldable pub move_passes : Move → ℕ → Bool
 move_passes move address = is_moved move.old.now move.new.now move.nodesize move.end address
-
--- the pairs at an address whose block moved and that a chunk holds which is not the same in the new list; and which one of several holds
-abbrev pub changed_holds : Move → ℕ → Chunk → Bool
-changed_holds move address chunk = not (is_kept_chunk move.new.now chunk) && holds_range chunk address move.nodesize
-
-abbrev pub in_changed_chunk : Move → Chunk → Marked
-in_changed_chunk move chunk tree address = changed_holds move address chunk && move_passes move address
-
-abbrev pub in_changed : Move → List Chunk → Marked
-in_changed move chunks tree address = list_any (changed_holds move address) chunks && move_passes move address

@@ -1,11 +1,8 @@
--- The pairs that pending writes touch, chunk by chunk. It serves to state what private functions keep.
+-- The blocks that pending writes touch, chunk by chunk. It serves to state what private functions keep.
 use Rattle.std.specs.Prelude.{ℕ, ◌+◌, ◌-◌, Bool, false, ◌&&◌, ◌||◌, Option, Some, None}
 use Rattle.verdict.specs.Chunks.{holds_range}
 use Rattle.verdict.specs.declared.place.Chunk.{Chunk}
 use Rattle.touched_pairs.specs.declared.pending.Pending.{Pending}
-use Rattle.touched_pairs.specs.declared.spot.Spot.{Spot}
-use Rattle.touched_pairs.specs.Marks.{Marked}
-use Rattle.touched_pairs.specs.Spots.{meets_in_copy}
 use Rattle.touched_pairs.specs.Touched.{any_written, touches_block, written_in}
 
 -- whether one of the writes touches a byte of a copy of the block at an address
@@ -25,14 +22,3 @@ touches_in_second pending chunk (Some second) address = touches_in_copy pending 
 -- the same of one of both
 abbrev pub touches_in_chunk : Pending → Chunk → ℕ → Bool
 touches_in_chunk pending chunk address = touches_in_copy pending chunk chunk.first address || touches_in_second pending chunk chunk.second address
-
--- the pairs at an address where both hold: the writes touch a copy of the block, and a range meets it in a chunk's copy; or they touch
--- it in that copy; or in that chunk
-abbrev pub in_spot : Pending → Spot → Chunk → ℕ → Marked
-in_spot pending spot chunk copy tree address = meets_in_copy spot pending.nodesize chunk copy address && touches pending address
-
-abbrev pub in_copy : Pending → Chunk → ℕ → Marked
-in_copy pending chunk copy tree address = touches_in_copy pending chunk copy address && touches pending address
-
-abbrev pub in_chunk : Pending → Chunk → Marked
-in_chunk pending chunk tree address = touches_in_chunk pending chunk address && touches pending address

@@ -3,6 +3,7 @@ use Rattle.std.specs.Prelude.{ℕ, ◌≡◌, ◌+◌, ◌-◌, ◌<◌, ◌≤�
 use Rattle.std.specs.List.{list_any}
 use Rattle.verdict.specs.Chunks.{holds_range}
 use Rattle.verdict.specs.declared.place.Chunk.{Chunk}
+use Rattle.touched_pairs.specs.declared.range.Range.{Range}
 use Rattle.touched_pairs.specs.declared.spot.Spot.{Spot}
 use Rattle.touched_pairs.specs.Marks.{Marked}
 use Rattle.touched_pairs.specs.Touched.{Written}
@@ -20,10 +21,10 @@ abbrev pub StandApart : List Spot → Type 0
 StandApart spots =
     (i j : ℕ) (d : Spot) → i < j → j < length spots → (slice_index_or spots i d).at + (slice_index_or spots i d).len ≤ (slice_index_or spots j d).at
 
--- ranges in rising order, one of which has each byte that is written
+-- ranges in rising order, one of which has a byte just where it is written
 pub record AreSpotsOf (written : Written) (spots : List Spot) : Type 0 where
   pub apart : StandApart spots
-  pub whole : (o : ℕ) → written o ≡ true → list_any (has_offset o) spots ≡ true
+  pub whole : (o : ℕ) → written o ≡ list_any (has_offset o) spots
 
 -- whether an address is one from one on up to another
 abbrev pub lies_between : ℕ → ℕ → ℕ → Bool
@@ -39,7 +40,14 @@ abbrev pub meets_in_copy : Spot → ℕ → Chunk → ℕ → ℕ → Bool
 meets_in_copy spot nodesize chunk copy address =
     holds_range chunk address nodesize && ranges_meet spot.at spot.len (copy + (address - chunk.start)) nodesize
 
+-- whether a range of addresses has one; and whether one of some ranges has it
+abbrev pub has_address : ℕ → Range → Bool
+has_address address range = lies_between range.from range.last address
+
+abbrev pub is_in : List Range → ℕ → Bool
+is_in ranges address = list_any (has_address address) ranges
+
 -- whether an address lies in a range, where there is one
-abbrev pub LiesIn : Option (ℕ × ℕ) → ℕ → Type 0
+abbrev pub LiesIn : Option Range → ℕ → Type 0
 LiesIn None address = ⊥
-LiesIn (Some range) address = lies_between range.0 range.1 address ≡ true
+LiesIn (Some range) address = has_address address range ≡ true

@@ -1,10 +1,8 @@
 -- Which blocks pending writes touch, and where a block stands by two lists of chunks.
-use Rattle.std.specs.Prelude.{ℕ, zero, suc, ◌+◌, Bool, true, false, ◌&&◌, ◌||◌, ◌==◌, nat_le, nat_lt, List, length, is_some}
-use Rattle.std.specs.List.{list_any}
+use Rattle.std.specs.Prelude.{ℕ, zero, suc, Bool, true, false, ◌&&◌, ◌||◌, ◌==◌, List, is_some}
 use Rattle.std.specs.Ordering.{nat_cmp}
 use Rattle.std.specs.FinMap.{FinMap, get}
 use Rattle.verdict.specs.Chunks.{place}
-use Rattle.verdict.specs.declared.machine.HeldWrite.{HeldWrite}
 use Rattle.verdict.specs.declared.place.Chunk.{Chunk}
 use Rattle.verdict.specs.declared.place.Place.{Place}
 use Rattle.verdict.specs.declared.place.Place.TheVariants.{Nowhere, One, Two}
@@ -16,10 +14,6 @@ Written = ℕ → Bool
 -- the bytes that pending writes have, as a map from offsets to bytes
 abbrev pub written_in : FinMap nat_cmp ℕ → Written
 written_in pending at = is_some (get pending at)
-
--- the bytes that a list of writes has
-abbrev pub written_by : List HeldWrite → Written
-written_by writes at = list_any (λ w. nat_le w.at at && nat_lt at (w.at + length w.bytes)) writes
 
 -- whether one of n bytes from an offset on is written
 unfoldable pub any_written : Written → ℕ → ℕ → Bool

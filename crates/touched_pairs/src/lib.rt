@@ -1,11 +1,13 @@
 //! The live pairs of an accepted image that pending writes touch, with all that stand above them in their trees.
 #![tactic(auto)]
 
+mod leaving;
 mod mark;
 mod marks;
 mod moved;
 mod moves;
 mod pending;
+mod range;
 mod spot;
 mod test;
 mod written;

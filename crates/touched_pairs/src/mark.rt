@@ -1,24 +1,24 @@
 //! The pairs of a table that are touched, with all that stand above them.
 
-ghost use Rattle.std.specs.Prelude.{◌≡◌, ◌<◌, ◌&&◌, Some, IfSome, OnOk};
+ghost use Rattle.std.specs.Prelude.{◌≡◌, ◌+◌, ◌*◌, ◌<◌, ◌≤◌, ◌&&◌, Some, length, IfSome, IfOk, OnOk};
+ghost use Rattle.std.specs.List.Sorted.{IsNonDecreasingBy};
 ghost use Rattle.recon_disk.specs.Outside.{counted};
 ghost use Rattle.live_index.specs.Pairs.{Stands};
 ghost use Rattle.live_index.specs.Table.{pairs_of};
-ghost use Rattle.touched_pairs.specs.Going.{IsNext, met};
+ghost use Rattle.touched_pairs.specs.declared.range.Range.{Range as ARange};
+ghost use Rattle.touched_pairs.specs.Going.{AllPass, AreGone, AreLooks, IsFirst, IsNext, met, reached};
 ghost use Rattle.touched_pairs.specs.Marking.{AreMarked, AreMarkedFrom, parent_of};
-ghost use Rattle.touched_pairs.specs.Marks.{is_pair, marked_by};
-ghost use Rattle.touched_pairs.specs.Pending.{in_chunk, in_copy, in_spot, touches};
-ghost use Rattle.touched_pairs.specs.Spots.{at_address, lies_between};
+ghost use Rattle.touched_pairs.specs.Marks.{count_of, is_pair, marked_by};
+ghost use Rattle.touched_pairs.specs.Spots.{at_address, has_address, is_in};
 
 use crate::marks::Marks;
-use crate::pending::Pending;
-use crate::spot::{Spot, spots_in};
+use crate::range::Range;
 use crate::test::AddressTest;
 use live_index::{Live, LiveIndex};
 use recon_disk::Steps;
-use verdict::{Chunk, NoMemory};
+use verdict::NoMemory;
 
-/// Marks a pair of a table and all that stand above it in its tree.
+/// Marks a pair of a table and all that stand above it in its tree. It looks at most once for each pair that it newly marks.
 #[tactic(auto, using(crate::proofs::Marking::steps))]
 pub fn mark_above<L>(
     table: &LiveIndex<L>,
@@ -29,6 +29,8 @@ pub fn mark_above<L>(
     requires { Stands (pairs_of table.now) live.now }
     ensures ok { OnOk result (AreMarked (pairs_of table.now)
         (is_pair (live.now).tree (live.now).address) (marked_by marks.old) (marked_by marks.new)) }
+    ensures looks { OnOk result
+        (steps.new + count_of marks.old ≤ steps.old + count_of marks.new) }
 {
     if marks.has(live.tree, live.address) {
         return Ok(());
@@ -59,112 +61,96 @@ pub fn parent_of<L>(table: &LiveIndex<L>, live: &Live, steps: &mut Steps<L>) -> 
     }
 }
 
-/// Marks the pairs of a table of whose blocks pending writes touch a copy, and all that stand above them in their trees.
-#[tactic(auto, using(crate::proofs::Spotting::chunks))]
-pub(crate) fn mark_touched<L>(
-    table: &LiveIndex<L>,
-    pending: &Pending<'_>,
-    marks: &mut Marks,
-    steps: &mut Steps<L>,
-) -> Result<(), NoMemory>
-    ensures ok { OnOk result (AreMarked (pairs_of table.now)
-        (at_address (touches pending.now)) (marked_by marks.old) (marked_by marks.new)) }
-{
-    for chunk in pending.map.chunks() {
-        mark_chunk(table, pending, chunk, marks, steps)?;
-    }
-    Ok(())
-}
-
-// Marks the pairs of a table of whose blocks pending writes touch a copy in a chunk, and all that stand above them.
-#[tactic(auto, using(crate::proofs::Spotting::copies))]
-fn mark_chunk<L>(
-    table: &LiveIndex<L>,
-    pending: &Pending<'_>,
-    chunk: &Chunk,
-    marks: &mut Marks,
-    steps: &mut Steps<L>,
-) -> Result<(), NoMemory>
-    ensures ok { OnOk result (AreMarkedFrom (pairs_of table.now)
-        (in_chunk pending.now chunk.now) (at_address (touches pending.now))
-        (marked_by marks.old) (marked_by marks.new)) }
-{
-    mark_copy(table, pending, chunk, chunk.first, marks, steps)?;
-    match chunk.second {
-        None => Ok(()),
-        Some(second) => mark_copy(table, pending, chunk, second, marks, steps),
-    }
-}
-
-// The same in the chunk's copy that begins at an offset of the device.
-#[tactic(auto, using(crate::proofs::Spotting::spots))]
-fn mark_copy<L>(
-    table: &LiveIndex<L>,
-    pending: &Pending<'_>,
-    chunk: &Chunk,
-    copy: u64,
-    marks: &mut Marks,
-    steps: &mut Steps<L>,
-) -> Result<(), NoMemory>
-    ensures ok { OnOk result (AreMarkedFrom (pairs_of table.now)
-        (in_copy pending.now chunk.now copy) (at_address (touches pending.now))
-        (marked_by marks.old) (marked_by marks.new)) }
-{
-    for spot in spots_in(pending.spots.as_slice(), copy, chunk.length) {
-        mark_spot(table, pending, spot, chunk, copy, marks, steps)?;
-    }
-    Ok(())
-}
-
-// The same of those blocks alone of which a range of the device meets that copy.
-#[tactic(auto, using(crate::proofs::Spotting::ranges))]
-fn mark_spot<L>(
-    table: &LiveIndex<L>,
-    pending: &Pending<'_>,
-    spot: &Spot,
-    chunk: &Chunk,
-    copy: u64,
-    marks: &mut Marks,
-    steps: &mut Steps<L>,
-) -> Result<(), NoMemory>
-    ensures ok { OnOk result (AreMarkedFrom (pairs_of table.now)
-        (in_spot pending.now spot.now chunk.now copy) (at_address (touches pending.now))
-        (marked_by marks.old) (marked_by marks.new)) }
-{
-    match spot.blocks_in(chunk, copy, pending.nodesize) {
-        None => Ok(()),
-        Some((from, last)) => mark_between(table, pending, from, last, marks, steps),
-    }
-}
-
-/// Marks the pairs of a table at the addresses from one on up to another that pass a test, and all that stand above them in their
-/// trees.
-#[tactic(auto, using(crate::proofs::Going::steps))]
-pub(crate) fn mark_between<L, T: AddressTest>(
+/// Marks the pairs of a table at the addresses of some ranges that pass a test, and all that stand above them in their trees. The ranges
+/// are in the order of where they begin. Each pair of the table is found at most once.
+#[tactic(auto, using(crate::proofs::Ranges::ranges_start))]
+pub(crate) fn mark_ranges<L, T: AddressTest>(
     table: &LiveIndex<L>,
     test: &T,
-    from: u64,
-    last: u64,
+    ranges: &[Range],
     marks: &mut Marks,
     steps: &mut Steps<L>,
 ) -> Result<(), NoMemory>
-    ensures ok { OnOk result (AreMarked (pairs_of table.now)
-        (at_address (λ a. lies_between from last a && T.passes test.now a))
-        (marked_by marks.old) (marked_by marks.new)) }
+    requires { IsNonDecreasingBy (λ (range : ARange). range.from) ranges.now }
+    ensures ok { OnOk result (AreMarkedFrom (pairs_of table.now)
+        (at_address (λ a. is_in ranges.now a && T.passes test.now a))
+        (at_address (T.passes test.now)) (marked_by marks.old) (marked_by marks.new)) }
+    ensures looks { OnOk result (
+        AllPass (pairs_of table.now) (is_in ranges.now) (T.passes test.now) →
+        steps.new + count_of marks.old ≤
+        steps.old + 2 * count_of marks.new + length ranges.now) }
 {
-    let mut address = from;
-    let mut tree = 0;
-    while let Some(live) = table.at_or_after(address, tree, steps) {
-        if live.address > last {
-            return Ok(());
-        }
-        mark_met(table, test, &live, marks, steps)?;
-        match behind(&live) {
-            Some(next) => (address, tree) = next,
-            None => return Ok(()),
-        }
+    let mut cursor: Option<(u64, u64)> = Some((0, 0));
+    for range in ranges {
+        cursor = mark_range(table, test, range, cursor, marks, steps)?;
     }
     Ok(())
+}
+
+// The same of those in one range that a cursor has not passed. It gives the cursor behind them.
+fn mark_range<L, T: AddressTest>(
+    table: &LiveIndex<L>,
+    test: &T,
+    range: &Range,
+    cursor: Option<(u64, u64)>,
+    marks: &mut Marks,
+    steps: &mut Steps<L>,
+) -> Result<Option<(u64, u64)>, NoMemory>
+    ensures ok { IfOk result (λ _.
+        AreGone (pairs_of table.now) (T.passes test.now) range.now.from cursor
+        (marked_by marks.old) →
+        AreMarked (pairs_of table.now)
+        (at_address (λ a. has_address a range.now && T.passes test.now a))
+        (marked_by marks.old) (marked_by marks.new)) }
+    ensures gone { IfOk result (λ next.
+        AreGone (pairs_of table.now) (T.passes test.now) range.now.from cursor
+        (marked_by marks.old) →
+        AreGone (pairs_of table.now) (T.passes test.now) range.now.from next
+        (marked_by marks.new)) }
+    ensures looks { IfOk result (λ next.
+        AllPass (pairs_of table.now) (λ a. has_address a range.now) (T.passes test.now) →
+        AreLooks steps.old steps.new marks.old marks.new cursor next 1) }
+{
+    let mut at = reached(cursor, range.from);
+    while let Some(live) = first_from(table, at, steps) {
+        if live.address > range.last {
+            return Ok(at);
+        }
+        mark_met(table, test, &live, marks, steps)?;
+        at = behind(&live);
+    }
+    Ok(at)
+}
+
+// The first pair of a table that a cursor has not passed. It looks at most once into the table.
+fn first_from<L>(
+    table: &LiveIndex<L>,
+    cursor: Option<(u64, u64)>,
+    steps: &mut Steps<L>,
+) -> Option<Live>
+    ensures value { IsFirst (pairs_of table.now) cursor result }
+    ensures looks { steps.new ≤ steps.old + 1 }
+{
+    match cursor {
+        None => None,
+        Some((address, tree)) => table.at_or_after(address, tree, steps),
+    }
+}
+
+// A cursor, moved on to an address where it has not come so far.
+fn reached(cursor: Option<(u64, u64)>, from: u64) -> Option<(u64, u64)>
+    ensures { result ≡ reached cursor from }
+{
+    match cursor {
+        None => None,
+        Some((address, tree)) => {
+            if address < from {
+                Some((from, 0))
+            } else {
+                Some((address, tree))
+            }
+        }
+    }
 }
 
 // Marks a pair whose address passes a test, and all that stand above it.
@@ -179,6 +165,8 @@ fn mark_met<L, T: AddressTest>(
     requires { Stands (pairs_of table.now) live.now }
     ensures ok { OnOk result (AreMarked (pairs_of table.now)
         (met (T.passes test.now) live.now) (marked_by marks.old) (marked_by marks.new)) }
+    ensures looks { OnOk result
+        (steps.new + count_of marks.old ≤ steps.old + count_of marks.new) }
 {
     if test.passes(live.address) {
         mark_above(table, live, marks, steps)

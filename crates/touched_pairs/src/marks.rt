@@ -1,6 +1,6 @@
 //! Marks on pairs of a tree and a block.
 
-ghost use Rattle.std.specs.Prelude.{◌≡◌, ℕ, ◌<◌, ◌^◌, false, vec_len, IfOk, OnOk, OnErr};
+ghost use Rattle.std.specs.Prelude.{◌≡◌, ℕ, ◌+◌, ◌<◌, ◌^◌, false, vec_len, if◌then◌else◌, IfOk, OnOk, OnErr};
 ghost use Rattle.std.specs.List.Sorted.{IsStrictlySortedBy};
 ghost use Rattle.touched_pairs.specs.Marks.{by_pair, count_of, marked_by, marked_in, pair_place, with_mark};
 
@@ -47,6 +47,8 @@ impl Marks {
     pub fn put(&mut self, tree: u64, address: u64) -> Result<(), NoMemory>
         ensures ok { OnOk result ((t a : ℕ) →
             marked_by self.new t a ≡ with_mark (marked_by self.old) tree address t a) }
+        ensures count { OnOk result (count_of self.new ≡
+            count_of self.old + (if marked_by self.old tree address then 0 else 1)) }
         ensures err { OnErr result ((t a : ℕ) → marked_by self.new t a ≡ marked_by self.old t a) }
     {
         match self.places.insert(place_of(tree, address)) {

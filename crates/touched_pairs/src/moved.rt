@@ -24,7 +24,7 @@ pub struct Move<'a> {
 }
 
 impl<'a> Move<'a> {
-    ghost use Rattle.std.specs.Prelude.{◌≡◌};
+    ghost use Rattle.std.specs.Prelude.{◌≡◌, true};
 
     /// The move from old chunks to new ones, of blocks of `nodesize` bytes on a device of `end` bytes. It costs a pass over the chunks.
     pub fn new(old: &'a ChunkMap, new: &'a ChunkMap, nodesize: u32, end: u64) -> Move<'a>
@@ -32,6 +32,7 @@ impl<'a> Move<'a> {
         ensures new { result.new.now ≡ new.now }
         ensures nodesize { result.nodesize ≡ nodesize }
         ensures end { result.end ≡ end }
+        ensures same { old.now ≡ new.now → result.is_same ≡ true }
     {
         Move {
             old,

@@ -1,25 +1,30 @@
 //! The pairs of a table whose blocks stand at another place under new chunks.
 
-ghost use Rattle.std.specs.Prelude.{◌≡◌, ◌<◌, ◌&&◌, not, IfOk, OnOk};
+ghost use Rattle.std.specs.Prelude.{◌≡◌, ◌+◌, ◌*◌, ◌<◌, ◌≤◌, length, IfOk};
 ghost use Rattle.live_index.specs.Table.{pairs_of};
+ghost use Rattle.touched_pairs.specs.Looks.{ArePlaced};
 ghost use Rattle.touched_pairs.specs.Marking.{AreMarkedFrom};
-ghost use Rattle.touched_pairs.specs.Marks.{marked_by, no_mark};
-ghost use Rattle.touched_pairs.specs.Moves.{AreApart, held_and_moved, in_changed, in_changed_chunk, is_kept_chunk, is_moved, move_passes, same_chunk};
+ghost use Rattle.touched_pairs.specs.Marks.{count_of, marked_by, no_mark};
+ghost use Rattle.touched_pairs.specs.Moves.{AreApart, held_and_moved, is_moved};
 ghost use Rattle.touched_pairs.specs.Spots.{at_address};
 
-use crate::mark::mark_between;
+use crate::leaving::ranges_left;
+use crate::mark::mark_ranges;
 use crate::marks::Marks;
 use crate::moved::Move;
 use chunk_map::ChunkMap;
 use live_index::LiveIndex;
 use recon_disk::Steps;
 use std::alloc::Global;
-use verdict::{Chunk, NoMemory};
+use verdict::NoMemory;
 
 /// Marks on the pairs of a table whose block stands at another place, or at none, under new chunks than under the old ones that hold
 /// it, and on all pairs that stand above them in their trees. A block has `nodesize` bytes, and the device `end`. It costs a pass
-/// over the chunks where both lists are the same, and else a search for each chunk, and looks at the pairs of those alone that are not
-/// the same in the new list. No two of the new chunks may overlap.
+/// over the chunks where both lists are the same, and then no look. Else it costs a sort of the new chunks, and for each old chunk a
+/// search, and a pass over the new ones where it is not the same among them. Such a chunk gives ranges of addresses: those at which no new
+/// chunk holds a block at the same place. It goes once through the table's pairs in these ranges, and finds none twice. So where each pair
+/// has a place, and no two chunks of a list overlap, it looks at most twice for each mark and for each old chunk, and once for each new
+/// chunk. No two of the new chunks may overlap.
 pub fn moved_pairs<L>(
     alloc: Global,
     table: &LiveIndex<L>,
@@ -33,73 +38,17 @@ pub fn moved_pairs<L>(
         (pairs_of table.now)
         (at_address (held_and_moved old.now new.now nodesize end))
         (at_address (is_moved old.now new.now nodesize end)) no_mark (marked_by marks)) }
+    ensures same { old.now ≡ new.now → steps.new ≡ steps.old }
+    ensures looks { IfOk result (λ marks. ArePlaced (pairs_of table.now) old.now nodesize end →
+        AreApart old.now → AreApart new.now → 0 < nodesize →
+        steps.new ≤ steps.old + 2 * count_of marks + 2 * length old.now + length new.now) }
 {
     let mut marks = Marks::new(alloc);
     let test = Move::new(old, new, nodesize, end);
     if test.is_same {
         return Ok(marks);
     }
-    mark_moves(table, &test, &mut marks, steps)?;
+    let ranges = ranges_left(alloc, &test)?;
+    mark_ranges(table, &test, ranges.as_slice(), &mut marks, steps)?;
     Ok(marks)
-}
-
-// Marks the pairs of a table whose block stands at another place, and all that stand above them.
-#[tactic(auto, using(crate::proofs::Moving::moves))]
-fn mark_moves<L>(
-    table: &LiveIndex<L>,
-    test: &Move<'_>,
-    marks: &mut Marks,
-    steps: &mut Steps<L>,
-) -> Result<(), NoMemory>
-    ensures ok { OnOk result (AreMarkedFrom (pairs_of table.now)
-        (in_changed test.now (test.now).old.now) (at_address (move_passes test.now))
-        (marked_by marks.old) (marked_by marks.new)) }
-{
-    for chunk in test.old.chunks() {
-        mark_chunk(table, test, chunk, marks, steps)?;
-    }
-    Ok(())
-}
-
-// The same of the blocks that a chunk holds, where it is not the same among the new ones.
-fn mark_chunk<L>(
-    table: &LiveIndex<L>,
-    test: &Move<'_>,
-    chunk: &Chunk,
-    marks: &mut Marks,
-    steps: &mut Steps<L>,
-) -> Result<(), NoMemory>
-    ensures ok { OnOk result (AreMarkedFrom (pairs_of table.now)
-        (in_changed_chunk test.now chunk.now) (at_address (move_passes test.now))
-        (marked_by marks.old) (marked_by marks.new)) }
-{
-    if is_kept(test.new, chunk) {
-        return Ok(());
-    }
-    let last = chunk.start.saturating_add(chunk.length);
-    mark_between(table, test, chunk.start, last, marks, steps)
-}
-
-// Whether a chunk is the same in a list.
-fn is_kept(new: &ChunkMap, chunk: &Chunk) -> bool
-    ensures { result ≡ is_kept_chunk new.now chunk.now }
-{
-    match new.home(chunk.start, chunk.length) {
-        None => false,
-        Some(other) => same_chunk(chunk, &other),
-    }
-}
-
-// Whether two chunks hold the same addresses at the same places.
-fn same_chunk(one: &Chunk, other: &Chunk) -> bool
-    ensures { result ≡ same_chunk one.now other.now }
-{
-    one.start == other.start
-        && one.length == other.length
-        && one.first == other.first
-        && match (one.second, other.second) {
-            (None, None) => true,
-            (Some(a), Some(b)) => a == b,
-            _ => false,
-        }
 }

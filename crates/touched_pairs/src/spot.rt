@@ -1,10 +1,15 @@
 //! Ranges of bytes of the device, and the blocks of which they meet a copy.
 
-ghost use Rattle.std.specs.Prelude.{◌≡◌, ◌+◌, ◌≤◌, ◌<◌, ◌^◌, ℕ, true, nat_le, nat_lt, IfOk, IfSome};
-ghost use Rattle.std.specs.List.{list_any};
-ghost use Rattle.touched_pairs.specs.Spots.{AreSpotsOf, LiesIn, StandApart, has_offset, meets_in_copy};
+ghost use Rattle.std.specs.Prelude.{◌≡◌, ◌+◌, ◌≤◌, ◌<◌, ◌^◌, ℕ, Bool, true, nat_le, nat_lt, List, map, IfOk, IfSome};
+ghost use Rattle.std.specs.List.{count_by, list_any};
+ghost use Rattle.verdict.specs.Chunks.{holds_range};
+ghost use Rattle.write_cache.specs.Pieces.{ArePartsOf, Piece};
+ghost use Rattle.touched_pairs.specs.declared.spot.Spot.{Spot as ASpot};
+ghost use Rattle.touched_pairs.specs.Looks.{spot_of};
+ghost use Rattle.touched_pairs.specs.Spots.{AreSpotsOf, LiesIn, StandApart, has_address, has_offset, meets_in_copy, ranges_meet};
 ghost use Rattle.touched_pairs.specs.Touched.{written_in};
 
+use crate::range::Range;
 use std::alloc::Global;
 use verdict::{Chunk, NoMemory};
 use write_cache::WriteCache;
@@ -19,26 +24,36 @@ pub(crate) struct Spot {
 }
 
 impl Spot {
-    /// The least and the greatest address that a block of a chunk, of `nodesize` bytes, may have that the range meets in the chunk's copy
-    /// that begins at an offset of the device, `None` where it meets nothing of that copy. The least does not lie in front of the chunk, and
-    /// the greatest not behind it.
-    pub(crate) fn blocks_in(&self, chunk: &Chunk, copy: u64, nodesize: u32) -> Option<(u64, u64)>
+    /// The addresses that a block of a chunk, of `nodesize` bytes, may have that the range meets in the chunk's copy that begins at an
+    /// offset of the device, `None` where it meets nothing of that copy. The least does not lie in front of the chunk, and the greatest
+    /// not behind it.
+    pub(crate) fn blocks_in(&self, chunk: &Chunk, copy: u64, nodesize: u32) -> Option<Range>
         ensures met { (a : ℕ) → a < 2 ^ 64 →
             meets_in_copy self.now nodesize chunk.now copy a ≡ true → LiesIn result a }
-        ensures low { IfSome result (λ range. chunk.now.start ≤ range.0) }
-        ensures high { IfSome result (λ range. range.1 < chunk.now.start + chunk.now.length) }
+        ensures low { IfSome result (λ range. chunk.now.start ≤ range.from) }
+        ensures high { IfSome result (λ range.
+            range.last < chunk.now.start + chunk.now.length) }
+        ensures only { IfSome result (λ range. (a : ℕ) → 0 < nodesize →
+            has_address a range ≡ true → holds_range chunk.now a nodesize ≡ true →
+            meets_in_copy self.now nodesize chunk.now copy a ≡ true) }
+        ensures meets { IfSome result (λ range.
+            ranges_meet self.now.at self.now.len copy chunk.now.length ≡ true) }
     {
         let inside = chunk.length.checked_sub(1)?;
         let more = self.len.checked_sub(1)?;
+        let skip = self.at.saturating_sub(copy);
+        if skip > inside {
+            return None;
+        }
         let reach = if self.at < copy {
             more.checked_sub(copy - self.at)?
         } else {
-            (self.at - copy).saturating_add(more)
+            skip.saturating_add(more)
         };
-        let low = chunk.start.saturating_add(self.at.saturating_sub(copy));
-        let from = low.saturating_sub(u64::from(nodesize.saturating_sub(1)));
+        let begin = skip.saturating_sub(u64::from(nodesize.saturating_sub(1)));
+        let from = chunk.start.checked_add(begin)?;
         let last = chunk.start.saturating_add(reach.min(inside));
-        Some((from.max(chunk.start), last))
+        Some(Range { from, last })
     }
 
     // Whether it ends at an offset or before it.
@@ -59,8 +74,9 @@ impl Spot {
 /// Those of some ranges in rising order that may have one of the `len` bytes from an offset on. They are found by two binary searches.
 pub(crate) fn spots_in(spots: &[Spot], from: u64, len: u64) -> &[Spot]
     requires { StandApart spots.now }
-    ensures { (o : ℕ) → from ≤ o → o < from + len →
+    ensures any { (o : ℕ) → from ≤ o → o < from + len →
         list_any (has_offset o) result.now ≡ list_any (has_offset o) spots.now }
+    ensures fewer { (test : ASpot → Bool) → count_by test result.now ≤ count_by test spots.now }
 {
     let first = spots.partition_point(|spot| spot.ends_by(from));
     let rest = &spots[first..];
@@ -70,7 +86,9 @@ pub(crate) fn spots_in(spots: &[Spot], from: u64, len: u64) -> &[Spot]
 
 /// The ranges of the bytes that pending writes have, in rising order. The list takes its memory from this allocator.
 pub(crate) fn spots_of(alloc: Global, cache: &WriteCache) -> Result<Vec<Spot>, NoMemory>
-    ensures { IfOk result (λ spots. AreSpotsOf (written_in cache.now) spots.items) }
+    ensures spots { IfOk result (λ spots. AreSpotsOf (written_in cache.now) spots.items) }
+    ensures parts { IfOk result (λ spots.
+        (parts : List Piece) × ArePartsOf cache.now parts × (spots.items ≡ map spot_of parts)) }
 {
     let mut spots = Vec::new(alloc);
     for (at, bytes) in cache.parts() {

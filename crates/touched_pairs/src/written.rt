@@ -1,15 +1,18 @@
 //! The pairs of a table that pending writes touch.
 
-ghost use Rattle.std.specs.Prelude.{◌≡◌, IfOk};
+ghost use Rattle.std.specs.Prelude.{◌≡◌, ◌<◌, IfOk};
 ghost use Rattle.live_index.specs.Table.{pairs_of};
+ghost use Rattle.touched_pairs.specs.Looks.{AreFewLooks, ArePlaced};
 ghost use Rattle.touched_pairs.specs.Marking.{AreMarked};
-ghost use Rattle.touched_pairs.specs.Marks.{marked_by, no_mark};
+ghost use Rattle.touched_pairs.specs.Marks.{count_of, marked_by, no_mark};
+ghost use Rattle.touched_pairs.specs.Moves.{AreApart};
 ghost use Rattle.touched_pairs.specs.Spots.{at_address};
 ghost use Rattle.touched_pairs.specs.Touched.{touches_block, written_in};
 
-use crate::mark::mark_touched;
+use crate::mark::mark_ranges;
 use crate::marks::Marks;
 use crate::pending::Pending;
+use crate::range::ranges_of;
 use crate::spot::spots_of;
 use chunk_map::ChunkMap;
 use live_index::LiveIndex;
@@ -20,9 +23,10 @@ use write_cache::WriteCache;
 
 /// Marks on the pairs of a table of whose blocks a pending write touches a byte of a copy, and on all pairs that stand above them in
 /// their trees. A block has `nodesize` bytes, and its copies stand by the chunks of `map` on a device of `end` bytes. It costs a pass
-/// over the parts of the writes, two binary searches among them for each copy of a chunk, and for each part that meets the copy a look
-/// at the pairs of those addresses at which it may meet a block there.
-#[tactic(auto, using(crate::proofs::Writing::from_none), unfolding(crate::specs::Pending::touches))]
+/// over the parts of the writes, and two binary searches among them for each copy of a chunk. For each part that meets a copy it notes
+/// the addresses at which the part may meet a block there, and it sorts these notes. Then it goes once through the table's pairs at those
+/// addresses, and finds none twice. So where each pair has a place, and no two chunks overlap, it looks at most twice for each mark, and
+/// once for each note.
 pub fn touched_pairs<L>(
     alloc: Global,
     table: &LiveIndex<L>,
@@ -35,6 +39,9 @@ pub fn touched_pairs<L>(
     ensures ok { IfOk result (λ marks. AreMarked (pairs_of table.now)
         (at_address (touches_block (written_in cache.now) map.now nodesize end))
         no_mark (marked_by marks)) }
+    ensures looks { IfOk result (λ marks. ArePlaced (pairs_of table.now) map.now nodesize end →
+        AreApart map.now → 0 < nodesize →
+        AreFewLooks cache.now map.now (count_of marks) steps.old steps.new) }
 {
     let mut marks = Marks::new(alloc);
     let pending = Pending {
@@ -44,6 +51,7 @@ pub fn touched_pairs<L>(
         nodesize,
         end,
     };
-    mark_touched(table, &pending, &mut marks, steps)?;
+    let ranges = ranges_of(alloc, &pending)?;
+    mark_ranges(table, &pending, ranges.as_slice(), &mut marks, steps)?;
     Ok(marks)
 }
