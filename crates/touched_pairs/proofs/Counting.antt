@@ -8,13 +8,13 @@ use Rattle.std.proofs.lemmas.Bool.Decides.{nat_tests}
 use Rattle.std.proofs.lemmas.List.{length-map}
 use Rattle.std.proofs.lemmas.List.Sums.{sum_by-cons, sum_by-le}
 use Rattle.verdict.specs.declared.place.Chunk.{Chunk}
-use Rattle.write_cache.specs.Pieces.{ArePartsOf, Piece}
+use Rattle.write_cache.specs.Pieces.{ArePiecesOf, Piece}
 use Rattle.touched_pairs.specs.declared.spot.Spot.{Spot}
 use Rattle.touched_pairs.specs.Leaving.{meet_by, ranges_left}
-use Rattle.touched_pairs.specs.Looks.{EndsBefore, NoneMeet, copies_of, copy_at, in_copies, in_second_copy, range_count, spot_of, with_second}
+use Rattle.touched_pairs.specs.Looks.{EndsBefore, NoneMeet, copies_of, copy_at, in_copies, in_second_copy, meet_count, range_count, spot_of, with_second}
 use Rattle.touched_pairs.specs.Moves.{AreApart, LieApart}
 use Rattle.touched_pairs.specs.Spots.{StandApart, ranges_meet}
-use Rattle.touched_pairs.proofs.Writing.{stand_apart}
+use Rattle.touched_pairs.proofs.Joining.{runs_apart, runs_of_pieces}
 
 nothing : false ≡ true → ⊥
 nothing h = cc
@@ -229,16 +229,16 @@ pub few_left : (n : ℕ) (old new : List Chunk) → AreApart old → AreApart ne
 few_left n old new apart new_apart some =
     omega (arith, left_sum n old new new_apart some, begins_few (map span new) (map span old) (spans_apart old apart), length-map new span)
 
--- Where no two copies meet on the device, the parts that meet copies are at most as many as all parts and two for each chunk: of those that
--- meet a copy all but one begin in it, and a part begins in one copy at most.
-pub few_ranges : (pending : FinMap nat_cmp ℕ) (parts : List Piece) (chunks : List Chunk) → ArePartsOf pending parts → NoneMeet (copies_of chunks)
-    → range_count (map spot_of parts) chunks ≤ length parts + 2 * length chunks
-few_ranges pending parts chunks are apart =
+-- Where no two copies meet on the device, the pieces that meet copies are at most as many as all pieces and two for each chunk: of those that
+-- meet a copy all but one begin in it, and a piece begins in one copy at most.
+pub few_ranges : (pending : FinMap nat_cmp ℕ) (pieces : List Piece) (chunks : List Chunk) → ArePiecesOf pending pieces → NoneMeet (copies_of chunks)
+    → meet_count pieces chunks ≤ length pieces + 2 * length chunks
+few_ranges pending pieces chunks are apart =
     omega (
       arith,
-      by_copies (map spot_of parts) chunks,
-      meets_few (map spot_of parts) (copies_of chunks) (stand_apart 0 parts are.disjoint),
-      begins_few (map spot_of parts) (copies_of chunks) apart,
+      by_copies (map spot_of pieces) chunks,
+      meets_few (map spot_of pieces) (copies_of chunks) (runs_apart 0 (map spot_of pieces) (runs_of_pieces 0 pieces are.apart)),
+      begins_few (map spot_of pieces) (copies_of chunks) apart,
       two_each chunks,
-      length-map parts spot_of,
+      length-map pieces spot_of,
     )

@@ -1,8 +1,10 @@
 pub mod MarkLaws
 pub mod Marking
+pub mod Among
 pub mod Going
 pub mod Ranges
 pub mod Writing
+pub mod Joining
 pub mod Finding
 pub mod Each
 pub mod Counting

@@ -168,7 +168,7 @@ marked_child pairs live up old mid new small low stands above tree address there
 
 -- ---- how often the table is looked at
 
-above_is : (live up : Live) (o : Option Live) → if_above live o ≡ Some up → (x : Live) × (o ≡ Some x) × (live.level < x.level)
+pub above_is : (live up : Live) (o : Option Live) → if_above live o ≡ Some up → (x : Live) × (o ≡ Some x) × (live.level < x.level)
 above_is live up None h = absurd (no_up None up refl h)
 above_is live up (Some x) h = (x, refl, less (nat_lt live.level x.level) refl h)
   where

@@ -10,6 +10,7 @@ use Rattle.verdict.specs.Chunks.{holds_range, home, place, place_in, place_of_co
 use Rattle.verdict.specs.declared.place.Chunk.{Chunk}
 use Rattle.verdict.specs.declared.place.Place.{Place}
 use Rattle.verdict.specs.declared.place.Place.TheVariants.{Nowhere, One, Two}
+use Rattle.live_index.specs.declared.live.Live.{Live}
 use Rattle.live_index.specs.Pairs.{Pairs}
 use Rattle.touched_pairs.specs.declared.moved.Move.{Move}
 use Rattle.touched_pairs.specs.declared.marks.Marks.{Marks}
@@ -18,11 +19,12 @@ use Rattle.touched_pairs.specs.Adding.{AreAdded}
 use Rattle.touched_pairs.specs.Going.{AllPass}
 use Rattle.touched_pairs.specs.Leaving.{IsMoving, both_hold, leaves, leaves_one, lie_alike, ranges_left, same_offset, same_seconds}
 use Rattle.touched_pairs.specs.Looks.{ArePlaced}
-use Rattle.touched_pairs.specs.Marking.{AreMarkedFrom}
-use Rattle.touched_pairs.specs.Marks.{Marked, count_of, no_mark}
+use Rattle.touched_pairs.specs.Marking.{AreLow, AreMarkedFrom, HaveEach}
+use Rattle.touched_pairs.specs.Marks.{AreAmong, Marked, count_of, no_mark}
 use Rattle.touched_pairs.specs.Moves.{AreApart, LieApart, held_and_moved, is_kept_chunk, is_moved, is_same_in, move_passes, same_chunk, same_second}
 use Rattle.touched_pairs.specs.Spots.{at_address, is_in}
 use Rattle.touched_pairs.specs.Touched.{same_place, stays_in_place}
+use Rattle.touched_pairs.proofs.Among.{few_marked}
 use Rattle.touched_pairs.proofs.Counting.{few_left}
 use Rattle.touched_pairs.proofs.Marking.{marked_as}
 use Rattle.touched_pairs.proofs.Writing.{left_of, right_of, and_true, or_left, or_right, decided, from_none}
@@ -325,3 +327,21 @@ pub looks_of_move : (pairs : Pairs) (move : Move) (old new : List Chunk) (n end 
     → AreMoveLooks pairs (count_of marks) before now old new n end
 looks_of_move pairs move old new n end ranges slice none marks before now is_old is_new is_size is_end all is looks =
     by_lists (AreMoveLooks pairs (count_of marks) before now) move old new n end is_old is_new is_size is_end (moved_looks pairs move ranges slice none marks before now all is looks)
+
+-- and how many marks there are at most
+abbrev pub HaveFewMarks : Pairs → ℕ → List Chunk → List Chunk → ℕ → ℕ → Type 0
+HaveFewMarks pairs marks old new n end = AreLow pairs → (lives : List Live) → HaveEach pairs (is_moved old new n end) lives → marks ≤ 8 * length lives
+
+few_by_move : (pairs : Pairs) (move : Move) (must none marked : Marked) (count : ℕ) → ((t a : ℕ) → none t a ≡ false)
+    → AreMarkedFrom pairs must (at_address (move_passes move)) none marked → ((lives : List Live) → AreAmong marked lives → count ≤ length lives)
+    → HaveFewMarks pairs count move.old.now move.new.now move.nodesize move.end
+unfolding move_passes
+few_by_move pairs move must none marked count unmarked more counted =
+    few_marked pairs (is_moved move.old.now move.new.now move.nodesize move.end) must none marked count unmarked more counted
+
+pub few_of_move : (pairs : Pairs) (move : Move) (old new : List Chunk) (n end : ℕ) (must none marked : Marked) (count : ℕ)
+    → move.old.now ≡ old → move.new.now ≡ new → move.nodesize ≡ n → move.end ≡ end → ((t a : ℕ) → none t a ≡ false)
+    → AreMarkedFrom pairs must (at_address (move_passes move)) none marked → ((lives : List Live) → AreAmong marked lives → count ≤ length lives)
+    → HaveFewMarks pairs count old new n end
+few_of_move pairs move old new n end must none marked count is_old is_new is_size is_end unmarked more counted =
+    by_lists (HaveFewMarks pairs count) move old new n end is_old is_new is_size is_end (few_by_move pairs move must none marked count unmarked more counted)

@@ -1,5 +1,5 @@
 -- Which bytes pending writes have, and the ranges in which they have them.
-use Rattle.std.proofs.Common.{◌≡◌, ℕ, zero, suc, ◌+◌, ◌<◌, ◌≤◌, Bool, true, false, ◌&&◌, ◌||◌, List, [], ◌∷◌, ◌++◌, length, map, get_or, ◌⊎◌, inl, inr, sym, ◌∙◌, refl, ap, subst, arith}
+use Rattle.std.proofs.Common.{◌≡◌, ℕ, zero, suc, ◌+◌, ◌<◌, ◌≤◌, Bool, true, false, ◌&&◌, ◌||◌, List, [], ◌∷◌, length, map, ◌⊎◌, inl, inr, sym, ◌∙◌, refl, ap, subst, arith}
 use Rattle.std.specs.Prelude.{◌↔◌, IsTrue, IsSome, is_some}
 use Rattle.std.specs.Cmp.{both_ways}
 use Rattle.std.specs.List.{list_any}
@@ -7,16 +7,14 @@ use Rattle.std.specs.Ordering.{nat_cmp}
 use Rattle.std.specs.FinMap.{FinMap, get, get-empty}
 use Rattle.std.proofs.lemmas.Bool.{cases_lt}
 use Rattle.std.proofs.lemmas.Bool.Decides.{nat_tests}
-use Rattle.std.proofs.lemmas.List.{append-nil}
 use Rattle.live_index.specs.Pairs.{Pairs}
 use Rattle.write_cache.specs.Cache.{with_bytes}
-use Rattle.write_cache.specs.Pieces.{AreDisjoint, ArePartsOf, Piece, map_of}
+use Rattle.write_cache.specs.Pieces.{Piece, map_of}
 use Rattle.write_cache.proofs.CacheLaws.{get-with_bytes_in, get-with_bytes_out}
-use Rattle.touched_pairs.specs.declared.spot.Spot.{Spot}
 use Rattle.touched_pairs.specs.Looks.{spot_of}
 use Rattle.touched_pairs.specs.Marking.{AreMarkedFrom}
 use Rattle.touched_pairs.specs.Marks.{Marked, no_mark}
-use Rattle.touched_pairs.specs.Spots.{AreSpotsOf, StandApart, has_offset}
+use Rattle.touched_pairs.specs.Spots.{has_offset}
 use Rattle.touched_pairs.specs.Touched.{Written, any_written, written_in}
 
 pub left_of : (a b : Bool) → (a && b) ≡ true → a ≡ true
@@ -84,7 +82,7 @@ some_out o p h inside =
     grind (arith, nat_tests)
 
 -- the map of parts has a byte at just the offsets that one of them has
-map_has : (pieces : List Piece) (o : ℕ) → is_some (get (map_of pieces) o) ≡ list_any (has_offset o) (map spot_of pieces)
+pub map_has : (pieces : List Piece) (o : ℕ) → is_some (get (map_of pieces) o) ≡ list_any (has_offset o) (map spot_of pieces)
 unfolding map_of
 map_has [] o = ap is_some (get-empty nat_cmp o)
 map_has (p ∷ pieces) o = by (map_has pieces o) (has_offset o (spot_of p)) refl
@@ -93,41 +91,6 @@ map_has (p ∷ pieces) o = by (map_has pieces o) (has_offset o (spot_of p)) refl
         → is_some (get (with_bytes (map_of pieces) p.at p.bytes) o) ≡ (b || list_any (has_offset o) (map spot_of pieces))
     by rest true h = ap is_some (get-with_bytes_in (map_of pieces) p.at p.bytes o (has_low o p h) (has_high o p h))
     by rest false h = ap is_some (get-with_bytes_out (map_of pieces) p.at p.bytes o (some_out o p h)) ∙ rest
-
--- disjoint parts stand apart
-begins_behind : (from : ℕ) (pieces : List Piece) (j : ℕ) (d : Spot) → AreDisjoint from pieces → j < length (map spot_of pieces) → from ≤ (get_or (map spot_of pieces) j d).at
-begins_behind from [] j d are inside = absurd (omega arith)
-begins_behind from (p ∷ pieces) zero d are inside = are.0
-begins_behind from (p ∷ pieces) (suc j) d are inside =
-    let first : from ≤ p.at = are.0 in
-    let later : p.at + length p.bytes ≤ (get_or (map spot_of pieces) j d).at = begins_behind (p.at + length p.bytes) pieces j d are.2 (omega arith) in
-    omega arith
-
-pub stand_apart : (from : ℕ) (pieces : List Piece) → AreDisjoint from pieces → StandApart (map spot_of pieces)
-stand_apart from [] are i j d before inside = absurd (omega arith)
-stand_apart from (p ∷ pieces) are i zero d before inside = absurd (omega arith)
-stand_apart from (p ∷ pieces) are zero (suc j) d before inside = begins_behind (p.at + length p.bytes) pieces j d are.2 (omega arith)
-stand_apart from (p ∷ pieces) are (suc i) (suc j) d before inside = stand_apart (p.at + length p.bytes) pieces are.2 i j d (omega arith) (omega arith)
-
--- the ranges so far and those of the parts that are left are the ranges of all parts
-pub record AreListedTo (m : FinMap nat_cmp ℕ) (spots : List Spot) (left : List Piece) : Type 0 where
-  pub pieces : List Piece
-  pub parts : ArePartsOf m pieces
-  pub joined : spots ++ map spot_of left ≡ map spot_of pieces
-
--- at the end they are those of all
-listed_parts : (m : FinMap nat_cmp ℕ) (spots : List Spot) (left : List Piece) → left ≡ [] → (listed : AreListedTo m spots left) → spots ≡ map spot_of listed.pieces
-listed_parts m spots left none listed = sym (append-nil spots) ∙ ap (λ l. spots ++ map spot_of l) (sym none) ∙ listed.joined
-
-pub spots_end : (m : FinMap nat_cmp ℕ) (spots : List Spot) (left : List Piece) → left ≡ [] → AreListedTo m spots left → AreSpotsOf (written_in m) spots
-spots_end m spots left none listed = subst (AreSpotsOf (written_in m)) (sym (listed_parts m spots left none listed)) (record {
-  apart = stand_apart 0 listed.pieces listed.parts.disjoint;
-  whole = λ o. subst (λ x. is_some (get x o) ≡ list_any (has_offset o) (map spot_of listed.pieces)) listed.parts.whole (map_has listed.pieces o);
-})
-
-pub parts_end : (m : FinMap nat_cmp ℕ) (spots : List Spot) (left : List Piece) → left ≡ [] → AreListedTo m spots left
-    → (parts : List Piece) × ArePartsOf m parts × (spots ≡ map spot_of parts)
-parts_end m spots left none listed = (listed.pieces, listed.parts, listed_parts m spots left none listed)
 
 -- where there was no mark, none was
 pub from_none : (pairs : Pairs) (must may old new : Marked) → ((t a : ℕ) → old t a ≡ false) → AreMarkedFrom pairs must may old new → AreMarkedFrom pairs must may no_mark new

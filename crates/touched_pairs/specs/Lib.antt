@@ -7,4 +7,5 @@ pub mod Going
 pub mod Moves
 pub mod Looks
 pub mod Adding
+pub mod Joining
 pub mod Leaving

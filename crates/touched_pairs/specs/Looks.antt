@@ -1,14 +1,12 @@
 -- How many looks it costs to find the pairs that pending writes touch.
-use Rattle.std.specs.Prelude.{ℕ, ◌≡◌, ◌+◌, ◌*◌, ◌≤◌, ◌⊎◌, Bool, true, false, List, [], ◌∷◌, length, map, Option, Some, None, is_some}
+use Rattle.std.specs.Prelude.{ℕ, ◌≡◌, ◌+◌, ◌≤◌, ◌⊎◌, Bool, true, false, List, [], ◌∷◌, length, map, Option, Some, None, is_some}
 use Rattle.std.specs.List.{AllByRecursion, count_by, sum_by}
-use Rattle.std.specs.Ordering.{nat_cmp}
-use Rattle.std.specs.FinMap.{FinMap}
 use Rattle.verdict.specs.Chunks.{place}
 use Rattle.verdict.specs.declared.place.Chunk.{Chunk}
 use Rattle.verdict.specs.declared.place.Place.{Place}
 use Rattle.verdict.specs.declared.place.Place.TheVariants.{Nowhere, One, Two}
 use Rattle.live_index.specs.Pairs.{Pairs}
-use Rattle.write_cache.specs.Pieces.{ArePartsOf, Piece}
+use Rattle.write_cache.specs.Pieces.{Piece}
 use Rattle.touched_pairs.specs.declared.spot.Spot.{Spot}
 use Rattle.touched_pairs.specs.Spots.{ranges_meet}
 
@@ -23,9 +21,9 @@ abbrev pub ArePlaced : Pairs → List Chunk → ℕ → ℕ → Type 0
 ArePlaced pairs chunks nodesize end =
     (tree address : ℕ) → is_some (pairs tree address) ≡ true → has_place (place chunks address nodesize end) ≡ true
 
--- the range of the device that a part of the writes has
+-- the range of the device that a piece of the writes has
 abbrev pub spot_of : Piece → Spot
-spot_of part = record { at = part.at; len = length part.bytes }
+spot_of piece = record { at = piece.at; len = length piece.bytes }
 
 -- how many of some ranges of the device meet a copy of so many bytes that begins at an offset; and a second copy, where there is one
 abbrev pub in_one_copy : List Spot → ℕ → ℕ → ℕ
@@ -43,12 +41,10 @@ in_copies spots chunk = in_one_copy spots chunk.length chunk.first + in_second_c
 abbrev pub range_count : List Spot → List Chunk → ℕ
 range_count spots chunks = sum_by (in_copies spots) chunks
 
--- The looks rose from one number to another by at most two for each mark, and one for each part of the writes and each copy of a chunk
--- that the part meets. The parts are the bytes of the writes in disjoint runs, some of which may touch.
-pub record AreFewLooks (pending : FinMap nat_cmp ℕ) (chunks : List Chunk) (marks before now : ℕ) : Type 0 where
-  pub parts : List Piece
-  pub are : ArePartsOf pending parts
-  pub few : now ≤ before + 2 * marks + range_count (map spot_of parts) chunks
+-- How many times a piece of the writes meets a copy of a chunk: one for each piece and each copy that it meets. The pieces are the maximal
+-- runs of written bytes.
+abbrev pub meet_count : List Piece → List Chunk → ℕ
+meet_count pieces chunks = range_count (map spot_of pieces) chunks
 
 -- the ranges of the device in which the copies of chunks stand
 abbrev pub copy_at : ℕ → ℕ → Spot

@@ -1,8 +1,8 @@
 -- What it is to mark pairs of a table with all that stand above them in their trees.
-use Rattle.std.specs.Prelude.{ℕ, ◌≡◌, ◌<◌, ◌^◌, ◌⊎◌, true, nat_lt, Option, Some, None, is_some, if◌then◌else◌}
+use Rattle.std.specs.Prelude.{ℕ, ◌≡◌, ◌<◌, ◌^◌, ◌⊎◌, Bool, true, nat_lt, List, Option, Some, None, is_some, if◌then◌else◌}
 use Rattle.live_index.specs.declared.live.Live.{Live}
 use Rattle.live_index.specs.Pairs.{Pairs}
-use Rattle.touched_pairs.specs.Marks.{Marked}
+use Rattle.touched_pairs.specs.Marks.{Marked, in_lives}
 
 -- a pair, where it is on a greater level than another
 abbrev pub if_above : Live → Option Live → Option Live
@@ -18,6 +18,15 @@ parent_of pairs tree live = if_above live (pairs tree live.parent)
 pub data ClimbsTo (pairs : Pairs) (tree to : ℕ) : ℕ → Type 0 where
   Here : ClimbsTo pairs tree to to
   Up : (from : ℕ) (live up : Live) → pairs tree from ≡ Some live → parent_of pairs tree live ≡ Some up → ClimbsTo pairs tree to live.parent → ClimbsTo pairs tree to from
+
+-- each pair of a table is on a level below 8
+abbrev pub AreLow : Pairs → Type 0
+AreLow pairs = (tree address : ℕ) (live : Live) → pairs tree address ≡ Some live → live.level < 8
+
+-- a list has each pair of a table of which the address passes a test
+abbrev pub HaveEach : Pairs → (ℕ → Bool) → List Live → Type 0
+HaveEach pairs test lives =
+    (tree address : ℕ) → test address ≡ true → is_some (pairs tree address) ≡ true → in_lives lives tree address ≡ true
 
 -- above each pair that is marked the next one is
 abbrev pub AreClosed : Pairs → Marked → Type 0

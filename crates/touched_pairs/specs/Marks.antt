@@ -1,9 +1,10 @@
 -- Marks on pairs of a tree and a block.
-use Rattle.std.specs.Prelude.{ℕ, Bool, true, false, ◌&&◌, ◌==◌, List, if◌then◌else◌}
+use Rattle.std.specs.Prelude.{ℕ, ◌≡◌, Bool, true, false, ◌&&◌, ◌==◌, List, if◌then◌else◌}
 use Rattle.std.specs.List.{list_any}
 use Rattle.std.specs.Ordering.{nat_cmp, ordering_then}
 use Rattle.std.specs.declared.cmp.Ordering.{Ordering}
 use Rattle.std.specs.BTreeSet as set
+use Rattle.live_index.specs.declared.live.Live.{Live}
 use Rattle.touched_pairs.specs.declared.marks.Marks.{Marks}
 use Rattle.touched_pairs.specs.declared.marks.PairPlace.{PairPlace}
 
@@ -38,6 +39,14 @@ no_mark tree address = false
 -- whether a pair is that of a tree at an address
 abbrev pub is_pair : ℕ → ℕ → Marked
 is_pair t a tree address = t == tree && a == address
+
+-- the pairs that a list of live pairs has, by tree and address
+abbrev pub in_lives : List Live → Marked
+in_lives lives tree address = list_any (λ live. is_pair live.tree live.address tree address) lives
+
+-- each marked pair is one of these live pairs
+abbrev pub AreAmong : Marked → List Live → Type 0
+AreAmong marked lives = (tree address : ℕ) → marked tree address ≡ true → in_lives lives tree address ≡ true
 
 -- these marks and that of one pair more
 abbrev pub with_mark : Marked → ℕ → ℕ → Marked

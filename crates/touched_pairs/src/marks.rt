@@ -1,8 +1,9 @@
 //! Marks on pairs of a tree and a block.
 
-ghost use Rattle.std.specs.Prelude.{◌≡◌, ℕ, ◌+◌, ◌<◌, ◌^◌, false, vec_len, if◌then◌else◌, IfOk, OnOk, OnErr};
+ghost use Rattle.std.specs.Prelude.{◌≡◌, ℕ, ◌+◌, ◌≤◌, ◌<◌, ◌^◌, false, List, length, vec_len, if◌then◌else◌, IfOk, OnOk, OnErr};
 ghost use Rattle.std.specs.List.Sorted.{IsStrictlySortedBy};
-ghost use Rattle.touched_pairs.specs.Marks.{by_pair, count_of, marked_by, marked_in, pair_place, with_mark};
+ghost use Rattle.live_index.specs.declared.live.Live.{Live};
+ghost use Rattle.touched_pairs.specs.Marks.{AreAmong, by_pair, count_of, marked_by, marked_in, pair_place, with_mark};
 
 use std::alloc::Global;
 use std::collections::BTreeSet;
@@ -55,6 +56,15 @@ impl Marks {
             Ok(_) => Ok(()),
             Err(_) => Err(NoMemory),
         }
+    }
+
+    /// The marks are at most as many as live pairs among which each marked pair is. It costs no pass over the marks.
+    pub fn count_law(&self)
+        ensures { (lives : List Live) → AreAmong (marked_by self.now) lives →
+            count_of self.now ≤ length lives }
+    {
+        // The set tells here that its places differ.
+        let _ = self.places.len();
     }
 
     /// The places of all marks, each once, by tree and then by address. The list takes its memory from this allocator.

@@ -1,9 +1,10 @@
 //! The pairs of a table whose blocks stand at another place under new chunks.
 
-ghost use Rattle.std.specs.Prelude.{◌≡◌, ◌+◌, ◌*◌, ◌<◌, ◌≤◌, length, IfOk};
+ghost use Rattle.std.specs.Prelude.{◌≡◌, ◌+◌, ◌*◌, ◌<◌, ◌≤◌, List, length, IfOk};
+ghost use Rattle.live_index.specs.declared.live.Live.{Live};
 ghost use Rattle.live_index.specs.Table.{pairs_of};
 ghost use Rattle.touched_pairs.specs.Looks.{ArePlaced};
-ghost use Rattle.touched_pairs.specs.Marking.{AreMarkedFrom};
+ghost use Rattle.touched_pairs.specs.Marking.{AreLow, AreMarkedFrom, HaveEach};
 ghost use Rattle.touched_pairs.specs.Marks.{count_of, marked_by, no_mark};
 ghost use Rattle.touched_pairs.specs.Moves.{AreApart, held_and_moved, is_moved};
 ghost use Rattle.touched_pairs.specs.Spots.{at_address};
@@ -24,7 +25,8 @@ use verdict::NoMemory;
 /// search, and a pass over the new ones where it is not the same among them. Such a chunk gives ranges of addresses: those at which no new
 /// chunk holds a block at the same place. It goes once through the table's pairs in these ranges, and finds none twice. So where each pair
 /// has a place, and no two chunks of a list overlap, it looks at most twice for each mark and for each old chunk, and once for each new
-/// chunk. No two of the new chunks may overlap.
+/// chunk. No two of the new chunks may overlap. Where the pairs are on levels below 8, there are at most eight marks for each pair of
+/// which the block moves.
 pub fn moved_pairs<L>(
     alloc: Global,
     table: &LiveIndex<L>,
@@ -42,13 +44,18 @@ pub fn moved_pairs<L>(
     ensures looks { IfOk result (λ marks. ArePlaced (pairs_of table.now) old.now nodesize end →
         AreApart old.now → AreApart new.now → 0 < nodesize →
         steps.new ≤ steps.old + 2 * count_of marks + 2 * length old.now + length new.now) }
+    ensures few_marks { IfOk result (λ marks. AreLow (pairs_of table.now) → (lives : List Live) →
+        HaveEach (pairs_of table.now) (is_moved old.now new.now nodesize end) lives →
+        count_of marks ≤ 8 * length lives) }
 {
     let mut marks = Marks::new(alloc);
     let test = Move::new(old, new, nodesize, end);
     if test.is_same {
+        marks.count_law();
         return Ok(marks);
     }
     let ranges = ranges_left(alloc, &test)?;
     mark_ranges(table, &test, ranges.as_slice(), &mut marks, steps)?;
+    marks.count_law();
     Ok(marks)
 }

@@ -24,7 +24,7 @@ pub(crate) struct Range {
 }
 
 /// The ranges of the addresses at which pending writes may touch a block, in the order of where they begin: for each copy of a chunk, one
-/// for each part of the writes that meets it. The list takes its memory from this allocator.
+/// for each piece of the writes that meets it. The list takes its memory from this allocator.
 #[tactic(auto, using(crate::proofs::Adding::chunks))]
 pub(crate) fn ranges_of(alloc: Global, pending: &Pending<'_>) -> Result<Vec<Range>, NoMemory>
     ensures ok { IfOk result (λ ranges. AreAdded (IsTouched pending.now) (touches pending.now)
@@ -74,7 +74,7 @@ fn add_copy(
     Ok(())
 }
 
-// The same of those blocks alone that a part of the writes meets there.
+// The same of those blocks alone that a piece of the writes meets there.
 #[tactic(auto, using(crate::proofs::Adding::none_added))]
 fn add_spot(
     pending: &Pending<'_>,

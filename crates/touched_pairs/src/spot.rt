@@ -1,10 +1,11 @@
 //! Ranges of bytes of the device, and the blocks of which they meet a copy.
 
-ghost use Rattle.std.specs.Prelude.{◌≡◌, ◌+◌, ◌≤◌, ◌<◌, ◌^◌, ℕ, Bool, true, nat_le, nat_lt, List, map, IfOk, IfSome};
+ghost use Rattle.std.specs.Prelude.{◌≡◌, ◌+◌, ◌≤◌, ◌<◌, ◌^◌, ◌==◌, ◌++◌, ℕ, Bool, true, nat_le, nat_lt, List, [], map, IfOk, IfSome, OnOk};
 ghost use Rattle.std.specs.List.{count_by, list_any};
 ghost use Rattle.verdict.specs.Chunks.{holds_range};
-ghost use Rattle.write_cache.specs.Pieces.{ArePartsOf, Piece};
+ghost use Rattle.write_cache.specs.Pieces.{ArePiecesOf, Piece};
 ghost use Rattle.touched_pairs.specs.declared.spot.Spot.{Spot as ASpot};
+ghost use Rattle.touched_pairs.specs.Joining.{IsJoined, joined_from};
 ghost use Rattle.touched_pairs.specs.Looks.{spot_of};
 ghost use Rattle.touched_pairs.specs.Spots.{AreSpotsOf, LiesIn, StandApart, has_address, has_offset, meets_in_copy, ranges_meet};
 ghost use Rattle.touched_pairs.specs.Touched.{written_in};
@@ -63,6 +64,13 @@ impl Spot {
         self.at <= offset && self.len <= offset - self.at
     }
 
+    // Whether it ends just at an offset.
+    fn ends_at(&self, offset: u64) -> bool
+        ensures { result ≡ (self.now.at + self.now.len == offset) }
+    {
+        self.at <= offset && offset - self.at == self.len
+    }
+
     // Whether it begins before the end of `len` bytes from an offset on.
     fn begins_before(&self, from: u64, len: u64) -> bool
         ensures { result ≡ nat_lt self.now.at (from + len) }
@@ -84,18 +92,50 @@ pub(crate) fn spots_in(spots: &[Spot], from: u64, len: u64) -> &[Spot]
     &rest[..count]
 }
 
-/// The ranges of the bytes that pending writes have, in rising order. The list takes its memory from this allocator.
+/// The ranges of the bytes that pending writes have, in rising order: their maximal runs, no two of which touch. It costs a pass over the
+/// parts of the writes, and joins those that touch. The list takes its memory from this allocator.
 pub(crate) fn spots_of(alloc: Global, cache: &WriteCache) -> Result<Vec<Spot>, NoMemory>
     ensures spots { IfOk result (λ spots. AreSpotsOf (written_in cache.now) spots.items) }
-    ensures parts { IfOk result (λ spots.
-        (parts : List Piece) × ArePartsOf cache.now parts × (spots.items ≡ map spot_of parts)) }
+    ensures pieces { IfOk result (λ spots. (pieces : List Piece) →
+        ArePiecesOf cache.now pieces → spots.items ≡ map spot_of pieces) }
 {
     let mut spots = Vec::new(alloc);
+    let mut last: Option<Spot> = None;
     for (at, bytes) in cache.parts() {
         let len = bytes.len() as u64;
-        if spots.push(Spot { at, len }).is_err() {
-            return Err(NoMemory);
-        }
+        last = Some(join_part(&mut spots, last, Spot { at, len })?);
     }
+    put_last(&mut spots, last)?;
     Ok(spots)
+}
+
+// The last range after one part more. A part that begins where the last one ends lengthens it. Else the last one is put behind a list, and
+// the part is the last. No memory holds so many bytes that the length passes 64 bits.
+fn join_part(spots: &mut Vec<Spot>, last: Option<Spot>, part: Spot) -> Result<Spot, NoMemory>
+    ensures { IfOk result (λ next. IsJoined last part next spots.old.items spots.new.items) }
+{
+    let Some(spot) = last else {
+        return Ok(part);
+    };
+    if !spot.ends_at(part.at) {
+        put_last(spots, last)?;
+        return Ok(part);
+    }
+    match spot.len.checked_add(part.len) {
+        Some(len) => Ok(Spot { at: spot.at, len }),
+        None => Err(NoMemory),
+    }
+}
+
+// Puts a range behind a list, where there is one.
+fn put_last(spots: &mut Vec<Spot>, last: Option<Spot>) -> Result<(), NoMemory>
+    ensures { OnOk result (spots.new.items ≡ spots.old.items ++ joined_from last []) }
+{
+    let Some(spot) = last else {
+        return Ok(());
+    };
+    match spots.push(spot) {
+        Ok(()) => Ok(()),
+        Err(_) => Err(NoMemory),
+    }
 }

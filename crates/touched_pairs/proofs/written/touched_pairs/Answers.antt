@@ -1,6 +1,6 @@
 use Rattle.live_index.specs.Table.{pairs_of}
 use Rattle.touched_pairs.specs.Marks.{marked_by}
-use Rattle.touched_pairs.proofs.Telling.{looks_told, marked_told}
+use Rattle.touched_pairs.proofs.Telling.{few_told, looks_told, marked_told}
 use Rattle.touched_pairs.proofs.written.touched_pairs.Goals as goal
 
 pub returns-clause-ok : goal.returns-clause-ok
@@ -10,6 +10,12 @@ returns-clause-ok g c =
 
 pub returns-clause-looks : goal.returns-clause-looks
 returns-clause-looks g c =
-    looks_told (pairs_of c.args.table.now) _ c.in_ok-ranges.ranges.items c.as_slice.result.now c.in_ok-spots_of.ensures.parts.0 c.new-marks.result c.mark_ranges.new.marks
-    c.args.steps.now c.mark_ranges.new.steps c.in_ok-spots_of.ensures.parts.1 c.in_ok-spots_of.ensures.parts.2
+    looks_told (pairs_of c.args.table.now) _ c.in_ok-ranges.ranges.items c.as_slice.result.now c.new-marks.result c.mark_ranges.new.marks
+    c.args.steps.now c.mark_ranges.new.steps c.in_ok-spots_of.ensures.pieces
+    c.in_ok-ranges.ensures.ok c.as_slice.ensures.value c.in_ok-mark_ranges.ensures.looks
+
+pub returns-clause-few : goal.returns-clause-few
+returns-clause-few g c =
+    few_told (pairs_of c.args.table.now) _ c.in_ok-ranges.ranges.items c.as_slice.result.now c.new-marks.result c.mark_ranges.new.marks
+    c.args.steps.now c.mark_ranges.new.steps c.in_ok-spots_of.ensures.pieces
     c.in_ok-ranges.ensures.ok c.as_slice.ensures.value c.in_ok-mark_ranges.ensures.looks
