@@ -54,7 +54,7 @@ behind_parts some later = and_then later (λ more. Ok (with_parts some more))
 abbrev pub then_parts : Result Parts Finding → Result Parts Finding → Result Parts Finding
 then_parts first later = and_then first (λ parts. behind_parts parts later)
 
-behind_none : (later : Result Parts Finding) → later ≡ behind_parts no_parts later
+pub behind_none : (later : Result Parts Finding) → later ≡ behind_parts no_parts later
 behind_none (Err finding) = refl
 behind_none (Ok more) = ap Ok (sym (none_before more))
 
@@ -72,6 +72,12 @@ pub record PartsSoFar {D : Type 0} (disk : Ghosts D) (first now : D) (some all :
     (rest whole : List ℕ → Result Parts Finding) : Type 0 where
   pub kept : Kept disk first now false
   pub so : So (disk.bytes first) some all (disk.reads first) (disk.reads now) rest whole
+
+-- the same, where this holds
+pub record PartsSoFarWhere {D : Type 0} (Holds : Type 0) (disk : Ghosts D) (first now : D) (some all : TreeParts)
+    (rest whole : List ℕ → Result Parts Finding) : Type 0 where
+  pub kept : Kept disk first now false
+  pub so : Holds → So (disk.bytes first) some all (disk.reads first) (disk.reads now) rest whole
 
 -- at first there are none
 added_none : (all : TreeParts) (reads : ℕ) → IsAdded all all no_parts reads reads

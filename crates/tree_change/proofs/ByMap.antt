@@ -13,6 +13,7 @@ use Rattle.volume_items.specs.declared.root.RootItem.{RootItem}
 use Rattle.volume_items.specs.declared.root_at.RootAt.{RootAt}
 use Rattle.live_index.specs.Pairs.{AreNarrow, Pairs}
 use Rattle.live_index.specs.Table.{pairs_of}
+use Rattle.node_reader.specs.Stored.{stored_in}
 use Rattle.records.specs.Contents.{root_items_in, root_tree_root}
 use Rattle.block_source.specs.declared.halt.Halt.{Halt}
 use Rattle.block_source.specs.declared.halt.Halt.TheVariants.{Found, Disk, NoMemory}
@@ -38,6 +39,7 @@ use Rattle.tree_change.specs.Making.{FindsOthers, IsAdded, MakesOthers, RootsJud
 use Rattle.tree_change.specs.Making.FindsOthers.{InGone, InItems, InNamed, InTree}
 use Rattle.tree_change.specs.Merging.{IsSortedOf, named_before, root_at, roots_left}
 use Rattle.tree_change.specs.OneTree.{IsTree, KnowsNothing, side_of}
+use Rattle.tree_change.specs.Stays.{RootsStand}
 use Rattle.tree_change.specs.Told.{side_with}
 use Rattle.tree_change.specs.Walks.{Known, Parts, Side, tree_parts}
 use Rattle.tree_change.specs.declared.sides.Compared.{Compared}
@@ -48,7 +50,9 @@ use Rattle.tree_change.proofs.EveryTree.{knows_one}
 use Rattle.tree_change.proofs.Gone.{gone}
 use Rattle.tree_change.proofs.Knowing.{knows_trees}
 use Rattle.tree_change.proofs.Named.{named}
+use Rattle.tree_change.proofs.Olds.{old_stands}
 use Rattle.tree_change.proofs.RootItems.{roots_found, roots_made}
+use Rattle.tree_change.proofs.Staying.{items_stand}
 
 -- what is known, by its parts
 abbrev known_with : Pairs → Marked → (ℕ → Bool) → Under → Known
@@ -117,6 +121,12 @@ module _ {L : Type 0} (both : Compared L) (image : List ℕ) (chunks : List Chun
     where
       side_at : Super → List Chunk → Side
       side_at sup cs = record { sup = sup; chunks = cs; image = image }
+
+  -- the table has the pair of each old root
+  roots_stand : RootsStand pairs both.roots.now
+  roots_stand =
+      subst (RootsStand pairs) (sym c.based.roots_are)
+      (items_stand pairs old (stored_in image old.chunks old.sup.nodesize) c.based.pairs_are olds (old_stands image old trees c.based.has).1.1)
 
   abbrev Over : Known → Type 0
   Over known = IsOver image both.cache.now old olds trees pairs side known
@@ -300,7 +310,7 @@ module _ {L : Type 0} (both : Compared L) (new : Bor (List Chunk)) (moves : Bor 
       → AreMarkedFrom (pairs_of both.kept.now) (at_address (held_and_moved both.was.map.now new.now both.was.sup.now.nodesize both.was.end))
       (at_address (is_moved both.was.map.now new.now both.was.sup.now.nodesize both.was.end)) no_mark (marked_by moving))
       → AreListedBy (pairs_of both.kept.now) (marked_by moving) (under_of starts.now)
-      → TellsOthers disk first last some all sides_by both.roots.now result
+      → (RootsStand (pairs_of both.table.now) both.roots.now → TellsOthers disk first last some all sides_by both.roots.now result)
       → TellsRest disk first last some all both new.now result
   rest_told {D} {A} disk first last some all moving end result fits is moved listed tells = by result tells
     where
@@ -308,20 +318,26 @@ module _ {L : Type 0} (both : Compared L) (new : Bor (List Chunk)) (moves : Bor 
       over image c has =
           over_by both image new.now c end (marked_by moving) (under_of starts.now) (move_passes moves.now) fits has moved listed (moves_same is)
 
-      found : (finding : Finding) (told : Option (List ℕ)) → IfSome told (λ image. FindsOthers sides_by both.roots.now image finding)
+      Stand : Type 0
+      Stand = RootsStand (pairs_of both.table.now) both.roots.now
+
+      found : (finding : Finding) (told : Option (List ℕ))
+          → (Stand → IfSome told (λ image. FindsOthers sides_by both.roots.now image finding))
           → IfSome told (λ image. IsCompared both image → HasNewMap both image new.now → FindsRest both image new.now finding)
       found finding None others = tt
-      found finding (Some image) others = λ c has. finds image c (over image c has) finding others
+      found finding (Some image) others = λ c has. finds image c (over image c has) finding (others (roots_stand both image new.now c))
 
-      done : (told : Option (List ℕ)) → IfSome told (λ image.
-          (parts : Parts) × MakesOthers sides_by both.roots.now image parts × IsAdded some all parts (disk.reads first) (disk.reads last))
+      done : (told : Option (List ℕ)) → (Stand → IfSome told (λ image.
+          (parts : Parts) × MakesOthers sides_by both.roots.now image parts × IsAdded some all parts (disk.reads first) (disk.reads last)))
           → IfSome told (λ image. (c : IsCompared both image) → HasNewMap both image new.now
           → (parts : Parts) × MakesRest both image c.based.old c.based.olds new.now parts
           × IsAdded some all parts (disk.reads first) (disk.reads last))
       done None others = tt
-      done (Some image) others = λ c has. (others.0, makes image c (over image c has) others.0 others.1, others.2)
+      done (Some image) others = λ c has.
+          let made = others (roots_stand both image new.now c) in
+          (made.0, makes image c (over image c has) made.0 made.1, made.2)
 
-      by : (r : Result A Halt) → TellsOthers disk first last some all sides_by both.roots.now r
+      by : (r : Result A Halt) → (Stand → TellsOthers disk first last some all sides_by both.roots.now r)
           → TellsRest disk first last some all both new.now r
       by (Err (Found finding)) tells = found finding (disk.bytes first) tells
       by (Err Disk) tells = tt

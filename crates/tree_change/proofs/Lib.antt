@@ -12,6 +12,7 @@ pub mod LastKeys
 pub mod RootRules
 pub mod Naming
 pub mod Adding
+pub mod Staying
 pub mod Vanishing
 pub mod OneWalked
 pub mod OneKept

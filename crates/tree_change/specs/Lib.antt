@@ -5,6 +5,7 @@ pub mod OneTree
 pub mod Change
 pub mod AllTrees
 pub mod Told
+pub mod Stays
 pub mod LastKeys
 pub mod Leaves
 pub mod Roots

@@ -1,9 +1,11 @@
 //! What changes in the chunk tree and in the root tree, with the chunks and the roots that follow from it.
 
 ghost use Rattle.recon_disk.specs.Keeping.{Kept};
+ghost use Rattle.live_index.specs.Table.{pairs_of};
 ghost use Rattle.block_source.specs.Gives.{is_disk_halt};
 ghost use Rattle.block_source.specs.Takes.{handing};
 ghost use Rattle.tree_change.specs.Making.{FitSides, TellsChunks, TellsOthers, TellsRoots};
+ghost use Rattle.tree_change.specs.Stays.{RootsStand};
 
 use crate::merge::{merge_chunks, merge_roots};
 use crate::roots::check_roots;
@@ -77,7 +79,8 @@ pub(crate) fn change_others<D: Disk, L>(
     all: &mut TreeParts,
 ) -> Result<(), Halt>
     requires fit { FitSides sides.now (D.len disk.old) }
-    ensures tells { TellsOthers D.Disk disk.old disk.new all.old all.new sides.now olds.now result }
+    ensures tells { RootsStand (pairs_of (sides.now).table.now) olds.now
+        → TellsOthers D.Disk disk.old disk.new all.old all.new sides.now olds.now result }
     ensures kept { Kept D.Disk disk.old disk.new (is_disk_halt result) }
 {
     let roots = change_roots(alloc, disk, sides, steps, room, olds, all)?;

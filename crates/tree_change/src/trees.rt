@@ -1,6 +1,6 @@
 //! What changes in trees.
 
-ghost use Rattle.std.specs.Prelude.{◌≡◌, ◌+◌, ◌*◌, ◌≤◌, ℕ, length, IfOk, IfSome, OnOk};
+ghost use Rattle.std.specs.Prelude.{◌≡◌, ◌+◌, ◌*◌, ◌≤◌, ℕ, true, length, IfOk, IfSome, OnOk};
 ghost use Rattle.recon_disk.specs.Keeping.{Kept};
 ghost use Rattle.live_index.specs.Table.{pairs_of};
 ghost use Rattle.shared_trees.specs.Known.{AreMetBy, blocks_met};
@@ -8,6 +8,7 @@ ghost use Rattle.block_source.specs.Gives.{Gives, is_disk_halt};
 ghost use Rattle.block_source.specs.Takes.{handing};
 ghost use Rattle.tree_change.specs.AllTrees.{no_parts, with_parts};
 ghost use Rattle.tree_change.specs.Gathered.{gathers};
+ghost use Rattle.tree_change.specs.Stays.{RootsStand, Stays};
 ghost use Rattle.tree_change.specs.Told.{known_by, side_with};
 ghost use Rattle.tree_change.specs.Walks.{old_or_none};
 ghost use Rattle.tree_change.specs.Making.{AddsParts, FitSides, TellsParts, gone_parts_in, gone_in, named_parts_in, parts_by, parts_in};
@@ -24,6 +25,7 @@ use recon_disk::{Disk, Steps};
 use records::ItemAt;
 use shared_trees::Met;
 use std::alloc::{AllocError, Global};
+use touched_pairs::AddressTest;
 use volume_items::RootAt;
 
 /// What changes in trees: the pairs that are not shared, the shared ones that are shifted, and the items of the first.
@@ -170,7 +172,22 @@ fn change_gone<D: Disk, L>(
     })
 }
 
-/// Puts what changes in all trees that are named now behind other parts.
+// Whether a tree stays as it was, by what is known of its root. No pair is looked for in the table.
+fn stays<L>(sides: &Sides<'_, L>, before: Option<Expect>, now: &Expect) -> bool
+    ensures sound { result ≡ true → Stays (pairs_of (sides.now).table.now)
+        (known_by (sides.now).known) before now.now }
+    ensures complete { (sides.now).is_same ≡ true → Stays (pairs_of (sides.now).table.now)
+        (known_by (sides.now).known) before now.now → result ≡ true }
+{
+    sides.is_same
+        && before == Some(*now)
+        && !sides.known.marks.has(now.tree, now.address)
+        && !sides.known.moves.passes(now.address)
+        && sides.known.starts.of(now.tree, now.address).is_empty()
+}
+
+/// Puts what changes in all trees that are named now behind other parts. Where blocks are kept by the old pairs, a tree is not walked
+/// whose root item stays, of which no write touches a block, and of which no block moves: it costs no look into the table of live pairs.
 pub(crate) fn change_named<D: Disk, L>(
     alloc: Global,
     disk: &mut D,
@@ -182,22 +199,18 @@ pub(crate) fn change_named<D: Disk, L>(
     all: &mut TreeParts,
 ) -> Result<(), Halt>
     requires fit { FitSides sides.now (D.len disk.old) }
-    ensures adds { AddsParts D.Disk disk.old disk.new all.old all.new result
+    ensures adds { RootsStand (pairs_of (sides.now).table.now) olds.now
+        → AddsParts D.Disk disk.old disk.new all.old all.new result
         (named_parts_in sides.now olds.now news.now) }
     ensures kept { Kept D.Disk disk.old disk.new (is_disk_halt result) }
 {
     let ids = ids_of(alloc, olds)?;
     for root in news {
-        let made = change_tree(
-            alloc,
-            disk,
-            sides,
-            steps,
-            room,
-            ids.root_of(root.key.objectid),
-            &named_at(root),
-        )?;
-        all.add(made)?;
+        let (before, now) = (ids.root_of(root.key.objectid), named_at(root));
+        if !stays(sides, before, &now) {
+            let made = change_tree(alloc, disk, sides, steps, room, before, &now)?;
+            all.add(made)?;
+        }
     }
     Ok(())
 }

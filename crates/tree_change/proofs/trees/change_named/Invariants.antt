@@ -1,10 +1,12 @@
 use Rattle.std.proofs.Common.{drop}
+use Rattle.live_index.specs.Table.{pairs_of}
 use Rattle.tree_change.specs.Making.{named_parts_in}
-use Rattle.tree_change.proofs.Adding.{PartsSoFar}
+use Rattle.tree_change.specs.Stays.{RootsStand}
+use Rattle.tree_change.proofs.Adding.{PartsSoFarWhere}
 use Rattle.tree_change.proofs.trees.change_named.Given as goal
 
--- the parts of the trees so far are added, and what is left of the trees gives the others
+-- the parts of the trees so far are added, and what is left of the trees gives the others, where the table has the old roots
 abbrev pub invariant-loop-root : goal.invariant-loop-root
 invariant-loop-root g l =
-    PartsSoFar g.D.Disk l.fn.disk l.disk l.fn.all l.all
+    PartsSoFarWhere (RootsStand (pairs_of l.sides.table.now) l.olds) g.D.Disk l.fn.disk l.disk l.fn.all l.all
     (named_parts_in l.sides l.olds (drop l.root-index l.news)) (named_parts_in l.sides l.olds l.news)
