@@ -128,18 +128,18 @@ module _ (kept : Kept) (anew : Anew) (lasts : Lasts) (told : Option (List ℕ)) 
       (blocks ∙ sym (ap (λ (ends : Ends). with_ended old ends.blocks) is), same ∙ sym (ap (λ (ends : Ends). ends.last) is))
 
   -- a kept leaf
-  pub leaf_ends : (e : Expect) (bound : Key) (old mid now : Held) (under last : Key) (l : Lasts) → kept e ≡ Some bound
+  pub leaf_ends : (e : Expect) (bound : Key) (old mid now : Held) (under last : Key) (known : Option Key) → kept e ≡ Some bound
       → is_below bound e.high ≡ true → e.level ≡ 0
-      → l ≡ lasts → mid ≡ old → under ≡ no_key
-      → now ≡ with_ended mid (record { expect = e; last = key_or (l e) under } ∷ []) → last ≡ key_or (l e) under
+      → known ≡ lasts e → mid ≡ old → under ≡ no_key
+      → now ≡ with_ended mid (record { expect = e; last = key_or known under } ∷ []) → last ≡ key_or known under
       → HoldsLast told waiting old now last (ends_in kept anew lasts sup chunks e)
-  leaf_ends e bound old mid now under last l is below leaf of_lasts held none here found = by told
+  leaf_ends e bound old mid now under last known is below leaf of_lasts held none here found = by told
     where
-      key : key_or (l e) under ≡ key_or (lasts e) no_key
-      key = ap (λ (f : Lasts). key_or (f e) under) of_lasts ∙ ap (key_or (lasts e)) none
+      key : key_or known under ≡ key_or (lasts e) no_key
+      key = ap (λ k. key_or k under) of_lasts ∙ ap (key_or (lasts e)) none
 
       same : now ≡ with_ended old (record { expect = e; last = key_or (lasts e) no_key } ∷ [])
-      same = here ∙ ap (λ held. with_ended held (record { expect = e; last = key_or (l e) under } ∷ [])) held
+      same = here ∙ ap (λ held. with_ended held (record { expect = e; last = key_or known under } ∷ [])) held
           ∙ ap (λ k. with_ended old (record { expect = e; last = k } ∷ [])) key
 
       same_last : last ≡ key_or (lasts e) no_key
@@ -235,19 +235,19 @@ module _ (kept : Kept) (anew : Anew) (lasts : Lasts) (told : Option (List ℕ)) 
       (subst (λ i. HoldsLast i waiting mid after found (ends_in k a l sup chunks c)) same here)))))
 
   -- none is left below a kept node
-  pub kept_ends : (e : Expect) (bound : Key) (next : List Expect) (old now after : Held) (found last : Key) (l : Lasts) → kept e ≡ Some bound
+  pub kept_ends : (e : Expect) (bound : Key) (next : List Expect) (old now after : Held) (found last : Key) (known : Option Key) → kept e ≡ Some bound
       → is_below bound e.high ≡ true
       → (e.level ≡ 0 → ⊥) → next ≡ []
       → EndsSoFar told waiting old now (left_ends e.level next found) (left_ends e.level (anew e) no_key)
-      → l ≡ lasts → after ≡ with_ended now (record { expect = e; last = key_or (l e) found } ∷ []) → last ≡ key_or (l e) found
+      → known ≡ lasts e → after ≡ with_ended now (record { expect = e; last = key_or known found } ∷ []) → last ≡ key_or known found
       → HoldsLast told waiting old after last (ends_in kept anew lasts sup chunks e)
-  kept_ends e bound next old now after found last l is below node none so of_lasts here was = by told so.ends
+  kept_ends e bound next old now after found last known is below node none so of_lasts here was = by told so.ends
     where
       blocks : after ≡ with_ended now (record { expect = e; last = key_or (lasts e) found } ∷ [])
-      blocks = subst (λ (f : Lasts). after ≡ with_ended now (record { expect = e; last = key_or (f e) found } ∷ [])) of_lasts here
+      blocks = subst (λ k. after ≡ with_ended now (record { expect = e; last = key_or k found } ∷ [])) of_lasts here
 
       same : last ≡ key_or (lasts e) found
-      same = subst (λ (f : Lasts). last ≡ key_or (f e) found) of_lasts was
+      same = subst (λ k. last ≡ key_or k found) of_lasts was
 
       by : (t : Option (List ℕ)) → IfSome t (λ image. Joins old now (left_ends e.level next found (overlaid waiting 0 image)) (left_ends e.level
           (anew e) no_key (overlaid waiting 0 image)))

@@ -45,6 +45,7 @@ pub mod OldTells
 pub mod OldSupers
 pub mod MetWalk
 pub mod EndWalk
+pub mod VisitWalk
 pub mod EndsTold
 pub mod Stopping
 pub mod MeetingStops
@@ -59,3 +60,5 @@ pub mod ArrayKept
 pub mod ArrayWalks
 pub mod ArrayMoves
 pub mod ArrayApart
+pub mod FewVisits
+pub mod Leading

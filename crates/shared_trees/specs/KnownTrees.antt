@@ -1,9 +1,10 @@
 -- Which blocks are kept by what is known of a tree as it was.
-use Rattle.std.specs.Prelude.{Some}
+use Rattle.std.specs.Prelude.{ℕ, Bool, Some}
 use Rattle.live_index.specs.Pairs.{Pairs}
 use Rattle.live_index.specs.Table.{pairs_of}
 use Rattle.touched_pairs.specs.Marks.{marked_by}
 use Rattle.touched_pairs.specs.Moves.{move_passes}
+use Rattle.node_reader.specs.declared.expect.Expect.{Expect}
 use Rattle.shared_trees.specs.declared.known.KnownTree.{KnownTree}
 use Rattle.shared_trees.specs.Ending.{Held, Lasts}
 use Rattle.shared_trees.specs.Keeping.{anew_of, kept_of}
@@ -11,6 +12,7 @@ use Rattle.shared_trees.specs.Known.{blocks_met, last_of}
 use Rattle.shared_trees.specs.Meeting.{Met}
 use Rattle.shared_trees.specs.Skips.{Anew, Kept}
 use Rattle.shared_trees.specs.Under.{under_of}
+use Rattle.shared_trees.specs.Visits.{is_found}
 
 -- the blocks that are kept: those that the table knows as they are expected, that have no mark and that stand where they stood
 abbrev pub kept_by : {L : Type 0} → KnownTree L → Kept
@@ -35,3 +37,11 @@ lasts_by known = last_of (pairs_of known.table.now) (under_of known.starts.now)
 -- the blocks that the walk is done with
 abbrev pub ended_by : {L : Type 0} → KnownTree L → Held
 ended_by known = Some known.ended.items
+
+-- the looks that were counted
+abbrev pub looks_by : {L : Type 0} → KnownTree L → ℕ
+looks_by known = known.steps.now
+
+-- the pair of a block is at hand where it is the one that the table gave last
+abbrev pub ready_by : {L : Type 0} → KnownTree L → Expect → Bool
+ready_by known = is_found known.found

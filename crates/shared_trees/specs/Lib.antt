@@ -7,6 +7,7 @@ pub mod Marking
 pub mod Meeting
 pub mod Ending
 pub mod KeepingWalk
+pub mod Visits
 pub mod Under
 pub mod Known
 pub mod KnownTrees
@@ -32,3 +33,4 @@ pub mod MergedLaw
 pub mod ArrayLaw
 pub mod ArrayShifts
 pub mod ArrayMoves
+pub mod VisitsLaw

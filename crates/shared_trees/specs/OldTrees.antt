@@ -1,7 +1,8 @@
 -- Which blocks the walk of a tree as it was keeps: those at its stops.
-use Rattle.std.specs.Prelude.{ℕ, Bool, None}
+use Rattle.std.specs.Prelude.{ℕ, Bool, true, None}
 use Rattle.live_index.specs.Pairs.{Pairs}
 use Rattle.live_index.specs.Table.{pairs_of}
+use Rattle.node_reader.specs.declared.expect.Expect.{Expect}
 use Rattle.shared_trees.specs.declared.old.OldTree.{OldTree}
 use Rattle.shared_trees.specs.declared.stops.Stops.{Stops}
 use Rattle.shared_trees.specs.Ending.{Held, Lasts}
@@ -37,3 +38,11 @@ none_last old e = None
 
 abbrev pub none_ended : {L : Type 0} → OldTree L → Held
 none_ended old = None
+
+-- the looks that were counted
+abbrev pub looks_by_stops : {L : Type 0} → OldTree L → ℕ
+looks_by_stops old = old.steps.now
+
+-- to meet a block and to tell its greatest key takes no look
+abbrev pub always_ready : {L : Type 0} → OldTree L → Expect → Bool
+always_ready old e = true

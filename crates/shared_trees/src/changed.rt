@@ -11,6 +11,7 @@ ghost use Rattle.shared_trees.specs.Ending.{Holds, HoldsLast, ends_in, key_or, l
 ghost use Rattle.shared_trees.specs.KeepingWalk.{skip_in};
 ghost use Rattle.shared_trees.specs.Meeting.{Meets, met_in};
 ghost use Rattle.shared_trees.specs.Skips.{is_below};
+ghost use Rattle.shared_trees.specs.Visits.{LooksFew, visits_in};
 
 use crate::keeps::Keeps;
 use block_source::{BlockSource, Halt, child_at, read_block, take_own, walk_into};
@@ -24,8 +25,9 @@ use verdict::{Key, NoMemory};
 /// a taker, as a whole walk does. It reads no kept block, goes on to what is walked below it, and gives nothing of it. Where a kept
 /// block's greatest key is not below the high key that is expected, there is a finding at or below it: then the rest below it is walked
 /// whole up to the first. Each copy of each block that is not kept is read once. Each other kept block that it meets is held.
-/// Behind each block that it reads or meets, and all that is walked below it, it tells its greatest key. `room` is kept for the next
-/// walk, and nothing is read of what it holds.
+/// Behind each block that it reads or meets, and all that is walked below it, it tells its greatest key. What keeps the blocks looks at
+/// most three times into a table of live pairs for each block that is read or met. `room` is kept for the next walk, and nothing is read
+/// of what it holds.
 #[tactic(auto, using(block_source::proofs::Copies::room_fits))]
 pub fn walk_changed<D: Disk, K: Keeps, T: Taker>(
     alloc: Global,
@@ -55,6 +57,10 @@ pub fn walk_changed<D: Disk, K: Keeps, T: Taker>(
     ensures ended { OnOk result (
         Holds (D.bytes disk.old) source.now.cache.now (K.ended keeps.old) (K.ended keeps.new)
         (ends_in (K.keeps keeps.old) (K.anew keeps.old) (K.lasts keeps.old)
+        source.now.sup.now source.now.map.now e.now)) }
+    ensures looks { OnOk result (
+        LooksFew (D.bytes disk.old) source.now.cache.now (K.looks keeps.old) (K.looks keeps.new)
+        (visits_in (K.keeps keeps.old) (K.anew keeps.old)
         source.now.sup.now source.now.map.now e.now)) }
 {
     let size = source.sup.nodesize as usize;
@@ -113,6 +119,10 @@ fn walk_keeping<D: Disk, K: Keeps, T: Taker>(
         (K.ended keeps.new) last
         (ends_in (K.keeps keeps.old) (K.anew keeps.old) (K.lasts keeps.old)
         source.now.sup.now source.now.map.now e.now)) }
+    ensures looks { OnOk result (
+        LooksFew (D.bytes disk.old) source.now.cache.now (K.looks keeps.old) (K.looks keeps.new)
+        (visits_in (K.keeps keeps.old) (K.anew keeps.old)
+        source.now.sup.now source.now.map.now e.now)) }
 {
     let (first, rest) = room.split_at_mut(source.sup.nodesize as usize);
     if let Some(bound) = keeps.kept(e) {
@@ -121,16 +131,17 @@ fn walk_keeping<D: Disk, K: Keeps, T: Taker>(
             return Ok(Key::none());
         }
         keeps.meet(e)?;
+        let known = keeps.last(e);
         let mut last = Key::none();
         if e.level == 0 {
-            last = end_kept(keeps, e, last)?;
+            last = end_kept(keeps, e, known, last)?;
             return Ok(last);
         }
         for place in 0..keeps.count(e) {
             let child = keeps.next(e, place);
             last = walk_keeping(alloc, disk, source, keeps, &child, rest, second, into)?;
         }
-        last = end_kept(keeps, e, last)?;
+        last = end_kept(keeps, e, known, last)?;
         return Ok(last);
     }
     let block = read_block(disk, source, e, first, second)?;
@@ -149,18 +160,24 @@ fn walk_keeping<D: Disk, K: Keeps, T: Taker>(
     Ok(last)
 }
 
-// Is done with a kept block, below which this is the greatest key of the last block that was walked.
-fn end_kept<K: Keeps>(keeps: &mut K, e: &Expect, below: Key) -> Result<Key, NoMemory>
+// Is done with a kept block, of which this greatest key is known, or below which this is that of the last block that was walked.
+fn end_kept<K: Keeps>(
+    keeps: &mut K,
+    e: &Expect,
+    known: Option<Key>,
+    below: Key,
+) -> Result<Key, NoMemory>
     ensures last { OnOk result (K.ended keeps.new ≡ with_ended (K.ended keeps.old)
-        (record { expect = e.now; last = key_or (K.lasts keeps.old e.now) below } ∷ [])) }
-    ensures value { IfOk result (λ last. last ≡ key_or (K.lasts keeps.old e.now) below) }
+        (record { expect = e.now; last = key_or known below } ∷ [])) }
+    ensures value { IfOk result (λ last. last ≡ key_or known below) }
     ensures same { K.keeps keeps.new ≡ K.keeps keeps.old }
     ensures same_anew { K.anew keeps.new ≡ K.anew keeps.old }
     ensures same_met { K.met keeps.new ≡ K.met keeps.old }
     ensures same_pairs { K.pairs keeps.new ≡ K.pairs keeps.old }
     ensures same_lasts { K.lasts keeps.new ≡ K.lasts keeps.old }
+    ensures looks { K.looks keeps.new ≡ K.looks keeps.old }
 {
-    let last = keeps.last(e).unwrap_or(below);
+    let last = known.unwrap_or(below);
     keeps.end(e, last)?;
     Ok(last)
 }

@@ -1,7 +1,8 @@
 //! What says which blocks a walk keeps.
 
-ghost use Rattle.std.specs.Prelude.{◌≡◌, ◌+◌, ◌-◌, ◌<◌, ◌∷◌, [], length, drop, OnOk};
+ghost use Rattle.std.specs.Prelude.{◌≡◌, ℕ, Bool, true, ◌+◌, ◌-◌, ◌<◌, ◌≤◌, ◌∷◌, [], length, drop, IfSome, OnOk};
 ghost use Rattle.live_index.specs.Pairs.{Pairs};
+ghost use Rattle.node_reader.specs.declared.expect.Expect.{Expect};
 ghost use Rattle.shared_trees.specs.Ending.{Held, Lasts, with_ended};
 ghost use Rattle.shared_trees.specs.Meeting.{Met as HeldMet, with_met};
 ghost use Rattle.shared_trees.specs.Skips.{Anew, Kept};
@@ -42,6 +43,10 @@ pub trait Keeps {
     ghost lasts: { Self → Lasts };
     /// The blocks that the walk is done with so far, each behind all below it, where they are held.
     ghost ended: { Self → Held };
+    /// How many looks into a table of live pairs were counted so far.
+    ghost looks: { Self → ℕ };
+    /// Whether what is known of a block is at hand, with no look.
+    ghost ready: { Self → Expect → Bool };
 
     /// The greatest key that is sure to stand in the block that is expected, or below it, `None` where it is not kept.
     fn kept(&mut self, e: &Expect) -> Option<Key>
@@ -51,7 +56,9 @@ pub trait Keeps {
         ensures same_met { met self.new ≡ met self.old }
         ensures same_pairs { pairs self.new ≡ pairs self.old }
         ensures same_lasts { lasts self.new ≡ lasts self.old }
-        ensures same_ended { ended self.new ≡ ended self.old };
+        ensures same_ended { ended self.new ≡ ended self.old }
+        ensures looks { looks self.new ≤ looks self.old + 3 }
+        ensures ready { IfSome result (λ _. ready self.new e.now ≡ true) };
 
     /// Holds a kept block that the walk meets behind those that it met, where they are held.
     fn meet(&mut self, e: &Expect) -> Result<(), NoMemory>
@@ -60,7 +67,9 @@ pub trait Keeps {
         ensures same_anew { anew self.new ≡ anew self.old }
         ensures same_pairs { pairs self.new ≡ pairs self.old }
         ensures same_lasts { lasts self.new ≡ lasts self.old }
-        ensures same_ended { ended self.new ≡ ended self.old };
+        ensures same_ended { ended self.new ≡ ended self.old }
+        ensures looks { ready self.old e.now ≡ true → looks self.new ≡ looks self.old }
+        ensures ready { ready self.old e.now ≡ true → ready self.new e.now ≡ true };
 
     /// How many blocks are walked below a kept one.
     fn count(&self, e: &Expect) -> usize
@@ -76,7 +85,8 @@ pub trait Keeps {
         ensures same_met { met self.new ≡ met self.old }
         ensures same_pairs { pairs self.new ≡ pairs self.old }
         ensures same_lasts { lasts self.new ≡ lasts self.old }
-        ensures same_ended { ended self.new ≡ ended self.old };
+        ensures same_ended { ended self.new ≡ ended self.old }
+        ensures looks { looks self.new ≡ looks self.old };
 
     /// The greatest key of a kept block, `None` where it is that of the last block that is walked below it.
     fn last(&mut self, e: &Expect) -> Option<Key>
@@ -86,7 +96,8 @@ pub trait Keeps {
         ensures same_met { met self.new ≡ met self.old }
         ensures same_pairs { pairs self.new ≡ pairs self.old }
         ensures same_lasts { lasts self.new ≡ lasts self.old }
-        ensures same_ended { ended self.new ≡ ended self.old };
+        ensures same_ended { ended self.new ≡ ended self.old }
+        ensures looks { ready self.old e.now ≡ true → looks self.new ≡ looks self.old };
 
     /// Holds a block that the walk is done with, and its greatest key, behind those that it was done with, where they are held.
     fn end(&mut self, e: &Expect, last: Key) -> Result<(), NoMemory>
@@ -97,5 +108,6 @@ pub trait Keeps {
         ensures same_anew { anew self.new ≡ anew self.old }
         ensures same_met { met self.new ≡ met self.old }
         ensures same_pairs { pairs self.new ≡ pairs self.old }
-        ensures same_lasts { lasts self.new ≡ lasts self.old };
+        ensures same_lasts { lasts self.new ≡ lasts self.old }
+        ensures looks { looks self.new ≡ looks self.old };
 }

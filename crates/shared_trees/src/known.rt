@@ -1,6 +1,6 @@
 //! What is known of a tree as it was, and which of its blocks are kept by it.
 
-ghost use Rattle.std.specs.Prelude.{◌≡◌, ◌+◌, ◌-◌, ◌∷◌, ◌<◌, Some, IfSome, length, drop};
+ghost use Rattle.std.specs.Prelude.{◌≡◌, ◌+◌, ◌-◌, ◌∷◌, ◌<◌, ◌≤◌, true, Some, IfSome, length, drop};
 ghost use Rattle.std.specs.Option.{option_copied};
 ghost use Rattle.std.proofs.Props.{props};
 ghost use Rattle.live_index.specs.Table.{pairs_of};
@@ -9,6 +9,7 @@ ghost use Rattle.touched_pairs.specs.Moves.{move_passes};
 ghost use Rattle.shared_trees.specs.Keeping.{anew_of, bound_of, is_first, is_same, last_if_same, or_high, start_of, starts_of};
 ghost use Rattle.shared_trees.specs.Known.{AreMetBy, is_last_walked};
 ghost use Rattle.shared_trees.specs.Under.{under_of};
+ghost use Rattle.shared_trees.specs.Visits.{is_found};
 
 use crate::keeps::{Ended, Keeps, Met};
 use crate::starts::{Start, Starts};
@@ -20,8 +21,8 @@ use verdict::{Key, NoMemory};
 
 /// What is known of a tree as it was: its live pairs, the marks of those that writes touch and of all above them, which blocks stand at
 /// another place now, and the children that moved or are above one that did. Each block that is asked for looks at most three times into
-/// the table, and as often once more for its greatest key. The children of a node are asked for in the order of their keys: most look once,
-/// at the pair behind the one that was found last.
+/// the table. Where it is kept its pair is at hand then: to meet it, and to tell its greatest key before another block is asked for, takes
+/// no look. The children of a node are asked for in the order of their keys: most look once, at the pair behind the one that was found last.
 #[derive(Drop)]
 pub struct KnownTree<'a, 's, L> {
     /// The live pairs.
@@ -58,6 +59,10 @@ impl<'a, 's, L> KnownTree<'a, 's, L> {
         ensures starts { self.new.starts.now ≡ self.old.starts.now }
         ensures met { self.new.met ≡ self.old.met }
         ensures ended { self.new.ended ≡ self.old.ended }
+        ensures looks { self.new.steps.now ≤ self.old.steps.now + 3 }
+        ensures found { IfSome result (λ _. is_found self.new.found e.now ≡ true) }
+        ensures again { is_found self.old.found e.now ≡ true
+            → self.new.steps.now ≡ self.old.steps.now }
     {
         if let Some(live) = self.found
             && live.address == e.address
@@ -78,6 +83,9 @@ impl<'a, 's, L> KnownTree<'a, 's, L> {
         ensures starts { self.new.starts.now ≡ self.old.starts.now }
         ensures met { self.new.met ≡ self.old.met }
         ensures ended { self.new.ended ≡ self.old.ended }
+        ensures looks { self.new.steps.now ≤ self.old.steps.now + 3 }
+        ensures own { IfSome result (λ live.
+            (live.tree ≡ (e.now).tree) × (live.address ≡ (e.now).address)) }
     {
         if let Some(walk) = &mut self.behind
             && let Some(live) = walk.next(self.steps)
@@ -93,7 +101,7 @@ impl<'a, 's, L> KnownTree<'a, 's, L> {
 }
 
 impl<'a, 's, L> Keeps for KnownTree<'a, 's, L> {
-    ghost use Rattle.shared_trees.specs.KnownTrees.{ended_by, kept_by, lasts_by, listed_by, met_by, pairs_by};
+    ghost use Rattle.shared_trees.specs.KnownTrees.{ended_by, kept_by, lasts_by, listed_by, looks_by, met_by, pairs_by, ready_by};
 
     ghost keeps = { kept_by };
 
@@ -106,6 +114,10 @@ impl<'a, 's, L> Keeps for KnownTree<'a, 's, L> {
     ghost lasts = { lasts_by };
 
     ghost ended = { ended_by };
+
+    ghost looks = { looks_by };
+
+    ghost ready = { ready_by };
 
     #[tactic(auto, unfolding(crate::specs::Keeping::kept_of))]
     fn kept(&mut self, e: &Expect) -> Option<Key> {

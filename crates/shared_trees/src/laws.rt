@@ -22,6 +22,7 @@ ghost use Rattle.shared_trees.specs.Stopping.{StopsLaw};
 ghost use Rattle.shared_trees.specs.SupersLaw.{SupersLaw};
 ghost use Rattle.shared_trees.specs.TableLaw.{LivesLaw, TableLaw, TablesLaw, TreeTableLaw};
 ghost use Rattle.shared_trees.specs.Unshared.{ReadsTwiceLaw, UnsharedLaw};
+ghost use Rattle.shared_trees.specs.VisitsLaw.{AmongLeadsLaw, LeadsLaw, OldLeadsLaw, StopsRestLaw, VisitsLaw};
 
 /// A walk is the own records of the blocks that it comes to, one after the other, or their first finding.
 pub fn walk_is_own()
@@ -273,4 +274,31 @@ pub fn array_apart_law()
 /// now, where blocks are kept by what is known of the tree as it was.
 pub fn ends_law()
     ensures { EndsLaw }
+{}
+
+/// A walk that keeps blocks comes to few blocks, by those that it reads: to the first one, to one for each entry of a block that it reads,
+/// and to one for each such block and each level below the first. For that each block that is walked below a kept one leads on to others.
+pub fn visits_law()
+    ensures { VisitsLaw }
+{}
+
+/// Each block that is walked below a kept one is not kept or leads on to others, where blocks are kept by what is known of the tree as it
+/// was: it moved, or it is above one that did.
+pub fn leads_law()
+    ensures { LeadsLaw }
+{}
+
+/// The same of blocks that are kept at the stops of a walk, of which none has moved.
+pub fn old_leads_law()
+    ensures { OldLeadsLaw }
+{}
+
+/// The same of blocks that are kept at the addresses of these stops.
+pub fn among_leads_law()
+    ensures { AmongLeadsLaw }
+{}
+
+/// No stop of a walk has moved that keeps blocks by what is known of the tree as it was.
+pub fn stops_rest_law()
+    ensures { StopsRestLaw }
 {}

@@ -16,7 +16,8 @@ use recon_disk::Steps;
 use verdict::{Key, NoMemory};
 
 /// What is known of a tree as it was, and where its walk stops: at the blocks that the walk of the tree as it is met. Each block that is
-/// asked for looks at most once into the table, and those at the stops, where they come in the order of that walk, do not.
+/// asked for looks at most once into the table, and those at the stops, where they come in the order of that walk, do not. To meet a
+/// block, and to tell its greatest key, takes no look.
 #[derive(Drop)]
 pub struct OldTree<'a, 's, 'm, L> {
     /// The live pairs.
@@ -33,7 +34,7 @@ pub struct OldTree<'a, 's, 'm, L> {
 }
 
 impl<'a, 's, 'm, L> Keeps for OldTree<'a, 's, 'm, L> {
-    ghost use Rattle.shared_trees.specs.OldTrees.{kept_by_stops, listed_by_stops, none_ended, none_last, none_met, pairs_by_stops};
+    ghost use Rattle.shared_trees.specs.OldTrees.{always_ready, kept_by_stops, listed_by_stops, looks_by_stops, none_ended, none_last, none_met, pairs_by_stops};
 
     ghost keeps = { kept_by_stops };
 
@@ -46,6 +47,10 @@ impl<'a, 's, 'm, L> Keeps for OldTree<'a, 's, 'm, L> {
     ghost lasts = { none_last };
 
     ghost ended = { none_ended };
+
+    ghost looks = { looks_by_stops };
+
+    ghost ready = { always_ready };
 
     #[tactic(auto, unfolding(crate::specs::Stopping::kept_among))]
     fn kept(&mut self, e: &Expect) -> Option<Key> {

@@ -7,7 +7,9 @@ use Rattle.shared_trees.specs.KeepingWalk.{skip_in}
 use Rattle.verdict.specs.Rules.{no_key}
 use Rattle.shared_trees.proofs.EndWalk.{EndsSoFar, left_ends}
 use Rattle.shared_trees.proofs.MetWalk.{MetSoFar, left_of}
+use Rattle.shared_trees.proofs.VisitWalk.{LooksSoFar, left_visits}
 use Rattle.shared_trees.specs.Meeting.{met_in}
+use Rattle.shared_trees.specs.Visits.{visits_in}
 use Rattle.shared_trees.specs.Skips.{nothing, skip_and, skip_below}
 use Rattle.shared_trees.proofs.changed.+walk_keeping.Given as goal
 
@@ -33,6 +35,9 @@ invariant-loop-place g l =
       same_pairs : g.K.Keeps.pairs l.keeps ≡ g.K.Keeps.pairs l.fn.keeps;
       same_lasts : g.K.Keeps.lasts l.keeps ≡ g.K.Keeps.lasts l.fn.keeps;
       ended : EndsSoFar (g.D.Disk.bytes l.fn.disk) l.source.cache.now (g.K.Keeps.ended l.fn.keeps) (g.K.Keeps.ended l.keeps) (left (drop l.place (anew l.e)) l.last) (left (anew l.e) no_key);
+      looks : LooksSoFar (g.D.Disk.bytes l.fn.disk) l.source.cache.now (g.K.Keeps.looks l.fn.keeps) (g.K.Keeps.looks l.keeps)
+          (left_visits kept anew (g.D.Disk.bytes l.fn.disk) l.source.cache.now sup l.source.map.now l.e.level (drop l.place (anew l.e)))
+          (visits_in kept anew sup l.source.map.now l.e);
     }
 
 -- what is left of the children gives what the whole walk gives
@@ -55,4 +60,7 @@ invariant-loop-i g l =
       same_lasts : g.K.Keeps.lasts l.keeps ≡ g.K.Keeps.lasts l.fn.keeps;
       ended : EndsSoFar (g.D.Disk.bytes l.fn.disk) l.source.cache.now (g.K.Keeps.ended l.fn.keeps) (g.K.Keeps.ended l.keeps)
           (left (children_of (l.e.level - 1) l.e (pointers_from l.block l.i)) l.last) (left (children_of (l.e.level - 1) l.e (pointers_from l.block 0)) no_key);
+      looks : LooksSoFar (g.D.Disk.bytes l.fn.disk) l.source.cache.now (g.K.Keeps.looks l.fn.keeps) (g.K.Keeps.looks l.keeps)
+          (left_visits kept anew (g.D.Disk.bytes l.fn.disk) l.source.cache.now sup l.source.map.now l.e.level (children_of (l.e.level - 1) l.e (pointers_from l.block l.i)))
+          (visits_in kept anew sup l.source.map.now l.e);
     }
