@@ -1,11 +1,11 @@
 -- All spans of items that post otherwise are found.
 use Rattle.std.proofs.Common.{◌≡◌, ℕ, ◌+◌, ◌*◌, ◌^◌, ◌<◌, ◌≤◌, Bool, true, false, not, ◌&&◌, ◌⊎◌, inl, inr, List, length, refl, sym, ap, ◌∙◌, subst, arith, nat_le, eqb}
-use Rattle.std.specs.Prelude.{IsSome, IsTrue, Option, Some, None, is_some, option_map}
+use Rattle.std.specs.Prelude.{IsSome, IsTrue, Option, Some, None, is_none, is_some, option_map}
 use Rattle.std.specs.Option.{unwrap_or}
 use Rattle.std.specs.BTreeMap as map
 use Rattle.std.specs.BTreeSet as set
 use Rattle.std.specs.List.{Contains}
-use Rattle.std.proofs.lemmas.Bool.{and_from, and_parts, both_ways, eq-eqb, leb-true, true_from_ne_false}
+use Rattle.std.proofs.lemmas.Bool.{and_from, and_parts, both_ways, eq-eqb, false_from_ne_true, leb-true, or_left, or_right, true_from_ne_false}
 use Rattle.std.proofs.lemmas.Option.{slice_get-get_or}
 use Rattle.verdict.specs.Chunks.{holds_range, home}
 use Rattle.verdict.specs.declared.place.Chunk.{Chunk}
@@ -18,7 +18,8 @@ use Rattle.span_index.specs.declared.span.SpanSort.TheVariants.{Owned, Summed, S
 use Rattle.span_index.specs.declared.span.SortName.TheVariants.{Owned as OwnedName, Shown as ShownName}
 use Rattle.change_records.specs.declared.item_ref.ItemRef.{ItemRef}
 use Rattle.change_records.specs.declared.kept.Made.{Made}
-use Rattle.change_records.specs.Homes.{IsKept, StandApart}
+use Rattle.change_records.specs.Homes.{StandApart, is_kept}
+use Rattle.change_records.specs.Passes.{is_changed, is_searched}
 use Rattle.change_records.specs.Listed.{inode_cmp}
 use Rattle.change_records.specs.Made.{flag_by}
 use Rattle.change_records.specs.Refs.{ref_cmp}
@@ -28,9 +29,9 @@ use Rattle.change_records.proofs.HomeLaws.{homes_kept, homes_none}
 -- what is searched, and what it finds
 record IsSearched (olds news : List Chunk) (n : ℕ) (free : ℕ → ℕ → Bool) (pairs : Pairs) (made : Made) (table : Table) (apart : Bool) (start one two three : set.BTreeSet ItemRef) : Type 0 where
   pub lawful : AreLawful n table
-  pub stand : IsTrue apart → StandApart olds
-  pub first : Searched (known olds n free pairs news made) table (MeetsChanged olds news apart (length olds)) start one
-  pub second : Searched (known olds n free pairs news made) table (MeetsChanged news olds apart (length news)) one two
+  pub stand : IsTrue apart → StandApart news
+  pub first : Searched (known olds n free pairs news made) table (MeetsChanged olds (is_searched news apart false) (length olds)) start one
+  pub second : Searched (known olds n free pairs news made) table (MeetsChanged news (is_searched olds apart true) (length news)) one two
   pub third : Searched (known olds n free pairs news made) table (ShowsChanged made.inodes.items free (new_flags made free) (length made.inodes.items)) two three
 
 flag_some : (made : Made) (t i : ℕ) (f : Bool) → (flag_by made t i f ≡ f → ⊥) → IsSome (map.get inode_cmp made.flags (record { tree = t; ino = i }))
@@ -50,15 +51,28 @@ meets_in c span a m sort holds low high some fits =
     let until : a + m ≤ c.start + c.length = leb-true _ _ both.1 in
     record { sort = sort; ends = omega (arith, from, low, some); begins = omega (arith, until, high, some, fits) }
 
+-- which chunks are searched
+searched_gone : (others : List Chunk) (c : Chunk) (apart : Bool) → (is_kept others c ≡ true → ⊥) → is_searched others apart false c ≡ true
+unfolding is_searched
+searched_gone others c apart gone = or_right (not apart) (not (is_kept others c)) (ap not (false_from_ne_true _ gone))
+
+searched_come : (others : List Chunk) (c : Chunk) (apart : Bool) → home others c.start c.length ≡ None → is_searched others apart true c ≡ true
+unfolding is_searched
+searched_come others c apart none = or_right (not apart) (is_none (home others c.start c.length)) (ap is_none none)
+
+searched_all : (others : List Chunk) (c : Chunk) (apart is_new : Bool) → apart ≡ false → is_searched others apart is_new c ≡ true
+unfolding is_searched
+searched_all others c apart is_new e = or_left (not apart) (is_changed others is_new c) (ap not e)
+
 module _ (olds news : List Chunk) (n : ℕ) (free : ℕ → ℕ → Bool) (pairs : Pairs) (made : Made) (table : Table) (apart : Bool) (start one two three : set.BTreeSet ItemRef)
     (all : IsSearched olds news n free pairs made table apart start one two three) (span : Span) (at : ItemRef) (stands : 0 < table span)
     (hit : IsHit (known olds n free pairs news made) span at) (missing : set.contains ref_cmp three at ≡ false) where
-  missed_old : (c : Chunk) → Contains olds c → (apart ≡ true → IsKept news c → ⊥) → MeetsChunk c span → ⊥
+  missed_old : (c : Chunk) → Contains olds c → is_searched news apart false c ≡ true → MeetsChunk c span → ⊥
   missed_old c among gone meets =
       both_ways _ missing (all.third.stay at (all.second.stay at (all.first.all span at stands
       (record { chunk = c; at = among.0; small = among.1; among = slice_get-get_or olds among.0 c among.1 ∙ ap Some among.2; gone = gone; meets = meets }) hit)))
 
-  missed_new : (c : Chunk) → Contains news c → (apart ≡ true → IsKept olds c → ⊥) → MeetsChunk c span → ⊥
+  missed_new : (c : Chunk) → Contains news c → is_searched olds apart true c ≡ true → MeetsChunk c span → ⊥
   missed_new c among gone meets =
       both_ways _ missing (all.third.stay at (all.second.all span at stands
       (record { chunk = c; at = among.0; small = among.1; among = slice_get-get_or news among.0 c among.1 ∙ ap Some among.2; gone = gone; meets = meets }) hit))
@@ -77,13 +91,13 @@ module _ (olds news : List Chunk) (n : ℕ) (free : ℕ → ℕ → Bool) (pairs
       by : (b : Bool) → apart ≡ b → ⊥
       by true e =
           homes_kept olds news a m (all.stand e) (omega (arith, low, high, some))
-          (λ c holder kept. missed_old c holder.among (λ _. kept) (meets_in c span a m sort holder.holds low high some fits))
-          (λ c holder kept. missed_new c holder.among (λ _. kept) (meets_in c span a m sort holder.holds low high some fits))
+          (λ c holder gone. missed_old c holder.among (searched_gone news c apart gone) (meets_in c span a m sort holder.holds low high some fits))
+          (λ c holder come. missed_new c holder.among (searched_come olds c apart come) (meets_in c span a m sort holder.holds low high some fits))
           differ
       by false e =
           homes_none olds news a m
-          (λ c holder. missed_old c holder.among (λ yes. absurd (both_ways _ e yes)) (meets_in c span a m sort holder.holds low high some fits))
-          (λ c holder. missed_new c holder.among (λ yes. absurd (both_ways _ e yes)) (meets_in c span a m sort holder.holds low high some fits))
+          (λ c holder. missed_old c holder.among (searched_all news c apart false e) (meets_in c span a m sort holder.holds low high some fits))
+          (λ c holder. missed_new c holder.among (searched_all olds c apart true e) (meets_in c span a m sort holder.holds low high some fits))
           differ
 
   eq_cases : (a b : Bool) → (a ≡ b) ⊎ (a ≡ b → ⊥)
@@ -115,9 +129,9 @@ module _ (olds news : List Chunk) (n : ℕ) (free : ℕ → ℕ → Bool) (pairs
   never_missed = missed span.sort refl (all.lawful span stands) hit.differs
 
 pub found : (olds news : List Chunk) (n : ℕ) (free : ℕ → ℕ → Bool) (pairs : Pairs) (made : Made) (table : Table) (apart : Bool) (start one two three : set.BTreeSet ItemRef)
-    → ((at : ItemRef) → set.contains ref_cmp start at ≡ false) → AreLawful n table → (IsTrue apart → StandApart olds)
-    → Searched (known olds n free pairs news made) table (MeetsChanged olds news apart (length olds)) start one
-    → Searched (known olds n free pairs news made) table (MeetsChanged news olds apart (length news)) one two
+    → ((at : ItemRef) → set.contains ref_cmp start at ≡ false) → AreLawful n table → (IsTrue apart → StandApart news)
+    → Searched (known olds n free pairs news made) table (MeetsChanged olds (is_searched news apart false) (length olds)) start one
+    → Searched (known olds n free pairs news made) table (MeetsChanged news (is_searched olds apart true) (length news)) one two
     → Searched (known olds n free pairs news made) table (ShowsChanged made.inodes.items free (new_flags made free) (length made.inodes.items)) two three
     → IsFound (known olds n free pairs news made) table three
 found olds news n free pairs made table apart start one two three empty lawful stand first second third = record {

@@ -1,22 +1,15 @@
 -- The homes of a range by two lists of chunks.
 use Rattle.std.proofs.Common.{◌≡◌, ℕ, suc, zero, ◌+◌, ◌<◌, ◌≤◌, Bool, true, false, cond, ◌&&◌, inl, inr, List, [], ◌∷◌, length, get_or, refl, sym, ap, ◌∙◌, subst, arith, nat_le}
-use Rattle.std.specs.Prelude.{Option, Some, None, option_map}
+use Rattle.std.specs.Prelude.{◌==◌, Option, Some, None, option_map}
 use Rattle.std.specs.Option.{unwrap_or}
 use Rattle.std.specs.List.{Contains}
-use Rattle.std.proofs.lemmas.Bool.{and_parts, both_ways, cases_order, leb-true}
+use Rattle.std.proofs.lemmas.Bool.{and_from, and_parts, both_ways, cases_order, eqb-true, le-leb, leb-true}
 use Rattle.std.proofs.lemmas.List.{get_or_default}
 use Rattle.std.proofs.lemmas.List.Elements.{Contains-append_left, Contains-append_right, Contains-push}
 use Rattle.verdict.specs.Chunks.{holds_range, home}
 use Rattle.verdict.specs.declared.place.Chunk.{Chunk}
-use Rattle.accounts.specs.declared.context.Home.{Home}
 use Rattle.accounts.specs.Context.{home_in}
-use Rattle.change_records.specs.Homes.{IsKept, StandApart}
-
-no_home : (h : Home) → None ≡ Some h → ⊥
-no_home h is = absurd (cc)
-
-one_home : (h g : Home) → Some h ≡ Some g → h ≡ g
-one_home h g is = ap (λ o. unwrap_or o h) is
+use Rattle.change_records.specs.Homes.{StandApart, is_kept, is_like}
 
 one_chunk : (h g : Chunk) → Some h ≡ Some g → h ≡ g
 one_chunk h g is = ap (λ o. unwrap_or o h) is
@@ -45,13 +38,13 @@ none_behind : (chunk : Chunk) (chunks : List Chunk) (a n : ℕ) (b : Bool) → h
 none_behind chunk chunks a n true e is = absurd (cc)
 none_behind chunk chunks a n false e is = (e, is)
 
-home_none : (chunks : List Chunk) (a n : ℕ) → home chunks a n ≡ None → (k : ℕ) (d : Chunk) → k < length chunks → holds_range (get_or chunks k d) a n ≡ false
+pub home_none : (chunks : List Chunk) (a n : ℕ) → home chunks a n ≡ None → (k : ℕ) (d : Chunk) → k < length chunks → holds_range (get_or chunks k d) a n ≡ false
 home_none [] a n is k d small = absurd (omega arith)
 home_none (chunk ∷ chunks) a n is zero d small = (none_behind chunk chunks a n (holds_range chunk a n) refl is).0
 home_none (chunk ∷ chunks) a n is (suc k) d small = home_none chunks a n (none_behind chunk chunks a n (holds_range chunk a n) refl is).1 k d (omega arith)
 
 -- a list with a chunk that holds a range has a home of it
-nowhere : (chunks : List Chunk) (a n : ℕ) (c : Chunk) → IsHolder chunks a n c → home chunks a n ≡ None → ⊥
+pub nowhere : (chunks : List Chunk) (a n : ℕ) (c : Chunk) → IsHolder chunks a n c → home chunks a n ≡ None → ⊥
 nowhere chunks a n c is none =
     let holds : holds_range (get_or chunks is.among.0 c) a n ≡ true = subst (λ x. holds_range x a n ≡ true) (sym is.among.2) is.holds in
     both_ways _ (home_none chunks a n none is.among.0 c is.among.1) holds
@@ -82,15 +75,24 @@ one_holder chunks a n c d apart some first second = elim (cases_order first.amon
     at_second h = subst (λ x. holds_range x a n ≡ true) (sym h.among.2) h.holds
 
 -- the like of a kept chunk in the other list
-record IsLike (others : List Chunk) (a n : ℕ) (c d : Chunk) : Type 0 where
+pub record IsLike (others : List Chunk) (a n : ℕ) (c d : Chunk) : Type 0 where
   pub holder : IsHolder others a n d
   pub same : home_in d ≡ home_in c
 
-like_by : (others : List Chunk) (c : Chunk) (a n : ℕ) (o : Option Chunk) → home others c.start c.length ≡ o → option_map home_in o ≡ Some (home_in c)
+like_is : (c d : Chunk) → is_like c (Some d) ≡ true → home_in d ≡ home_in c
+like_is c d is =
+    let first = and_parts (d.start == c.start) (d.length == c.length && d.class == c.class) is in
+    let rest = and_parts (d.length == c.length) (d.class == c.class) first.1 in
+    let e1 : d.start ≡ c.start = eqb-true _ _ first.0 in
+    let e2 : d.length ≡ c.length = eqb-true _ _ rest.0 in
+    let e3 : d.class ≡ c.class = eqb-true _ _ rest.1 in
+    λ i. record { start = e1 i; length = e2 i; class = e3 i }
+
+like_by : (others : List Chunk) (c : Chunk) (a n : ℕ) (o : Option Chunk) → home others c.start c.length ≡ o → is_like c o ≡ true
     → holds_range c a n ≡ true → (d : Chunk) × IsLike others a n c d
-like_by others c a n None e is holds = absurd (no_home (home_in c) is)
+like_by others c a n None e is holds = absurd (cc)
 like_by others c a n (Some d) e is holds =
-    let same : home_in d ≡ home_in c = one_home (home_in d) (home_in c) is in (
+    let same : home_in d ≡ home_in c = like_is c d is in (
       d,
       record {
         holder = record {
@@ -101,13 +103,27 @@ like_by others c a n (Some d) e is holds =
       },
     )
 
-like_of : (others : List Chunk) (c : Chunk) (a n : ℕ) → IsKept others c → holds_range c a n ≡ true → (d : Chunk) × IsLike others a n c d
-unfolding IsKept
+pub like_of : (others : List Chunk) (c : Chunk) (a n : ℕ) → is_kept others c ≡ true → holds_range c a n ≡ true → (d : Chunk) × IsLike others a n c d
+unfolding is_kept
 like_of others c a n kept holds = like_by others c a n (home others c.start c.length) refl kept holds
 
--- Where no chunk that holds a range is missed, of both lists, the range has like homes by both.
-pub homes_kept : (olds news : List Chunk) (a n : ℕ) → StandApart olds → 0 < n → ((c : Chunk) → IsHolder olds a n c → (IsKept news c → ⊥) → ⊥)
-    → ((d : Chunk) → IsHolder news a n d → (IsKept olds d → ⊥) → ⊥) → (option_map home_in (home olds a n) ≡ option_map home_in (home news a n) → ⊥) → ⊥
+-- a chunk that holds a range lies whole in no chunk of a list that has no home of the range
+home_gone : (chunks : List Chunk) (a n : ℕ) (d : Chunk) → holds_range d a n ≡ true → home chunks a n ≡ None → home chunks d.start d.length ≡ None
+home_gone chunks a n d holds none = by (home chunks d.start d.length) refl
+  where
+    by : (o : Option Chunk) → home chunks d.start d.length ≡ o → home chunks d.start d.length ≡ None
+    by None e = e
+    by (Some c) e =
+        let outer = home_some chunks d.start d.length c e in
+        let around = and_parts (nat_le c.start d.start) (nat_le (d.start + d.length) (c.start + c.length)) outer.holds in
+        let inside = and_parts (nat_le d.start a) (nat_le (a + n) (d.start + d.length)) holds in
+        let low : c.start ≤ a = let x : c.start ≤ d.start = leb-true _ _ around.0 in let y : d.start ≤ a = leb-true _ _ inside.0 in omega arith in
+        let high : a + n ≤ c.start + c.length = let x : d.start + d.length ≤ c.start + c.length = leb-true _ _ around.1 in let y : a + n ≤ d.start + d.length = leb-true _ _ inside.1 in omega arith in
+        absurd (nowhere chunks a n c (record { among = outer.among; holds = and_from _ _ (le-leb _ _ low) (le-leb _ _ high) }) none)
+
+-- Where no old chunk that holds a range is missed, nor a new one that no old chunk holds whole, the range has like homes by both lists.
+pub homes_kept : (olds news : List Chunk) (a n : ℕ) → StandApart news → 0 < n → ((c : Chunk) → IsHolder olds a n c → (is_kept news c ≡ true → ⊥) → ⊥)
+    → ((d : Chunk) → IsHolder news a n d → home olds d.start d.length ≡ None → ⊥) → (option_map home_in (home olds a n) ≡ option_map home_in (home news a n) → ⊥) → ⊥
 homes_kept olds news a n apart some first second differ = by (home olds a n) (home news a n) refl refl
   where
     same : (o p : Option Chunk) → home olds a n ≡ o → home news a n ≡ p → option_map home_in o ≡ option_map home_in p → ⊥
@@ -116,17 +132,16 @@ homes_kept olds news a n apart some first second differ = by (home olds a n) (ho
     by : (o p : Option Chunk) → home olds a n ≡ o → home news a n ≡ p → ⊥
     by None None e f = same None None e f refl
     by None (Some d) e f =
-        let mine = home_some news a n d f in
-        second d mine (λ kept. (let like = like_of olds d a n kept mine.holds in nowhere olds a n like.0 like.1.holder e))
+        let mine = home_some news a n d f in second d mine (home_gone olds a n d mine.holds e)
     by (Some c) None e f =
         let mine = home_some olds a n c e in
         first c mine (λ kept. (let like = like_of news c a n kept mine.holds in nowhere news a n like.0 like.1.holder f))
     by (Some c) (Some d) e f =
-        let mine = home_some news a n d f in
-        second d mine (λ kept.
-        (let like = like_of olds d a n kept mine.holds in
-        let one : c ≡ like.0 = one_holder olds a n c like.0 apart some (home_some olds a n c e) like.1.holder in
-        same (Some c) (Some d) e f (ap (λ x. Some (home_in x)) one ∙ ap Some like.1.same)))
+        let mine = home_some olds a n c e in
+        first c mine (λ kept.
+        (let like = like_of news c a n kept mine.holds in
+        let one : d ≡ like.0 = one_holder news a n d like.0 apart some (home_some news a n d f) like.1.holder in
+        same (Some c) (Some d) e f (sym (ap (λ x. Some (home_in x)) one ∙ ap Some like.1.same))))
 
 -- a range that no chunk of either list holds has like homes by both
 pub homes_none : (olds news : List Chunk) (a n : ℕ) → ((c : Chunk) → IsHolder olds a n c → ⊥) → ((d : Chunk) → IsHolder news a n d → ⊥)
@@ -137,3 +152,12 @@ homes_none olds news a n first second differ = by (home olds a n) (home news a n
     by None None e f = differ (ap (option_map home_in) e ∙ sym (ap (option_map home_in) f))
     by None (Some d) e f = second d (home_some news a n d f)
     by (Some c) p e f = first c (home_some olds a n c e)
+
+-- chunks of which one starts before the end of the one before it do not stand apart
+pub not_apart : (chunks : List Chunk) (i end : ℕ) (d : Chunk) → i < length chunks → (get_or chunks i d).start < end → (i ≡ 0 → end ≡ 0)
+    → ((k : ℕ) (d : Chunk) → k + 1 ≡ i → end ≡ (get_or chunks k d).start + (get_or chunks k d).length) → StandApart chunks → ⊥
+not_apart chunks zero end d within low first last apart = let none : end ≡ 0 = first refl in absurd (omega (arith, none, low))
+not_apart chunks (suc k) end d within low first last apart =
+    let is : end ≡ (get_or chunks k d).start + (get_or chunks k d).length = last k d (omega arith) in
+    let gap : (get_or chunks k d).start + (get_or chunks k d).length ≤ (get_or chunks (suc k) d).start = apart k (suc k) d (omega arith) within in
+    absurd (omega (arith, is, gap, low))

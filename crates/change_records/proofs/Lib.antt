@@ -5,6 +5,8 @@ pub mod TurnLaws
 pub mod HomeLaws
 pub mod PostingLaws
 pub mod SearchLaws
+pub mod LookLaws
+pub mod LookSums
 pub mod ItemLaws
 pub mod FoundLaws
 pub mod AffectedLaws

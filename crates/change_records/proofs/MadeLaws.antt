@@ -15,18 +15,21 @@ use Rattle.verdict.specs.OnDisk.{key_same}
 use Rattle.change_records.specs.declared.item_ref.ItemRef.{ItemRef}
 use Rattle.change_records.specs.declared.kept.Inode.{Inode}
 use Rattle.change_records.specs.Refs.{ref_cmp}
-use Rattle.std.proofs.Common.{◌+◌, ◌<◌, suc, arith, length, get_or, drop, drop-cons, subst}
+use Rattle.std.proofs.Common.{◌+◌, ◌*◌, ◌<◌, suc, arith, length, get_or, drop, drop-cons, subst}
 use Rattle.std.specs.Prelude.{IsSome}
 use Rattle.std.specs.List.{Contains}
-use Rattle.std.proofs.lemmas.Bool.{and_parts, eqb-true}
-use Rattle.std.proofs.lemmas.List.Elements.{Contains-append_left}
+use Rattle.std.proofs.lemmas.Bool.{and_from, and_parts, both_ways, eq-eqb, eqb-true}
+use Rattle.std.proofs.Common.{inl, inr}
+use Rattle.std.proofs.lemmas.List.{get_or_default, length-append}
+use Rattle.std.proofs.lemmas.List.Quantifiers.{all_pairs_push}
+use Rattle.std.proofs.lemmas.List.Elements.{Contains-append_left, Contains-push_cases}
 use Rattle.records.specs.declared.owned.ItemAt.{ItemAt}
 use Rattle.change_records.specs.declared.changes.ItemChange.{ItemChange}
 use Rattle.change_records.specs.declared.changes.ItemChange.TheVariants.{Altered}
 use Rattle.change_records.specs.declared.kept.Made.{Made}
 use Rattle.change_records.specs.Refs.{is_named, names, stands_at}
 use Rattle.change_records.specs.SumFree.{flag_at, sum_free_after, without_flag}
-use Rattle.change_records.specs.Made.{IsApplied, IsMade, IsPut, IsTaken, flag_by, has_name}
+use Rattle.change_records.specs.Made.{AreOnce, IsApplied, IsMade, IsPut, IsTaken, ListsOneMore, flag_by, has_name}
 use Rattle.change_records.specs.Listed.{AreListed, inode_cmp}
 
 then_tied : (o p : Ordering) → is_eq (ordering_then o p) ≡ (is_eq o && is_eq p)
@@ -72,6 +75,9 @@ flag_put m n k free t i other updates =
 pub record IsHalf (olds news : List ItemAt) (all left : List ItemChange) (made : Made) : Type 0 where
   pub named : (at : ItemRef) → (is_named olds news left at || has_name made at) ≡ is_named olds news all at
   pub flags : (tree ino : ℕ) (free : Bool) → sum_free_after olds news tree ino left (flag_by made tree ino free) ≡ sum_free_after olds news tree ino all free
+  pub done : ℕ
+  pub so_far : done + length left ≡ length all
+  pub once : AreOnce made.flags made.inodes.items (2 * done)
 
 swap_or : (a b c : Bool) → (a || (b || c)) ≡ ((b || a) || c)
 swap_or true true c = refl
@@ -84,8 +90,11 @@ or_false true = refl
 or_false false = refl
 
 pub half_none : (olds news : List ItemAt) (all : List ItemChange) (made : Made) → ((at : ItemRef) → has_name made at ≡ false)
-    → ((tree ino : ℕ) (free : Bool) → flag_by made tree ino free ≡ free) → IsHalf olds news all all made
-half_none olds news all made named flags = record {
+    → ((tree ino : ℕ) (free : Bool) → flag_by made tree ino free ≡ free) → AreOnce made.flags made.inodes.items 0 → IsHalf olds news all all made
+half_none olds news all made named flags once = record {
+  done = 0;
+  so_far = omega arith;
+  once = once;
   named = λ at. ap (λ b. is_named olds news all at || b) (named at) ∙ or_false (is_named olds news all at);
   flags = λ tree ino free. ap (sum_free_after olds news tree ino all) (flags tree ino free);
 }
@@ -94,6 +103,10 @@ half_cons : (olds news : List ItemAt) (all left : List ItemChange) (change : Ite
     → IsHalf olds news all (change ∷ left) made → IsHalf olds news all left more
 unfolding is_named sum_free_after
 half_cons olds news all left change made more applied half = record {
+  done = half.done + 1;
+  so_far = let had : half.done + suc (length left) ≡ length all = half.so_far in omega (arith, had);
+  once =
+      subst (AreOnce more.flags more.inodes.items) (let same : 2 * half.done + 2 ≡ 2 * (half.done + 1) = omega arith in same) (applied.once (2 * half.done) half.once);
   named = λ at. ap (λ b. is_named olds news left at || b) (applied.named at) ∙ swap_or (is_named olds news left at) (names olds news at change) (has_name made at) ∙ half.named at;
   flags = λ tree ino free. ap (sum_free_after olds news tree ino left) (applied.flags tree ino free) ∙ half.flags tree ino free;
 }
@@ -108,7 +121,13 @@ half_more olds news all i d made more small applied half =
 
 pub half_all : (olds news : List ItemAt) (all : List ItemChange) (made : Made) → IsHalf olds news all [] made → IsMade olds news all made
 unfolding is_named sum_free_after
-half_all olds news all made half = record { named = half.named; flags = half.flags }
+half_all olds news all made half = record {
+  named = half.named;
+  flags = half.flags;
+  once = subst (AreOnce made.flags made.inodes.items)
+      (let is : half.done + 0 ≡ length all = half.so_far in let same : 2 * half.done ≡ 2 * length all = omega (arith, is) in same)
+      half.once;
+}
 
 or_front : (a b c : Bool) → (a || (b || c)) ≡ ((b || a) || c)
 or_front true true c = refl
@@ -128,6 +147,8 @@ altered olds news change was is o n made taken more it at_o at_n take put =
           put.flags tree ino free ∙ ap (unwrap_or (flag_at tree ino n)) (take.flags tree ino free)
           ∙ ap (λ x. unwrap_or (flag_at tree ino n) (without_flag (flag_at tree ino x) (flag_by made tree ino free))) at_o
           ∙ ap (λ x. unwrap_or (flag_at tree ino x) (without_flag (flag_at tree ino (slice_get olds was)) (flag_by made tree ino free))) at_n;
+      once = λ most had.
+          subst (AreOnce more.flags more.inodes.items) (let same : most + 1 + 1 ≡ most + 2 = omega arith in same) (put.once (most + 1) (take.once most had));
     })
 
 pub on_ok : {T E P Q : Type 0} (r : Result T E) → (P → Q) → OnOk r P → OnOk r Q
@@ -166,3 +187,65 @@ pub listed_insert : {T E : Type 0} (m n : map.BTreeMap Inode Bool) (inodes : Lis
     → OnOk r (map.Updates inode_cmp m n k (Some free)) → OnErr r (n.entries ≡ m.entries) → AreListed m inodes → AreListed n inodes
 listed_insert m n inodes k free (Ok x) there updates same listed = listed_put m n inodes k free updates there listed
 listed_insert m n inodes k free (Err e) there updates same listed = listed_same m n inodes same listed
+
+-- ---- each inode is on the list once
+
+pub once_none : (m : map.BTreeMap Inode Bool) (inodes : List Inode) → inodes ≡ [] → AreOnce m inodes 0
+once_none m inodes none =
+    subst (λ l. AreOnce m l 0) (sym none) (record {
+      distinct = λ i j d below small. absurd (omega (arith, small));
+      flagged = λ inode among. absurd (let small = among.1 in omega (arith, small));
+      few = omega arith;
+    })
+
+pub once_same : (m n : map.BTreeMap Inode Bool) (xs ys : List Inode) → n ≡ m → ys ≡ xs → (most : ℕ) → AreOnce m xs most → AreOnce n ys (most + 1)
+once_same m n xs ys same_map same most had =
+    subst (λ z. AreOnce z ys (most + 1)) (sym same_map) (subst (λ l. AreOnce m l (most + 1)) (sym same) (record {
+      distinct = had.distinct;
+      flagged = had.flagged;
+      few = let few = had.few in omega (arith, few);
+    }))
+
+-- a flag that was there is there behind an update
+flag_stays : (m n : map.BTreeMap Inode Bool) (k q : Inode) (free : Bool) → map.Updates inode_cmp m n k (Some free) → IsSome (map.get inode_cmp m q) → IsSome (map.get inode_cmp n q)
+flag_stays m n k q free updates had = ap is_some (updates.0 q) ∙ by (is_at (inode_cmp k) q)
+  where
+    by : (b : Bool) → is_some (cond b (Some free) (map.get inode_cmp m q)) ≡ true
+    by true = refl
+    by false = had
+
+flag_there : (m n : map.BTreeMap Inode Bool) (k : Inode) (free : Bool) → map.Updates inode_cmp m n k (Some free) → IsSome (map.get inode_cmp n k)
+flag_there m n k free updates = ap is_some (updates.0 k) ∙ ap (λ b. is_some (cond b (Some free) (map.get inode_cmp m k))) (tied_inode k k ∙ and_from _ _ (eq-eqb k.tree k.tree refl) (eq-eqb k.ino k.ino refl))
+
+once_push : (m n : map.BTreeMap Inode Bool) (xs : List Inode) (k : Inode) (free : Bool) → map.Updates inode_cmp m n k (Some free) → is_some (map.get inode_cmp m k) ≡ false
+    → (most : ℕ) → AreOnce m xs most → AreOnce n (xs ++ k ∷ []) (most + 1)
+once_push m n xs k free updates new most had = record {
+  distinct = all_pairs_push (λ one other. one ≡ other → ⊥) xs k had.distinct
+      (λ i d small same. both_ways _ new (had.flagged k (i, small, sym (get_or_default xs i d k small) ∙ same)));
+  flagged = λ q among. elim (Contains-push_cases xs k q among) [
+    | inl early ↦ flag_stays m n k q free updates (had.flagged q early)
+    | inr last ↦ subst (λ x. IsSome (map.get inode_cmp n x)) last (flag_there m n k free updates)
+  ];
+  few = let few = had.few in let size = length-append xs (k ∷ []) in omega (arith, few, size);
+}
+
+pub once_put : (m n : map.BTreeMap Inode Bool) (xs ys : List Inode) (k : Inode) (free : Bool) → map.Updates inode_cmp m n k (Some free)
+    → ys ≡ cond (is_some (map.get inode_cmp m k)) xs (xs ++ k ∷ []) → (most : ℕ) → AreOnce m xs most → AreOnce n ys (most + 1)
+once_put m n xs ys k free updates is most had = by (is_some (map.get inode_cmp m k)) refl
+  where
+    by : (b : Bool) → is_some (map.get inode_cmp m k) ≡ b → AreOnce n ys (most + 1)
+    by true e =
+        subst (λ l. AreOnce n l (most + 1)) (sym (is ∙ ap (λ b. cond b xs (xs ++ k ∷ [])) e)) (record {
+          distinct = had.distinct;
+          flagged = λ q among. flag_stays m n k q free updates (had.flagged q among);
+          few = let few = had.few in omega (arith, few);
+        })
+    by false e = subst (λ l. AreOnce n l (most + 1)) (sym (is ∙ ap (λ b. cond b xs (xs ++ k ∷ [])) e)) (once_push m n xs k free updates e most had)
+
+pub once_by : (old mid new : Made) → mid.flags ≡ old.flags → mid.inodes ≡ old.inodes → ListsOneMore mid new → ListsOneMore old new
+once_by old mid new flags inodes more most had =
+    more most (subst (λ m. AreOnce m mid.inodes.items most) (sym flags) (subst (λ l. AreOnce old.flags l.items most) (sym inodes) had))
+
+pub joined : {T E A B C D : Type 0} (r : Result T E) → OnOk r A → OnOk r B → OnOk r C → (A → B → C → D) → OnOk r D
+joined (Ok x) a b c join = join a b c
+joined (Err e) a b c join = a

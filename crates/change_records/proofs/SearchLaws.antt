@@ -11,7 +11,6 @@ use Rattle.span_index.specs.OrderLaws.{span_exact, span_total}
 use Rattle.std.specs.Cmp.{nat_cmp_is}
 use Rattle.live_index.specs.Pairs.{Pairs}
 use Rattle.change_records.specs.Made.{has_name}
-use Rattle.change_records.specs.Homes.{IsKept}
 use Rattle.change_records.specs.declared.kept.Inode.{Inode}
 use Rattle.verdict.specs.declared.place.Chunk.{Chunk}
 use Rattle.span_index.specs.declared.span.SortName.TheVariants.{Owned as OwnedName, Shown as ShownName}
@@ -203,7 +202,7 @@ shows tree ino after (Shown t i o e l) shown behind =
     let rest = and_parts (i == ino) true first.1 in
     and_from _ _ first.0 (and_from _ _ rest.0 behind)
 
-shown_too : (tree ino : ℕ) (after : Option ℕ) (sort : SpanSort) → shows_behind tree ino after sort ≡ true → (shows_behind tree ino None sort ≡ true) × (is_behind after (offset_of sort) ≡ true)
+pub shown_too : (tree ino : ℕ) (after : Option ℕ) (sort : SpanSort) → shows_behind tree ino after sort ≡ true → (shows_behind tree ino None sort ≡ true) × (is_behind after (offset_of sort) ≡ true)
 shown_too tree ino after (Owned d) shown = absurd (cc)
 shown_too tree ino after Summed shown = absurd (cc)
 shown_too tree ino after (Shown t i o e l) shown =
@@ -287,32 +286,32 @@ some_chunk h g is = ap (λ o. unwrap_or o h) is
 some_inode : (h g : Inode) → Some h ≡ Some g → h ≡ g
 some_inode h g is = ap (λ o. unwrap_or o h) is
 
-chunk_early : (chunks others : List Chunk) (apart : Bool) (i : ℕ) (span : Span) (m : MeetsChanged chunks others apart (i + 1) span) → m.at < i → MeetsChanged chunks others apart i span
-chunk_early chunks others apart i span m small = record { chunk = m.chunk; at = m.at; small = small; among = m.among; gone = m.gone; meets = m.meets }
+chunk_early : (chunks : List Chunk) (searched : Chunk → Bool) (i : ℕ) (span : Span) (m : MeetsChanged chunks searched (i + 1) span) → m.at < i → MeetsChanged chunks searched i span
+chunk_early chunks searched i span m small = record { chunk = m.chunk; at = m.at; small = small; among = m.among; gone = m.gone; meets = m.meets }
 
 -- the chunk that a meeting at the next place has
-chunk_here : (chunks others : List Chunk) (apart : Bool) (i : ℕ) (d : Chunk) (span : Span) (m : MeetsChanged chunks others apart (i + 1) span) → i < length chunks → i ≤ m.at
+chunk_here : (chunks : List Chunk) (searched : Chunk → Bool) (i : ℕ) (d : Chunk) (span : Span) (m : MeetsChanged chunks searched (i + 1) span) → i < length chunks → i ≤ m.at
     → m.chunk ≡ get_or chunks i d
-chunk_here chunks others apart i d span m within late =
+chunk_here chunks searched i d span m within late =
     let here : m.at ≡ i = let small = m.small in omega (arith, small, late) in
     some_chunk m.chunk (get_or chunks i d) (sym m.among ∙ ap (slice_get chunks) here ∙ slice_get-get_or chunks i d within)
 
-pub chunk_parts_more : (chunks others : List Chunk) (apart : Bool) (i : ℕ) (d : Chunk) (span : Span) → i < length chunks → MeetsChanged chunks others apart (i + 1) span
-    → MeetsChanged chunks others apart i span ⊎ MeetsChunk (get_or chunks i d) span
-chunk_parts_more chunks others apart i d span within m = elim (cases_lt m.at i) [
-  | inl early ↦ inl (chunk_early chunks others apart i span m early)
-  | inr late ↦ inr (subst (λ c. MeetsChunk c span) (chunk_here chunks others apart i d span m within late) m.meets)
+pub chunk_parts_more : (chunks : List Chunk) (searched : Chunk → Bool) (i : ℕ) (d : Chunk) (span : Span) → i < length chunks → MeetsChanged chunks searched (i + 1) span
+    → MeetsChanged chunks searched i span ⊎ MeetsChunk (get_or chunks i d) span
+chunk_parts_more chunks searched i d span within m = elim (cases_lt m.at i) [
+  | inl early ↦ inl (chunk_early chunks searched i span m early)
+  | inr late ↦ inr (subst (λ c. MeetsChunk c span) (chunk_here chunks searched i d span m within late) m.meets)
 ]
 
-pub chunk_kept_more : (chunks others : List Chunk) (apart : Bool) (i : ℕ) (d : Chunk) (span : Span) → i < length chunks → apart ≡ true → IsKept others (get_or chunks i d)
-    → MeetsChanged chunks others apart (i + 1) span → MeetsChanged chunks others apart i span
-chunk_kept_more chunks others apart i d span within is kept m = elim (cases_lt m.at i) [
-  | inl early ↦ chunk_early chunks others apart i span m early
-  | inr late ↦ absurd (m.gone is (subst (IsKept others) (sym (chunk_here chunks others apart i d span m within late)) kept))
+pub chunk_kept_more : (chunks : List Chunk) (searched : Chunk → Bool) (i : ℕ) (d : Chunk) (span : Span) → i < length chunks → searched (get_or chunks i d) ≡ false
+    → MeetsChanged chunks searched (i + 1) span → MeetsChanged chunks searched i span
+chunk_kept_more chunks searched i d span within kept m = elim (cases_lt m.at i) [
+  | inl early ↦ chunk_early chunks searched i span m early
+  | inr late ↦ absurd (both_ways _ kept (ap searched (sym (chunk_here chunks searched i d span m within late)) ∙ m.gone))
 ]
 
-pub chunk_first : (chunks others : List Chunk) (apart : Bool) (span : Span) → MeetsChanged chunks others apart 0 span → ⊥
-chunk_first chunks others apart span m = let small = m.small in omega (arith, small)
+pub chunk_first : (chunks : List Chunk) (searched : Chunk → Bool) (span : Span) → MeetsChanged chunks searched 0 span → ⊥
+chunk_first chunks searched span m = let small = m.small in omega (arith, small)
 
 inode_early : (inodes : List Inode) (before after : ℕ → ℕ → Bool) (i : ℕ) (span : Span) (m : ShowsChanged inodes before after (i + 1) span) → m.at < i
     → ShowsChanged inodes before after i span

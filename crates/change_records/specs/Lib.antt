@@ -8,3 +8,5 @@ pub mod Homes
 pub mod Spans
 pub mod Affected
 pub mod Search
+pub mod Looks
+pub mod Passes

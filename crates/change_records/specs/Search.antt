@@ -8,7 +8,6 @@ use Rattle.live_index.specs.Pairs.{Pairs}
 use Rattle.span_index.specs.Spans.{Table, end_of, is_sort, offset_of, shows_behind}
 use Rattle.span_index.specs.declared.span.SortName.{SortName}
 use Rattle.span_index.specs.declared.span.SortName.TheVariants.{Owned as OwnedName, Shown as ShownName}
-use Rattle.change_records.specs.Homes.{IsKept}
 use Rattle.change_records.specs.declared.kept.Inode.{Inode}
 use Rattle.span_index.specs.declared.span.Span.{Span}
 use Rattle.span_index.specs.declared.span.SpanSort.{SpanSort}
@@ -133,13 +132,13 @@ pub record MeetsChunk (chunk : Chunk) (span : Span) : Type 0 where
   pub ends : chunk.start < end_of span
   pub begins : span.first < min (chunk.start + chunk.length) (2 ^ 64 - 1)
 
--- of the first chunks of a list one meets a span, and is not known to be kept in the others
-pub record MeetsChanged (chunks others : List Chunk) (apart : Bool) (count : ℕ) (span : Span) : Type 0 where
+-- of the first chunks of a list one is searched, and meets a span
+pub record MeetsChanged (chunks : List Chunk) (searched : Chunk → Bool) (count : ℕ) (span : Span) : Type 0 where
   pub chunk : Chunk
   pub at : ℕ
   pub small : at < count
   pub among : slice_get chunks at ≡ Some chunk
-  pub gone : apart ≡ true → IsKept others chunk → ⊥
+  pub gone : searched chunk ≡ true
   pub meets : MeetsChunk chunk span
 
 -- of the first inodes of a list one shows a span, and has another flag

@@ -1,6 +1,6 @@
 //! The kept items that post otherwise.
 
-ghost use Rattle.std.specs.Prelude.{◌≡◌, false, List, IfOk, OnOk};
+ghost use Rattle.std.specs.Prelude.{◌≡◌, ◌+◌, ◌≤◌, false, List, length, IfOk, OnOk};
 ghost use Rattle.live_index.specs.Table.{pairs_of};
 ghost use Rattle.records.specs.Part.{Located};
 ghost use Rattle.span_index.specs.Table.{times_of};
@@ -8,8 +8,12 @@ ghost use Rattle.change_records.specs.declared.item_ref.ItemRef.{ItemRef as ARef
 ghost use Rattle.std.specs.BTreeSet as set;
 ghost use Rattle.std.specs.List.Sorted.{IsStrictlySortedBy};
 ghost use Rattle.change_records.specs.Affected.{AreAffected, context_with};
+ghost use Rattle.span_index.specs.declared.span.Span.{Span as ASpan};
+ghost use Rattle.change_records.specs.Homes.{StandApart};
+ghost use Rattle.change_records.specs.Looks.{AreHoused, most_looks, spans_of};
+ghost use Rattle.change_records.specs.Passes.{AreSpansOf, search_looks};
 ghost use Rattle.change_records.specs.Refs.{is_named, ref_cmp};
-ghost use Rattle.change_records.specs.Search.{AreAlone, AreLawful, IsFound, known};
+ghost use Rattle.change_records.specs.Search.{AreAlone, AreLawful, IsFound, known, new_flags};
 ghost use Rattle.change_records.specs.Spans.{AreItemsOf};
 ghost use Rattle.change_records.specs.SumFree.{flags_after};
 
@@ -35,7 +39,12 @@ use verdict::NoMemory;
 /// chunks, flags and size of a tree block are those of `bases`; the new chunks are `fresh`, and the new
 /// flags are what the changes make of the old ones. The level in the key of a tree block is that of the
 /// live table, and a tree block without a live pair names no item. No block is read; each span that is
-/// asked for counts a look.
+/// asked for counts a look, and so does the live pair of a tree block.
+///
+/// Let the chunks of each list stand apart, and let each span that an extent owns or that a file shows lie
+/// whole in an old chunk. Then there are at most six looks for each such span in a chunk that the new list
+/// does not keep, two for each span that an inode shows whose flag changes, two for each chunk of both
+/// lists, and two for each change. This holds out of memory too.
 pub fn affected<L, B: Bases<Table = LiveIndex<L>>>(
     alloc: Global,
     bases: &B,
@@ -46,13 +55,22 @@ pub fn affected<L, B: Bases<Table = LiveIndex<L>>>(
     fresh: &ChunkMap,
     steps: &mut Steps<L>,
 ) -> Result<Vec<ItemRef>, NoMemory>
-    ensures { let b = bases.now in
+    ensures value { let b = bases.now in
         let n = (B.superblock b).nodesize in
         let flags = flags_after old.now new.now changes.now (B.is_sum_free b) in
         (items : List Located) → AreItemsOf n (times_of spans.now) items →
         IfOk result (λ refs. AreAffected (pairs_of (B.table b))
         (context_with (B.chunks b) n (B.is_sum_free b)) (context_with fresh.now n flags)
         (is_named old.now new.now changes.now) items refs.items) }
+    ensures looks { let b = bases.now in
+        let n = (B.superblock b).nodesize in
+        let free = B.is_sum_free b in
+        let flags = flags_after old.now new.now changes.now free in
+        (items : List Located) → AreItemsOf n (times_of spans.now) items →
+        StandApart (B.chunks b) → StandApart fresh.now →
+        AreHoused (B.chunks b) (spans_of n items) →
+        steps.new ≤ steps.old
+        + most_looks (B.chunks b) fresh.now free flags (spans_of n items) (length changes.now) }
 {
     let made = Made::of(alloc, changes, old, new)?;
     let sides = Sides {
@@ -73,25 +91,34 @@ fn search<L, B: Bases<Table = LiveIndex<L>>>(
     refs: &mut BTreeSet<ItemRef>,
     steps: &mut Steps<L>,
 ) -> Result<(), NoMemory>
-    ensures { let b = sides.now.bases.now in
+    ensures found { let b = sides.now.bases.now in
         let k = known (B.chunks b) (B.superblock b).nodesize (B.is_sum_free b)
         (pairs_of (B.table b))
         sides.now.fresh.now sides.now.made.now in
         ((at : ARef) → set.contains ref_cmp refs.old at ≡ false) →
         AreLawful (B.superblock b).nodesize (times_of spans.now) → AreAlone (times_of spans.now) →
         OnOk result (IsFound k (times_of spans.now) refs.new) }
+    ensures looks { let b = sides.now.bases.now in
+        let made = sides.now.made.now in
+        let news = sides.now.fresh.now in
+        let free = B.is_sum_free b in
+        (all : List ASpan) → AreSpansOf (times_of spans.now) all → StandApart news →
+        steps.new ≤ steps.old
+        + search_looks (B.chunks b) news free (new_flags made free) all made.inodes.items }
 {
-    let apart = stand_apart(sides.bases.map().chunks());
+    let apart = stand_apart(sides.fresh.chunks());
     let old = Chunks {
         list: sides.bases.map().chunks(),
         others: sides.fresh,
         apart,
+        is_new: false,
     };
     take_chunks(sides, spans, &old, refs, steps)?;
     let new = Chunks {
         list: sides.fresh.chunks(),
         others: sides.bases.map(),
         apart,
+        is_new: true,
     };
     take_chunks(sides, spans, &new, refs, steps)?;
     take_inodes(sides, spans, &sides.made.inodes, refs, steps)?;

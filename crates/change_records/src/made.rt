@@ -1,10 +1,11 @@
 //! What changes name, and what they make of the flags of inodes.
 
-ghost use Rattle.std.specs.Prelude.{◌≡◌, ℕ, Bool, false, ◌&&◌, ◌||◌, ◌==◌, IfOk, OnOk, Some, option_map, slice_get, if◌then◌else◌};
+ghost use Rattle.std.specs.Prelude.{◌≡◌, ℕ, Bool, false, ◌&&◌, ◌||◌, ◌==◌, [], ◌∷◌, ◌++◌, IfOk, OnOk, Some, is_some, option_map, slice_get, if◌then◌else◌};
 ghost use Rattle.std.specs.List.{Contains};
+ghost use Rattle.std.specs.BTreeMap.{get};
 ghost use Rattle.std.specs.BTreeSet.{Updates, contains};
 ghost use Rattle.change_records.specs.Listed.{inode_cmp};
-ghost use Rattle.change_records.specs.Made.{IsApplied, IsMade, IsPut, IsTaken, flag_by, has_name};
+ghost use Rattle.change_records.specs.Made.{AreOnce, IsApplied, IsMade, IsPut, IsTaken, ListsOneMore, flag_by, has_name};
 ghost use Rattle.change_records.specs.Refs.{stands_at};
 ghost use Rattle.change_records.specs.declared.item_ref.ItemRef.{ItemRef as ARef};
 
@@ -55,6 +56,7 @@ impl Made {
     fn new(alloc: Global) -> Made
         ensures names { (at : ARef) → has_name result at ≡ false }
         ensures flags { (tree ino : ℕ) (free : Bool) → flag_by result tree ino free ≡ free }
+        ensures once { AreOnce result.flags result.inodes.items 0 }
     {
         Made {
             named: BTreeSet::new(alloc),
@@ -103,6 +105,8 @@ impl Made {
             → has_name self.new at ≡ (stands_at at (Some item.now) || has_name self.old at)) }
         ensures flags { OnOk result ((tree ino : ℕ) (free : Bool)
             → flag_by self.new tree ino free ≡ flag_by self.old tree ino free) }
+        ensures kept { self.new.flags ≡ self.old.flags }
+        ensures inodes { self.new.inodes ≡ self.old.inodes }
     {
         let (tree, key) = (item.tree, item.key);
         match self.named.insert(ItemRef { tree, key }) {
@@ -116,6 +120,7 @@ impl Made {
         ensures names { OnOk result ((at : ARef) → has_name self.new at ≡ has_name self.old at) }
         ensures flags { OnOk result ((t i : ℕ) (f : Bool) → flag_by self.new t i f
             ≡ (if tree == t && ino == i then free else flag_by self.old t i f)) }
+        ensures once { OnOk result (ListsOneMore self.old self.new) }
     {
         let inode = Inode { tree, ino };
         self.list(inode)?;
@@ -130,6 +135,9 @@ impl Made {
         ensures there { OnOk result ((Contains self.new.inodes.items inode → ⊥) → ⊥) }
         ensures named { self.new.named ≡ self.old.named }
         ensures flags { self.new.flags ≡ self.old.flags }
+        ensures inodes { OnOk result (self.new.inodes.items
+            ≡ (if is_some (get inode_cmp self.old.flags inode) then self.old.inodes.items
+            else self.old.inodes.items ++ inode ∷ [])) }
     {
         if self.flags.contains_key(&inode) {
             return Ok(());

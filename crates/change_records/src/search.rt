@@ -1,10 +1,13 @@
 //! The items of spans that post otherwise.
 
-ghost use Rattle.std.specs.Prelude.{◌≡◌, ◌↔◌, ◌*◌, ◌<◌, ◌^◌, IsTrue, OnOk};
+ghost use Rattle.std.specs.Prelude.{◌≡◌, ◌↔◌, ◌+◌, ◌*◌, ◌<◌, ◌≤◌, ◌^◌, IsTrue, List, OnOk};
+ghost use Rattle.std.specs.List.{count_by};
 ghost use Rattle.live_index.specs.Table.{pairs_of};
 ghost use Rattle.span_index.specs.Spans.{offset_of};
 ghost use Rattle.span_index.specs.Table.{times_of};
 ghost use Rattle.change_records.specs.Affected.{context_with};
+ghost use Rattle.span_index.specs.declared.span.Span.{Span as ASpan};
+ghost use Rattle.change_records.specs.Passes.{AreSpansOf, inode_looks, overlaps};
 ghost use Rattle.change_records.specs.Search.{AreAlone, AreLawful, IsLawfulSpan, IsNameOf, IsShownBy, Overlaps, Searched, SpanDiffers, Takes, known, new_flags, owned_bytes};
 
 use crate::ItemRef;
@@ -94,7 +97,9 @@ fn owned_bytes<B: Bases>(bases: &B, of_data: bool, sectors: u64) -> u64
 
 // The name of the item of a span, where it has one.
 fn name_of<L>(live: &LiveIndex<L>, span: &Span, steps: &mut Steps<L>) -> Option<ItemRef>
-    ensures { span.now.sectors * 4096 < 2 ^ 64 → IsNameOf (pairs_of live.now) span.now result }
+    ensures name { span.now.sectors * 4096 < 2 ^ 64 →
+        IsNameOf (pairs_of live.now) span.now result }
+    ensures looks { steps.new ≤ steps.old + 1 }
 {
     let (tree, objectid, kind, offset) = match span.sort {
         SpanSort::Owned { of_data: true } => (
@@ -138,12 +143,13 @@ fn take<L, B: Bases<Table = LiveIndex<L>>>(
     refs: &mut BTreeSet<ItemRef>,
     steps: &mut Steps<L>,
 ) -> Result<(), NoMemory>
-    ensures { let b = sides.now.bases.now in
+    ensures takes { let b = sides.now.bases.now in
         let k = known (B.chunks b) (B.superblock b).nodesize (B.is_sum_free b)
         (pairs_of (B.table b))
         sides.now.fresh.now sides.now.made.now in
         IsLawfulSpan (B.superblock b).nodesize span.now →
         OnOk result (Takes k span.now refs.old refs.new) }
+    ensures looks { steps.new ≤ steps.old + 1 }
 {
     if !differs(sides, span) {
         return Ok(());
@@ -169,13 +175,17 @@ pub(crate) fn take_range<L, B: Bases<Table = LiveIndex<L>>>(
     refs: &mut BTreeSet<ItemRef>,
     steps: &mut Steps<L>,
 ) -> Result<(), NoMemory>
-    ensures { let b = sides.now.bases.now in
+    ensures searched { let b = sides.now.bases.now in
         let k = known (B.chunks b) (B.superblock b).nodesize (B.is_sum_free b)
         (pairs_of (B.table b))
         sides.now.fresh.now sides.now.made.now in
         AreLawful (B.superblock b).nodesize (times_of spans.now) →
         OnOk result (Searched k (times_of spans.now)
         (Overlaps range.now.sort range.now.from range.now.until) refs.old refs.new) }
+    ensures looks { let range = range.now in
+        (all : List ASpan) → AreSpansOf (times_of spans.now) all →
+        steps.new ≤ steps.old + 1
+        + 2 * count_by (overlaps range.sort range.from range.until) all }
 {
     let mut after = None;
     // No table holds so many spans.
@@ -201,13 +211,15 @@ pub(crate) fn take_file<L, B: Bases<Table = LiveIndex<L>>>(
     refs: &mut BTreeSet<ItemRef>,
     steps: &mut Steps<L>,
 ) -> Result<(), NoMemory>
-    ensures { let b = sides.now.bases.now in
+    ensures searched { let b = sides.now.bases.now in
         let k = known (B.chunks b) (B.superblock b).nodesize (B.is_sum_free b)
         (pairs_of (B.table b))
         sides.now.fresh.now sides.now.made.now in
         AreLawful (B.superblock b).nodesize (times_of spans.now) → AreAlone (times_of spans.now) →
         OnOk result (Searched k (times_of spans.now) (IsShownBy inode.now.tree inode.now.ino)
         refs.old refs.new) }
+    ensures looks { (all : List ASpan) → AreSpansOf (times_of spans.now) all →
+        steps.new ≤ steps.old + inode_looks all inode.now }
 {
     let mut after = None;
     // No table holds so many spans.

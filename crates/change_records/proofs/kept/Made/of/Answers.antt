@@ -4,7 +4,7 @@ use Rattle.change_records.proofs.MadeLaws.{IsHalf, half_all, half_more, half_non
 use Rattle.change_records.proofs.kept.Made.of.Goals as goal
 
 pub loop-change-init : goal.loop-change-init
-loop-change-init c = half_none c.args.old.now c.args.new.now c.args.changes.now c.new-made.result c.new-made.ensures.names c.new-made.ensures.flags
+loop-change-init c = half_none c.args.old.now c.args.new.now c.args.changes.now c.new-made.result c.new-made.ensures.names c.new-made.ensures.flags c.new-made.ensures.once
 
 pub loop-change-preserved : goal.loop-change-preserved
 loop-change-preserved c =

@@ -1,12 +1,12 @@
-use Rattle.std.proofs.Common.{◌&&◌, cond, ap, ◌∙◌}
-use Rattle.std.specs.Prelude.{◌==◌}
+use Rattle.std.proofs.Common.{◌&&◌, cond, ap, ◌∙◌, subst}
+use Rattle.std.specs.Prelude.{◌==◌, Some}
 use Rattle.std.specs.Option.{unwrap_or}
 use Rattle.std.specs.BTreeMap as map
 use Rattle.std.specs.BTreeSet as set
 use Rattle.change_records.specs.Refs.{ref_cmp}
 use Rattle.change_records.specs.Listed.{inode_cmp}
 use Rattle.change_records.specs.Made.{flag_by, has_name}
-use Rattle.change_records.proofs.MadeLaws.{flag_put, listed_insert}
+use Rattle.change_records.proofs.MadeLaws.{flag_put, listed_insert, once_put}
 use Rattle.change_records.proofs.kept.Made.set.Goals as goal
 
 pub returns-in-Ok-clause-names : goal.returns-in-Ok-clause-names
@@ -24,3 +24,9 @@ invariant_of-self c = record {
   listed = listed_insert c.list.new.self.flags c.insert.new.self c.list.new.self.inodes.items (record { tree = c.args.tree; ino = c.args.ino }) c.args.free c.insert.result
       c.in_ok-list.ensures.there c.insert.ensures.updates c.insert.ensures.err c.list.new.self.listed;
 }
+
+pub returns-in-Ok-clause-once : goal.returns-in-Ok-clause-once
+returns-in-Ok-clause-once c most had =
+    once_put c.args.self.now.flags c.insert.new.self c.args.self.now.inodes.items c.list.new.self.inodes.items (record { tree = c.args.tree; ino = c.args.ino }) c.args.free
+    (subst (λ m. map.Updates inode_cmp m c.insert.new.self (record { tree = c.args.tree; ino = c.args.ino }) (Some c.args.free)) c.list.ensures.flags c.in-Ok.ensures.updates)
+    c.in_ok-list.ensures.inodes most had
