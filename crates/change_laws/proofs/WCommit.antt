@@ -181,11 +181,11 @@ module _ (laws : Laws) (image : List ℕ) (pending : FinMap nat_cmp ℕ) (old ne
           let inside =
           inside_found (table_of (live_in old.seen)) old c.refs (old_stand laws image pending old new before.roots c between)
           (own laws image pending old new before.roots c between) by.otherwise runs (gone_by k now) step.found step.staying step.old step.names
-          is.gone is.found in
+          is.found in
           let outside : (address : ℕ) → is_inside runs address ≡ false → is_bad (context_at new) (spans_of new.sup.nodesize (records_of new)) address ≡ false =
           λ address out.
           laws.runs (context_at old) (context_at new) (records_of old) (records_of new) (gone_by k now) (came_by now) c.refs runs step old_sound new_sound
-          inside is.came address out
+          is.gone inside is.came address out
           ∙ old_sectors address in
           laws.judged (context_at new) (records_of new) bad least new_sound
           (least_bad (is_bad (context_at new) is.spans) (is_bad (context_at new) (spans_of new.sup.nodesize (records_of new))) runs bad

@@ -219,30 +219,24 @@ module _ (pairs : Pairs) (whole : Walked) (refs : List ItemRef) (stand : ItemsSt
       (each_of (IsSpanNamed pairs size table refs) (items_of whole) item_named)
 
   inside_parts : (runs : List Run) (gone found staying : List Located) → IsPermutation (records_of whole) (gone ++ (found ++ staying))
-      → map name_of found ≡ refs → AreInside runs (filter_map (span_of size) gone)
+      → map name_of found ≡ refs
       → ((span : Span) (at : ItemRef) → 0 < table span → SpanNames pairs span at → Contains refs at → AreInside runs (span ∷ []))
-      → AreInside runs (filter_map (span_of size) (gone ++ found))
-  inside_parts runs gone found staying perm names inside named span address has shows =
-      by (Contains-append_cases (filter_map (span_of size) gone) (filter_map (span_of size) found) span
-      (subst (λ spans. Contains spans span) (filter_map-append (span_of size) gone found) has))
-    where
-      by : Contains (filter_map (span_of size) gone) span ⊎ Contains (filter_map (span_of size) found) span → is_inside runs address ≡ true
-      by (inl was) = inside span address was shows
-      by (inr is) =
-          let from = from_one (span_of size) found span is in
-          let one = from.0 in
-          let among : Contains (records_of whole) one =
-          Contains-permutation (gone ++ (found ++ staying)) (records_of whole) one
-          (IsPermutation-sym (records_of whole) (gone ++ (found ++ staying)) perm)
-          (Contains-append_right gone (found ++ staying) one (Contains-append_left found staying one from.1)) in
-          let listed : Contains refs (name_of one) = subst (λ rs. Contains rs (name_of one)) names (map_in name_of found one from.1) in
-          let good = All-contains (IsSpanNamed pairs size table refs) (records_of whole) one all_named among span from.2 listed in
-          named span (name_of one) good.1 good.0 listed span address (contains_first span []) shows
+      → AreInside runs (filter_map (span_of size) found)
+  inside_parts runs gone found staying perm names named span address has shows =
+      let from = from_one (span_of size) found span has in
+      let one = from.0 in
+      let among : Contains (records_of whole) one =
+      Contains-permutation (gone ++ (found ++ staying)) (records_of whole) one
+      (IsPermutation-sym (records_of whole) (gone ++ (found ++ staying)) perm)
+      (Contains-append_right gone (found ++ staying) one (Contains-append_left found staying one from.1)) in
+      let listed : Contains refs (name_of one) = subst (λ rs. Contains rs (name_of one)) names (map_in name_of found one from.1) in
+      let good = All-contains (IsSpanNamed pairs size table refs) (records_of whole) one all_named among span from.2 listed in
+      named span (name_of one) good.1 good.0 listed span address (contains_first span []) shows
 
-  -- all sectors of what is gone and of what is found are inside runs
+  -- all sectors of what is found are inside runs
   pub inside_found : (runs : List Run) (gone found staying : List Located) → IsPermutation (records_of whole) (gone ++ (found ++ staying))
-      → map name_of found ≡ refs → AreInside runs (spans_of size gone)
+      → map name_of found ≡ refs
       → ((span : Span) (at : ItemRef) → 0 < table span → SpanNames pairs span at → Contains refs at → AreInside runs (span ∷ []))
-      → AreInside runs (spans_of size (gone ++ found))
+      → AreInside runs (spans_of size found)
   unfolding spans_of
-  inside_found runs gone found staying perm names inside named = inside_parts runs gone found staying perm names inside named
+  inside_found runs gone found staying perm names named = inside_parts runs gone found staying perm names named

@@ -39,7 +39,7 @@ use Rattle.volume_items.specs.declared.root_at.RootAt.{RootAt}
 use Rattle.write_cache.specs.Cache.{overlaid}
 use Rattle.account_sums.specs.Kept.{chosen}
 use Rattle.change_laws.specs.Paired.{SayChanges, came_items, gone_items}
-use Rattle.change_laws.specs.Sectors.{AreInside}
+use Rattle.change_laws.specs.Sectors.{AreInside, CountedInside}
 use Rattle.change_laws.specs.Steps.{all_posts, change_records, spans_of, step_posts}
 
 -- what is known of an image, as an index has it
@@ -113,10 +113,10 @@ abbrev pub AreNamedInside : List Run → Known → List ItemRef → Type 0
 AreNamedInside runs k refs = (span : Span) (at : ItemRef) → 0 < k.spans span → SpanNames k.pairs span at → Contains refs at → AreInside runs (span ∷ [])
 
 -- The least broken account by what is known of the next image: among the accounts that a commit touches, and among the sectors inside runs
--- that have all sectors of what is gone, of what came, and of the kept items that post otherwise.
+-- that have all sectors of what is gone and counted, of what came and counts, and of the kept items that post otherwise.
 pub record IsJudged (k : Known) (c : Commit) (next : Known) (runs : List Run) (bad : Option ℕ) (least : Option Account) : Type 0 where
-  pub gone : AreInside runs (spans_of k.sup.nodesize (gone_by k c))
-  pub came : AreInside runs (spans_of c.fresh.nodesize (came_by c))
+  pub gone : CountedInside (context_by k) runs (spans_of k.sup.nodesize (gone_by k c))
+  pub came : CountedInside (context_by next) runs (spans_of c.fresh.nodesize (came_by c))
   pub found : AreNamedInside runs k c.refs
   pub spans : List Span
   pub times : (span : Span) → times_of_span spans span ≡ next.spans span

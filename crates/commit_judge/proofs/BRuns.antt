@@ -8,10 +8,11 @@ use Rattle.std.proofs.lemmas.List.{get_or_default, take_more}
 use Rattle.std.proofs.lemmas.List.Elements.{All-append, All-head, All-nil, All-push, All-tail, Contains-push_cases}
 use Rattle.std.proofs.lemmas.List.Folds.{list_any-append}
 use Rattle.std.proofs.lemmas.List.Sorted.{list_any-IsPermutation}
-use Rattle.span_index.specs.Sectors.{AreRunsFrom, IsRun, has_sector, is_inside}
+use Rattle.accounts.specs.Context.{Context}
+use Rattle.span_index.specs.Sectors.{AreRunsFrom, IsRun, counts, has_sector, is_inside}
 use Rattle.span_index.specs.declared.span.Run.{Run}
 use Rattle.span_index.specs.declared.span.Span.{Span}
-use Rattle.change_laws.specs.Sectors.{AreInside}
+use Rattle.change_laws.specs.Sectors.{AreInside, CountedInside}
 use Rattle.change_laws.specs.Sound.{IsWhole}
 
 -- ---- addresses inside runs
@@ -73,6 +74,27 @@ inside_more spans i d now new some inside so is more whole span address among ha
     by (inr here) =
         inside_right now (option_to_list some) address
         (is (whole i d inside) address (subst (λ s. has_sector s address ≡ true) (sym here) has))
+
+-- the same of those that count in a context
+pub counted_stays : (context : Context) (runs others : List Run) (spans : List Span) → StayInside runs others → CountedInside context runs spans
+    → CountedInside context others spans
+counted_stays context runs others spans stay are span address among counted has = stay address (are span address among counted has)
+
+pub counted_more : (context : Context) (spans : List Span) (i : ℕ) (d : Span) (now new : List Run) (some : Option Run) → i < length spans
+    → (All IsWhole spans → CountedInside context now (take i spans))
+    → (IsWhole (get_or spans i d) → counts context (get_or spans i d) (get_or spans i d).sort ≡ true → (address : ℕ)
+    → has_sector (get_or spans i d) address ≡ true → is_inside (option_to_list some) address ≡ true)
+    → new ≡ now ++ option_to_list some → All IsWhole spans → CountedInside context new (take (i + 1) spans)
+counted_more context spans i d now new some inside so is more whole span address among counted has =
+    subst (λ l. is_inside l address ≡ true) (sym more)
+    (by (Contains-push_cases (take i spans) (get_or spans i d) span (subst (λ l. Contains l span) (take_more spans i d inside) among)))
+  where
+    by : Contains (take i spans) span ⊎ (get_or spans i d ≡ span) → is_inside (now ++ option_to_list some) address ≡ true
+    by (inl early) = inside_left now (option_to_list some) address (so whole span address early counted has)
+    by (inr here) =
+        inside_right now (option_to_list some) address
+        (is (whole i d inside) (subst (λ (s : Span). counts context s s.sort ≡ true) (sym here) counted) address
+        (subst (λ s. has_sector s address ≡ true) (sym here) has))
 
 -- ---- runs that are one
 
@@ -217,3 +239,11 @@ merged_spans (Ok some) items runs sorted lent spans same lends stay are = λ spa
     stay address (subst (λ l. is_inside l address ≡ true) (sym lends)
     (sym (list_any-IsPermutation (covers address) runs sorted same) ∙ are span address among has))
 merged_spans (Err e) items runs sorted lent spans same lends stay are = tt
+
+pub merged_counted : {V E : Type 0} (result : Result V E) (items : V → List Run) (context : Context) (runs sorted lent : List Run) (spans : List Span)
+    → IsPermutation runs sorted → lent ≡ sorted → IfOk result (λ some. StayInside lent (items some)) → CountedInside context runs spans
+    → IfOk result (λ some. CountedInside context (items some) spans)
+merged_counted (Ok some) items context runs sorted lent spans same lends stay are = λ span address among counted has.
+    stay address (subst (λ l. is_inside l address ≡ true) (sym lends)
+    (sym (list_any-IsPermutation (covers address) runs sorted same) ∙ are span address among counted has))
+merged_counted (Err e) items context runs sorted lent spans same lends stay are = tt

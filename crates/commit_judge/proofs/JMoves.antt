@@ -16,13 +16,13 @@ use Rattle.records.specs.declared.owned.ItemAt.{ItemAt}
 use Rattle.span_index.specs.declared.span.Run.{Run}
 use Rattle.span_index.specs.declared.span.Span.{Span}
 use Rattle.super_reader.specs.declared.Super.{Super}
-use Rattle.change_laws.specs.Commit.{Commit, Known, came_by, gone_by}
-use Rattle.change_laws.specs.Sectors.{AreInside, AreSound}
+use Rattle.change_laws.specs.Commit.{Commit, Known, came_by, context_by, gone_by}
+use Rattle.change_laws.specs.Sectors.{AreInside, AreSound, CountedInside}
 use Rattle.change_laws.specs.Sound.{IsSound, IsWhole, SpansStand}
 use Rattle.change_laws.specs.Steps.{change_records, spans_of, step_posts}
 use Rattle.change_laws.proofs.WNamed.{each_of}
 use Rattle.change_laws.proofs.XWhole.{span_whole}
-use Rattle.commit_judge.specs.Moves.{AreSpansMoved}
+use Rattle.commit_judge.specs.Moves.{AreSpansMoved, context_after}
 
 -- the spans of sound records are whole
 pub spans_whole : (n : ℕ) (records : List Located) → AreSound n records → All IsWhole (spans_of n records)
@@ -55,6 +55,12 @@ spans_by n sup blocks side spans shown items some changes items_are changes_are 
 pub inside_by : (runs : List Run) (slice spans : List Span) → slice ≡ spans → (All IsWhole slice → AreInside runs slice) → All IsWhole spans → AreInside runs spans
 inside_by runs slice spans same is = subst (λ (s : List Span). All IsWhole s → AreInside runs s) same is
 
+pub counted_by : (context other : Context) (runs : List Run) (slice spans : List Span) → context ≡ other → slice ≡ spans
+    → (All IsWhole slice → CountedInside context runs slice) → All IsWhole spans → CountedInside other runs spans
+counted_by context other runs slice spans alike same is whole =
+    subst (λ (x : Context). CountedInside x runs spans) alike
+    (subst (λ (s : List Span). All IsWhole s → CountedInside context runs s) same is whole)
+
 -- a span of some is inside runs where all are
 one_inside : (runs : List Run) (spans : List Span) (span : Span) → AreInside runs spans → Contains spans span → AreInside runs (span ∷ [])
 one_inside runs spans span inside has one address is sector =
@@ -69,7 +75,7 @@ module _ (k : Known) (c : Commit) (gone came : List Span) (runs : List Run) (fou
     (names : AreLawful k.sup.nodesize k.spans → AreAlone k.spans → (pairs : Pairs) (span : Span) (at : ItemRef)
     → 0 < k.spans span → SpanNames pairs span at → Contains c.refs at → Contains found span)
     (there : (span : Span) → Contains found span → 0 < k.spans span)
-    (gone_in : All IsWhole gone → AreInside runs gone) (came_in : All IsWhole came → AreInside runs came)
+    (gone_in : All IsWhole gone → CountedInside (context_by k) runs gone) (came_in : All IsWhole came → CountedInside (context_after k c) runs came)
     (found_in : All IsWhole found → AreInside runs found) where
   pub spans_moved : SpansStand k → IsSound k c → AreSpansMoved k c gone came runs
   spans_moved stand sound =

@@ -24,7 +24,7 @@ use Rattle.write_cache.specs.Cache.{overlaid}
 use Rattle.change_laws.specs.Commit.{Commit, CommitLaw, Decides, IsCommit, IsJudged, IsKnown, IsMoved, Known, came_by, context_by, gone_by}
 use Rattle.account_sums.specs.Kept.{chosen}
 use Rattle.change_laws.specs.Same.{HeldLaw}
-use Rattle.change_laws.specs.Sectors.{AreInside}
+use Rattle.change_laws.specs.Sectors.{CountedInside}
 use Rattle.change_laws.specs.Sound.{AscendLaw, IsSound, KnownSpansLaw, SoundLaw}
 use Rattle.change_laws.specs.Steps.{spans_of, step_posts}
 use Rattle.commit_judge.specs.Judging.{IsTried, TriedLaw, TriedSays, next_of}
@@ -96,8 +96,8 @@ module _ (laws : Laws) (image : List ℕ) (pending : FinMap nat_cmp ℕ) (k : Kn
 
   judged : IsJudged k c next moves.runs.items t.found.bad t.found.least
   judged = record {
-    gone = subst (λ (s : List Span). AreInside moves.runs.items s) shown.gone_is shown.gone_inside;
-    came = subst (λ (s : List Span). AreInside moves.runs.items s) shown.came_is shown.came_inside;
+    gone = subst (λ (s : List Span). CountedInside (context_by k) moves.runs.items s) shown.gone_is shown.gone_inside;
+    came = subst (λ (s : List Span). CountedInside (context_by next) moves.runs.items s) shown.came_is shown.came_inside;
     found = shown.found_inside;
     spans = t.found.spans;
     times = t.found.times;

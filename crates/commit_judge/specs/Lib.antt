@@ -13,3 +13,4 @@ pub mod Tables
 pub mod Start
 pub mod Filling
 pub mod Stops
+pub mod Looks

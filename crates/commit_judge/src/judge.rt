@@ -14,6 +14,7 @@ ghost use Rattle.commit_judge.specs.Index.{IndexStands, known};
 ghost use Rattle.commit_judge.specs.Judged.{HasRoom, IsJudgement, IsPlaceAfter, MovesPlace};
 ghost use Rattle.commit_judge.specs.Judging.{IsLeastOf, is_hot_by, next_of};
 ghost use Rattle.commit_judge.specs.Decided.{IsDecided};
+ghost use Rattle.commit_judge.specs.Looks.{FewToFind, FewWherePassed, looks_to_pass};
 ghost use Rattle.commit_judge.specs.Moves.{context_after};
 ghost use Rattle.commit_judge.specs.Plan.{IsMadeOf, IsPlanOf, IsPlanned, commit_in};
 
@@ -158,6 +159,8 @@ fn judge_plan<L>(
         IndexStands image index.old → length image ≡ end →
         IsPlanOf image cache.now (known index.old) before after plan →
         IsJudgement image cache.now index.new before after judged) }
+    ensures looks { IfOk result
+        (FewWherePassed (known index.old) (commit_in plan) steps.old steps.new) }
 {
     let made = made_by(alloc, &plan)?;
     let roots = roots_after(alloc, index, &plan)?;
@@ -221,8 +224,9 @@ fn finding_by<L>(
 ) -> Option<Finding>
     requires made { IsMadeOf plan.now made.now }
     requires runs { AreRunsFrom 0 moves.now.runs.items }
-    ensures { IsLeastOf (sums_of index.now.totals) (times_of index.now.spans)
+    ensures least { IsLeastOf (sums_of index.now.totals) (times_of index.now.spans)
         (context_after (known index.now) (commit_in plan.now)) moves.now result }
+    ensures looks { FewToFind (times_of index.now.spans) moves.now steps.old steps.new }
 {
     let after = after(index, plan, made);
     let bad = index.spans.first_bad(&after, moves.runs.as_slice(), steps);
@@ -267,6 +271,7 @@ fn pass<L>(
         (sums_of index.old.totals) (times_of index.old.spans)) }
     ensures raw { OnOk result (index.new.raw ≡ plan.raw) }
     ensures totals { OnOk result (index.new.totals ≡ index.old.totals) }
+    ensures looks { steps.new ≤ steps.old + looks_to_pass plan.change }
 {
     let Plan {
         raw,

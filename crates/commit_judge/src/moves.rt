@@ -1,6 +1,6 @@
 //! What a commit does to accounts and to spans.
 
-ghost use Rattle.std.specs.Prelude.{◌≡◌, IfOk};
+ghost use Rattle.std.specs.Prelude.{◌≡◌, ◌+◌, ◌≤◌, length, IfOk};
 ghost use Rattle.change_records.specs.Affected.{context_with};
 ghost use Rattle.change_records.specs.Made.{flag_by};
 ghost use Rattle.commit_judge.specs.Flags.{free_in};
@@ -30,7 +30,7 @@ pub(crate) struct Moves {
     // The spans that are gone, and those that came.
     pub(crate) gone_spans: Vec<Span>,
     pub(crate) came_spans: Vec<Span>,
-    // The runs of all sectors that they have, and of those of the kept items that post otherwise.
+    // The runs of all sectors of those that count, and of those of the kept items that post otherwise.
     pub(crate) runs: Vec<Run>,
 }
 
@@ -43,7 +43,8 @@ pub(crate) fn moves_of<L>(
     steps: &mut Steps<L>,
 ) -> Result<Moves, NoMemory>
     requires { IsMadeOf plan.now made.now }
-    ensures { IfOk result (λ moves. AreMovesOf (known index.now) (commit_in plan.now) moves) }
+    ensures moves { IfOk result (λ moves. AreMovesOf (known index.now) (commit_in plan.now) moves) }
+    ensures looks { steps.new ≤ steps.old + length plan.now.refs.items }
 {
     let (was, is) = (&index.sup, &plan.sup);
     let change = &plan.change;
@@ -80,6 +81,8 @@ pub(crate) fn moves_of<L>(
     let found = found_spans(alloc, &index.spans, was.nodesize, refs, steps)?;
     let runs = runs_of(
         alloc,
+        &before,
+        &after,
         gone_spans.as_slice(),
         came_spans.as_slice(),
         found.as_slice(),

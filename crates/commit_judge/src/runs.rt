@@ -3,35 +3,92 @@
 ghost use Rattle.std.specs.Prelude.{◌≡◌, ℕ, true, IfOk, IfSome, OnOk, option_to_list};
 ghost use Rattle.std.specs.List.{All};
 ghost use Rattle.std.specs.List.Sorted.{IsNonDecreasingBy, IsPermutation};
-ghost use Rattle.span_index.specs.Sectors.{AreRunsFrom, IsRun, has_sector, is_inside};
+ghost use Rattle.span_index.specs.Sectors.{AreRunsFrom, IsRun, counts, has_sector, is_inside};
 ghost use Rattle.span_index.specs.declared.span.Run.{Run as ARun};
-ghost use Rattle.change_laws.specs.Sectors.{AreInside};
+ghost use Rattle.change_laws.specs.Sectors.{AreInside, CountedInside};
 ghost use Rattle.change_laws.specs.Sound.{IsWhole};
 
 use crate::spans::{SECTOR, push_some};
-use span_index::{Run, Span};
+use accounts::Ctx;
+use span_index::{Run, Span, SpanSort};
 use std::alloc::Global;
 use verdict::NoMemory;
 
-/// The runs of all sectors of the spans of three lists, in order. Runs that meet or touch are one. A span that begins at no sector or passes
-/// the addresses of 64 bits, as no accepted image has one, is left out.
-pub(crate) fn runs_of(
+/// The runs of the sectors of the spans of three lists, in order: of those that are gone and counted in one context, of those that came
+/// and count in another, and of all that were found. Runs that meet or touch are one. A span that counts for no sum, as what a file
+/// shows whose data has no checksums, changes no sector, and is left out. So is a span that begins at no sector or passes the addresses
+/// of 64 bits, as no accepted image has one.
+pub(crate) fn runs_of<C: Ctx, D: Ctx>(
     alloc: Global,
+    before: &C,
+    after: &D,
     gone: &[Span],
     came: &[Span],
     found: &[Span],
 ) -> Result<Vec<Run>, NoMemory>
     ensures ascend { IfOk result (λ runs. AreRunsFrom 0 runs.items) }
-    ensures gone { All IsWhole gone.now → IfOk result (λ runs. AreInside runs.items gone.now) }
-    ensures came { All IsWhole came.now → IfOk result (λ runs. AreInside runs.items came.now) }
+    ensures gone { All IsWhole gone.now →
+        IfOk result (λ runs. CountedInside (C.context before.now) runs.items gone.now) }
+    ensures came { All IsWhole came.now →
+        IfOk result (λ runs. CountedInside (D.context after.now) runs.items came.now) }
     ensures found { All IsWhole found.now → IfOk result (λ runs. AreInside runs.items found.now) }
 {
     let mut runs = Vec::new(alloc);
-    add_runs(gone, &mut runs)?;
-    add_runs(came, &mut runs)?;
+    add_counted(before, gone, &mut runs)?;
+    add_counted(after, came, &mut runs)?;
     add_runs(found, &mut runs)?;
     sort_runs(&mut runs);
     merged(alloc, &runs)
+}
+
+// Puts the runs of those spans behind others that count in a context.
+fn add_counted<C: Ctx>(ctx: &C, spans: &[Span], into: &mut Vec<Run>) -> Result<(), NoMemory>
+    requires { All IsRun into.old.items }
+    ensures runs { OnOk result (All IsRun into.new.items) }
+    ensures stay { OnOk result ((address : ℕ) →
+        is_inside into.old.items address ≡ true → is_inside into.new.items address ≡ true) }
+    ensures inside { All IsWhole spans.now →
+        OnOk result (CountedInside (C.context ctx.now) into.new.items spans.now) }
+{
+    for span in spans {
+        push_some(into, counted_run(ctx, span))?;
+    }
+    Ok(())
+}
+
+// The run of a span that counts in a context.
+fn counted_run<C: Ctx>(ctx: &C, span: &Span) -> Option<Run>
+    ensures run { IfSome result IsRun }
+    ensures inside { IsWhole span.now → counts (C.context ctx.now) span.now span.now.sort ≡ true →
+        (address : ℕ) → has_sector span.now address ≡ true →
+        is_inside (option_to_list result) address ≡ true }
+{
+    if counts(ctx, span) {
+        run_of(span)
+    } else {
+        None
+    }
+}
+
+// Whether what a span is of counts in a context: an extent that has a home, checksums, and what a file shows whose data has checksums, of
+// an extent that has a home.
+fn counts<C: Ctx>(ctx: &C, span: &Span) -> bool
+    ensures { result ≡ counts (C.context ctx.now) span.now span.now.sort }
+{
+    match span.sort {
+        SpanSort::Owned { .. } => match span.sectors.checked_mul(SECTOR) {
+            Some(bytes) => ctx.home(span.first, bytes).is_some(),
+            None => false,
+        },
+        SpanSort::Summed => true,
+        SpanSort::Shown {
+            tree,
+            ino,
+            extent,
+            length,
+            ..
+        } => !ctx.sum_free(tree, ino) && ctx.home(extent, length).is_some(),
+    }
 }
 
 // Puts the runs of spans behind others.

@@ -1,6 +1,6 @@
 //! The spans of the items that a commit changes.
 
-ghost use Rattle.std.specs.Prelude.{◌≡◌, ◌-◌, ◌<◌, ◌++◌, not, List, Some, None, IfOk, IfSome, OnOk, option_map, option_to_list, slice_get, if◌then◌else◌};
+ghost use Rattle.std.specs.Prelude.{◌≡◌, ◌+◌, ◌-◌, ◌<◌, ◌≤◌, ◌++◌, not, List, length, Some, None, IfOk, IfSome, OnOk, option_map, option_to_list, slice_get, if◌then◌else◌};
 ghost use Rattle.std.specs.List.{Contains};
 ghost use Rattle.records.specs.Part.{IsLawful, part_of};
 ghost use Rattle.records.specs.Part.Part.{FileExtentPart};
@@ -180,7 +180,7 @@ pub(crate) fn push_some<T: Copy>(into: &mut Vec<T>, one: Option<T>) -> Result<()
     Ok(())
 }
 
-/// The spans in a table that have one of some names. What an inode shows at an offset is looked up; each look is counted. Of a table
+/// The spans in a table that have one of some names, with a look for each name. Of a table
 /// that no accepted image has, some may be missing.
 pub(crate) fn found_spans<L>(
     alloc: Global,
@@ -195,6 +195,7 @@ pub(crate) fn found_spans<L>(
         Contains found.items span) }
     ensures stand { IfOk result (λ found.
         (span : ASpan) → Contains found.items span → 0 < times_of table.now span) }
+    ensures looks { steps.new ≤ steps.old + length refs.now }
 {
     let mut found = Vec::new(alloc);
     for at in refs {
@@ -214,6 +215,7 @@ fn named_span<L>(
         (pairs : Pairs) (span : ASpan) → 0 < times_of table.now span →
         SpanNames pairs span at.now → result ≡ Some span }
     ensures stands { IfSome result (λ span. 0 < times_of table.now span) }
+    ensures looks { steps.new ≤ steps.old + 1 }
 {
     let key = at.key;
     match key.kind {
@@ -239,6 +241,7 @@ fn owned_span<L>(
         record { first = first; sectors = sectors; sort = OwnedSort of_data } in
         0 < sectors → 0 < times_of table.now owned → result ≡ Some owned }
     ensures stands { IfSome result (λ span. 0 < times_of table.now span) }
+    ensures looks { steps.new ≤ steps.old + 1 }
 {
     let below = span_below(first, sectors, of_data);
     let span = table.meeting(SortName::Owned, first, Some(&below), steps)?;
@@ -280,6 +283,7 @@ fn shown_span<L>(
     ensures found { AreAlone (times_of table.now) → (span : ASpan) →
         0 < times_of table.now span → IsShownAt tree ino offset span → result ≡ Some span }
     ensures stands { IfSome result (λ span. 0 < times_of table.now span) }
+    ensures looks { steps.new ≤ steps.old + 1 }
 {
     let span = table.shown_of(tree, ino, offset.checked_sub(1), steps)?;
     if file_offset(&span) == offset {
@@ -299,13 +303,14 @@ fn file_offset(span: &Span) -> u64
     }
 }
 
-/// Puts spans into a table. Out of memory, some of them are put.
+/// Puts spans into a table, with a look each. Out of memory, some of them are put.
 pub(crate) fn put_spans<L>(
     table: &mut SpanIndex<L>,
     spans: &[Span],
     steps: &mut Steps<L>,
 ) -> Result<(), NoMemory>
-    ensures { OnOk result (times_of table.new ≡ with_spans (times_of table.old) spans.now) }
+    ensures spans { OnOk result (times_of table.new ≡ with_spans (times_of table.old) spans.now) }
+    ensures looks { steps.new ≤ steps.old + length spans.now }
 {
     for span in spans {
         table.insert(*span, steps)?;
@@ -313,9 +318,10 @@ pub(crate) fn put_spans<L>(
     Ok(())
 }
 
-/// Takes spans out of a table, each once, where it stands.
+/// Takes spans out of a table, each once, where it stands, with a look each.
 pub(crate) fn take_spans<L>(table: &mut SpanIndex<L>, spans: &[Span], steps: &mut Steps<L>)
-    ensures { times_of table.new ≡ without_spans (times_of table.old) spans.now }
+    ensures spans { times_of table.new ≡ without_spans (times_of table.old) spans.now }
+    ensures looks { steps.new ≤ steps.old + length spans.now }
 {
     for span in spans {
         table.remove(span, steps);

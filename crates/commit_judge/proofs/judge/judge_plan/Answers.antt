@@ -1,4 +1,4 @@
-use Rattle.std.proofs.Common.{◌≡◌, List, sym, ◌∙◌, subst}
+use Rattle.std.proofs.Common.{◌≡◌, List, sym, ◌∙◌, subst, arith}
 use Rattle.std.specs.Prelude.{Some, None}
 use Rattle.chunk_map.specs.Roots.{KeysAscend}
 use Rattle.ledger_index.specs.Ledger.{IsTidy, sums_of}
@@ -20,10 +20,10 @@ returns-in-Some-clause-judged g c image before after stands size plan =
     let says =
     c.tried_law.ensures image c.args.cache.now k (commit_in c.args.plan) c.in_ok-roots.roots.items c.in_ok-moves.moves sums spans (Some c.in-Some.finding)
     stands.known plan.commit c.in_ok-roots.ensures (record {
-      moves_are = c.in_ok-moves.ensures;
+      moves_are = c.in_ok-moves.ensures.moves;
       sums_are = c.in_ok-apply.ensures.sums;
       spans_are = c.in_ok-apply.ensures.spans;
-      found = c.in-Some.ensures;
+      found = c.in-Some.ensures.least;
     }) in
     record {
       found = says.0;
@@ -44,10 +44,10 @@ returns-clause-judged g c image before after stands size plan =
     let says =
     c.tried_law.ensures image c.args.cache.now k d c.in_ok-roots.roots.items c.in_ok-moves.moves (sums_of c.apply.new.totals) (times_of c.apply.new.spans) None
     stands.known plan.commit c.in_ok-roots.ensures (record {
-      moves_are = c.in_ok-moves.ensures;
+      moves_are = c.in_ok-moves.ensures.moves;
       sums_are = c.in_ok-apply.ensures.sums;
       spans_are = c.in_ok-apply.ensures.spans;
-      found = c.in_default.ensures;
+      found = c.in_default.ensures.least;
     }) in
     let counts = c.counts_law.ensures image c.args.cache.now k d stands.known plan.commit in
     record {
@@ -68,3 +68,18 @@ returns-clause-judged g c image before after stands size plan =
 
 pub returns-clause-place : goal.returns-clause-place
 returns-clause-place g c follows image room same = c.in_ok-pass.ensures.raw ∙ follows image room same
+
+pub returns-clause-looks : goal.returns-clause-looks
+returns-clause-looks g c = record {
+  moves = c.in_ok-moves.moves;
+  are = c.in_ok-moves.ensures.moves;
+  table = times_of c.apply.new.spans;
+  table_is = c.in_ok-apply.ensures.spans;
+  found = c.finding_by.new.steps;
+  few = record {
+    spans = c.in_default.ensures.looks.spans;
+    times = c.in_default.ensures.looks.times;
+    few = omega (arith, c.in_default.ensures.looks.few, c.apply.ensures.looks, c.moves_of.ensures.looks);
+  };
+  rest = c.pass.ensures.looks;
+}

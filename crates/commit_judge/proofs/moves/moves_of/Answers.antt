@@ -1,4 +1,4 @@
-use Rattle.std.proofs.Common.{sym, ◌∙◌, subst}
+use Rattle.std.proofs.Common.{refl, sym, ◌∙◌, subst}
 use Rattle.std.specs.List.{Contains}
 use Rattle.change_laws.specs.Commit.{context_by}
 use Rattle.change_laws.specs.Paired.{came_items, gone_items}
@@ -6,11 +6,11 @@ use Rattle.change_laws.specs.Steps.{change_records, step_posts}
 use Rattle.commit_judge.specs.Index.{known}
 use Rattle.commit_judge.specs.Moves.{context_after}
 use Rattle.commit_judge.specs.Plan.{commit_in}
-use Rattle.commit_judge.proofs.JMoves.{inside_by, posts_by, spans_by, spans_moved}
+use Rattle.commit_judge.proofs.JMoves.{counted_by, inside_by, posts_by, spans_by, spans_moved}
 use Rattle.commit_judge.proofs.moves.moves_of.Goals as goal
 
-pub returns : goal.returns
-returns g c =
+pub returns-clause-moves : goal.returns-clause-moves
+returns-clause-moves g c =
     let k = known c.args.index.now in
     let d = commit_in c.args.plan.now in
     record {
@@ -31,8 +31,8 @@ returns g c =
           c.as_slice-changes.ensures.value c.in_ok-came_spans.ensures)
           (λ lawful alone pairs span at stands shows has.
           c.in_ok-found.ensures.found lawful alone pairs span at stands shows (subst (λ refs. Contains refs at) (sym c.as_slice-refs.ensures.value) has))
-          c.in_ok-found.ensures.stand (inside_by c.in_ok-runs.runs.items _ _ c.as_slice-3.ensures.value c.in_ok-runs.ensures.gone)
-          (inside_by c.in_ok-runs.runs.items _ _ c.as_slice-4.ensures.value c.in_ok-runs.ensures.came)
+          c.in_ok-found.ensures.stand (counted_by (context_by k) (context_by k) c.in_ok-runs.runs.items _ _ refl c.as_slice-3.ensures.value c.in_ok-runs.ensures.gone)
+          (counted_by _ (context_after k d) c.in_ok-runs.runs.items _ _ c.after-after.ensures c.as_slice-4.ensures.value c.in_ok-runs.ensures.came)
           (inside_by c.in_ok-runs.runs.items _ _ c.as_slice-5.ensures.value c.in_ok-runs.ensures.found);
       ascend = c.in_ok-runs.ensures.ascend;
     }

@@ -2,31 +2,31 @@ use Rattle.std.proofs.Common.{subst, sym}
 use Rattle.std.specs.List.{All}
 use Rattle.std.proofs.lemmas.List.Sorted.{All-permutation}
 use Rattle.span_index.specs.Sectors.{IsRun}
-use Rattle.commit_judge.proofs.BRuns.{inside_stays, merged_spans}
+use Rattle.commit_judge.proofs.BRuns.{counted_stays, merged_counted, merged_spans}
 use Rattle.commit_judge.proofs.runs.runs_of.Goals as goal
 
 pub merged-requires-clause-runs : goal.merged-requires-clause-runs
-merged-requires-clause-runs c =
+merged-requires-clause-runs g c =
     subst (λ l. All IsRun l) (sym c.deref.ensures.value)
-    (All-permutation IsRun c.add_runs-3.new.into.items c.sort_runs.new.runs.items c.sort_runs.ensures.all c.in_ok-add_runs-3.ensures.runs)
+    (All-permutation IsRun c.add_runs.new.into.items c.sort_runs.new.runs.items c.sort_runs.ensures.all c.in_ok-add_runs.ensures.runs)
 
 pub returns-clause-gone : goal.returns-clause-gone
-returns-clause-gone c = λ whole.
-    merged_spans c.merged.result (λ some. some.items) c.add_runs-3.new.into.items c.sort_runs.new.runs.items c.deref.result.now c.args.gone.now
+returns-clause-gone g c = λ whole.
+    merged_counted c.merged.result (λ some. some.items) (g.C.Ctx.context c.args.before.now) c.add_runs.new.into.items c.sort_runs.new.runs.items c.deref.result.now c.args.gone.now
     c.sort_runs.ensures.all c.deref.ensures.value c.merged.ensures.inside
-    (inside_stays c.add_runs-2.new.into.items c.add_runs-3.new.into.items c.args.gone.now c.in_ok-add_runs-3.ensures.stay
-    (inside_stays c.add_runs.new.into.items c.add_runs-2.new.into.items c.args.gone.now c.in_ok-add_runs-2.ensures.stay
-    (c.in_ok-add_runs.ensures.inside whole)))
+    (counted_stays (g.C.Ctx.context c.args.before.now) c.add_counted-2.new.into.items c.add_runs.new.into.items c.args.gone.now c.in_ok-add_runs.ensures.stay
+    (counted_stays (g.C.Ctx.context c.args.before.now) c.add_counted.new.into.items c.add_counted-2.new.into.items c.args.gone.now c.in_ok-add_counted-2.ensures.stay
+    (c.in_ok-add_counted.ensures.inside whole)))
 
 pub returns-clause-came : goal.returns-clause-came
-returns-clause-came c = λ whole.
-    merged_spans c.merged.result (λ some. some.items) c.add_runs-3.new.into.items c.sort_runs.new.runs.items c.deref.result.now c.args.came.now
+returns-clause-came g c = λ whole.
+    merged_counted c.merged.result (λ some. some.items) (g.D.Ctx.context c.args.after.now) c.add_runs.new.into.items c.sort_runs.new.runs.items c.deref.result.now c.args.came.now
     c.sort_runs.ensures.all c.deref.ensures.value c.merged.ensures.inside
-    (inside_stays c.add_runs-2.new.into.items c.add_runs-3.new.into.items c.args.came.now c.in_ok-add_runs-3.ensures.stay
-    (c.in_ok-add_runs-2.ensures.inside whole))
+    (counted_stays (g.D.Ctx.context c.args.after.now) c.add_counted-2.new.into.items c.add_runs.new.into.items c.args.came.now c.in_ok-add_runs.ensures.stay
+    (c.in_ok-add_counted-2.ensures.inside whole))
 
 pub returns-clause-found : goal.returns-clause-found
-returns-clause-found c = λ whole.
-    merged_spans c.merged.result (λ some. some.items) c.add_runs-3.new.into.items c.sort_runs.new.runs.items c.deref.result.now c.args.found.now
+returns-clause-found g c = λ whole.
+    merged_spans c.merged.result (λ some. some.items) c.add_runs.new.into.items c.sort_runs.new.runs.items c.deref.result.now c.args.found.now
     c.sort_runs.ensures.all c.deref.ensures.value c.merged.ensures.inside
-    (c.in_ok-add_runs-3.ensures.inside whole)
+    (c.in_ok-add_runs.ensures.inside whole)

@@ -1,4 +1,4 @@
-use Rattle.std.proofs.Common.{subst, sym, take_all}
+use Rattle.std.proofs.Common.{subst, sym, take_all, arith}
 use Rattle.std.specs.List.{Contains}
 use Rattle.span_index.specs.Table.{times_of}
 use Rattle.commit_judge.proofs.BFound.{found_more, stand_more}
@@ -10,6 +10,7 @@ loop-at-preserved g c = record {
       c.named_span.result c.loop-at-test.true c.loop-at.invariant.found c.named_span.ensures.found c.in_ok-push_some.ensures;
   stand = stand_more (times_of c.args.table.now) c.loop-at.found.items c.push_some.new.into.items c.named_span.result c.loop-at.invariant.stand
       c.named_span.ensures.stands c.in_ok-push_some.ensures;
+  looks = omega (arith, c.named_span.ensures.looks, c.loop-at.invariant.looks);
 }
 
 pub returns-clause-found : goal.returns-clause-found

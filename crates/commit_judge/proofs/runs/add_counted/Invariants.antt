@@ -1,0 +1,15 @@
+use Rattle.std.proofs.Common.{take}
+use Rattle.std.specs.List.{All}
+use Rattle.span_index.specs.Sectors.{IsRun}
+use Rattle.change_laws.specs.Sectors.{CountedInside}
+use Rattle.change_laws.specs.Sound.{IsWhole}
+use Rattle.commit_judge.proofs.BRuns.{StayInside}
+use Rattle.commit_judge.proofs.runs.add_counted.Given as goal
+
+-- the runs of the spans so far that count are added
+abbrev pub invariant-loop-span : goal.invariant-loop-span
+invariant-loop-span g l = record {
+  runs : All IsRun l.into.items;
+  stay : StayInside l.initial.into.items l.into.items;
+  inside : All IsWhole l.spans → CountedInside (g.C.Ctx.context l.ctx) l.into.items (take l.span-index l.spans);
+}
