@@ -153,3 +153,32 @@ fn a_failed_call_closes_the_checker(rt: HostRuntime) -> Result<(), Fail> {
     }
     Ok(())
 }
+
+// How often a checker that starts over the disk looks into its index at a settle with nothing pending.
+fn settle_looks<D: Disk>(alloc: Global, disk: &mut D) -> Option<u64> {
+    let mut steps = Steps::new(0u8);
+    match Checker::start(alloc, disk, &mut steps) {
+        Ok(Started::Ready(checker)) => {
+            let mut checker = checker;
+            let before = steps.looks();
+            match checker.event(alloc, disk, Event::Settle, &mut steps) {
+                Ok(Answer::Passed { .. }) => steps.looks().checked_sub(before),
+                _ => None,
+            }
+        }
+        _ => None,
+    }
+}
+
+// The bound is 64 for each chunk of both lists and one more: of the image's trees it does not speak.
+#[test]
+fn a_settle_with_nothing_pending_looks_seldom(rt: HostRuntime) -> Result<(), Fail> {
+    let alloc = rt.alloc();
+    let base = base_image(alloc)?;
+    let mut disk = MemDisk::new(Vec::from_slice(alloc, base.as_slice())?, Vec::new(alloc));
+    match settle_looks(alloc, &mut disk) {
+        Some(looks) => assert!(rt; looks <= 64 * (2 * 3 + 1), "{looks} looks"),
+        None => panic!(rt; "the settle passes"),
+    }
+    Ok(())
+}
