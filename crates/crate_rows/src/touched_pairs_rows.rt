@@ -3,7 +3,7 @@ use live_index::{Live, LiveIndex};
 use recon_disk::Steps;
 use std::alloc::Global;
 use std::process::Abort;
-use touched_pairs::{Marks, moved_pairs, touched_pairs};
+use touched_pairs::{Marks, moved_pairs, moved_pairs_of, touched_pairs};
 use verdict::{Chunk, Key, NoMemory};
 use write_cache::WriteCache;
 
@@ -148,6 +148,40 @@ fn a_chunk_that_changed_marks_the_blocks_that_moved(rt: HostRuntime) -> Result<(
         let marks = moved_pairs(rt.alloc(), &table, &old, &new, NODESIZE, END, &mut steps)?;
         assert_eq!(rt; marked(&marks), wanted);
         assert_eq!(rt; steps.looks(), looks);
+    }
+    Ok(())
+}
+
+#[test]
+fn of_one_tree_alone_no_other_is_marked_or_asked_for(rt: HostRuntime) -> Result<(), NoMemory> {
+    let mut steps = Steps::new(());
+    let table = table(rt.alloc(), &mut steps)?;
+    let old = map_of(&rt, rt.alloc(), &[chunk(8_388_608, 36, Some(SECOND))])?;
+    let shorter: &[Chunk] = &[chunk(32_768, 36, Some(SECOND))];
+    // The tree, the new chunks, which pairs are marked, and how often the table is looked into.
+    let rows: [(u64, &[Chunk], [bool; 4], u64); 5] = [
+        (5, &[], [true, true, true, false], 7),
+        (7, &[], [false, false, false, true], 3),
+        // A tree with no pair.
+        (3, &[], [false; 4], 1),
+        (5, shorter, [true, false, true, false], 4),
+        (7, &[chunk(8_388_608, 36, Some(SECOND))], [false; 4], 0),
+    ];
+    for (tree, chunks, wanted, looks) in rows {
+        let new = map_of(&rt, rt.alloc(), chunks)?;
+        let mut steps = Steps::new(());
+        let marks = moved_pairs_of(
+            rt.alloc(),
+            &table,
+            tree,
+            &old,
+            &new,
+            NODESIZE,
+            END,
+            &mut steps,
+        )?;
+        assert_eq!(rt; marked(&marks), wanted, "tree {tree}");
+        assert_eq!(rt; steps.looks(), looks, "tree {tree}");
     }
     Ok(())
 }

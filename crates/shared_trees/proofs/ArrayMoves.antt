@@ -12,7 +12,7 @@ use Rattle.records.specs.Contents.{chunk_tree_root}
 use Rattle.records.specs.Walk.{walk_of}
 use Rattle.records.specs.WalkLaw.{visited}
 use Rattle.touched_pairs.specs.Moves.{held_and_moved, is_moved}
-use Rattle.touched_pairs.specs.Spots.{at_address}
+use Rattle.touched_pairs.specs.OneTree.{in_tree}
 use Rattle.shared_trees.specs.ArrayLaw.{IsAsByAll, chunk_tree_by, moves_by}
 use Rattle.shared_trees.specs.ArrayMoves.{ArrayMovesLaw}
 use Rattle.shared_trees.specs.Keeping.{AreMarked, IsKnown, Marks, OneOf, Stands, comes_to}
@@ -102,7 +102,7 @@ array_moves image old old_array array pairs moving are has pairs_are from =
     (λ v h. ap (λ b. b && is_moved old_array array n end v.address) h.0 ∙ h.1.left array)
     (each_both (λ v. Held v.address) Is (visited old.sup mine root) held_mine (as_by_all image old old_array has)) in
     marked_same moving test (moves_by old array end) old.sup tree.0 root (subst (AllByRecursion Same) (sym alike.blocks) same)
-    (marks pairs (at_address test) (at_address (is_moved old_array array n end)) moving old.sup tree.0 tree.1 stands are
+    (marks pairs (in_tree 3 test) (in_tree 3 (is_moved old_array array n end)) moving old.sup tree.0 tree.1 stands are
     (λ address some moved.
     ap (λ b. b && is_moved old_array array n end address)
     (held_at (pairs 3 address) Held tree.0 address (visited old.sup tree.0 root) some (stands.only address) held) ∙ moved) from)

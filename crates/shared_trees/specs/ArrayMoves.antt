@@ -8,19 +8,20 @@ use Rattle.records.specs.Contents.{chunk_tree_root}
 use Rattle.touched_pairs.specs.Marking.{AreMarkedFrom}
 use Rattle.touched_pairs.specs.Marks.{no_mark}
 use Rattle.touched_pairs.specs.Moves.{LieApart, held_and_moved, is_moved, same_chunk}
-use Rattle.touched_pairs.specs.Spots.{at_address}
+use Rattle.touched_pairs.specs.OneTree.{in_tree}
 use Rattle.shared_trees.specs.ArrayLaw.{HasArray, moves_by}
 use Rattle.shared_trees.specs.Keeping.{AreMarked, Marks}
 use Rattle.shared_trees.specs.LivePairs.{Walked, live_in, table_of}
 
--- Where a table has the live pairs of an image, with ids and addresses of 64 bits, and those are marked with all above them of which the block moved from the image's system array
--- to a new one, just those blocks of its chunk tree are marked which moved by the new array, or which are above one that did.
+-- Where a table has the live pairs of an image, with ids and addresses of 64 bits, and those of its chunk tree (tree 3) are marked, with all
+-- above them, of which the block moved from the image's system array to a new one, just those blocks of the chunk tree are marked which moved
+-- by the new array, or which are above one that did.
 abbrev pub ArrayMovesLaw : Type 0
 ArrayMovesLaw = (image : List ℕ) (old : Walked) (old_array array : List Chunk) (pairs : Pairs) (moving : Marks)
     → AreNarrow pairs → HasArray image old old_array
     → ((tree address : ℕ) → pairs tree address ≡ table_of (live_in old.seen) tree address)
-    → AreMarkedFrom pairs (at_address (held_and_moved old_array array old.sup.nodesize (length image)))
-    (at_address (is_moved old_array array old.sup.nodesize (length image))) no_mark moving
+    → AreMarkedFrom pairs (in_tree 3 (held_and_moved old_array array old.sup.nodesize (length image)))
+    (in_tree 3 (is_moved old_array array old.sup.nodesize (length image))) no_mark moving
     → AreMarked moving (moves_by old array (length image)) old.sup (stored_in image old.chunks old.sup.nodesize) (chunk_tree_root old.sup)
 
 -- two chunks have no logical address in common, or hold the same addresses at the same places

@@ -17,10 +17,11 @@ use Rattle.touched_pairs.specs.declared.marks.PairPlace.{PairPlace}
 use Rattle.touched_pairs.specs.Marking.{AreLow, AreMarkedFrom, ClimbsTo, HaveEach}
 use Rattle.touched_pairs.specs.Marking.ClimbsTo.{Here, Up}
 use Rattle.touched_pairs.specs.Marks.{AreAmong, Marked, by_pair, count_of, in_lives, is_pair, marked_by, pair_place}
-use Rattle.touched_pairs.specs.Spots.{at_address}
+use Rattle.touched_pairs.specs.OneTree.{chosen, in_chosen, is_chosen}
+use Rattle.touched_pairs.proofs.Choosing.{there_chosen}
 use Rattle.touched_pairs.proofs.MarkLaws.{tied}
 use Rattle.touched_pairs.proofs.Marking.{above_is, same_address, same_tree}
-use Rattle.touched_pairs.proofs.Writing.{either, or_left, or_right}
+use Rattle.touched_pairs.proofs.Writing.{either, left_of, or_left, or_right, right_of}
 
 -- ---- marks are different places
 
@@ -142,10 +143,10 @@ all_has pairs (live ∷ lives) t a from lows way there has =
     by rest (inr later) = or_right _ _ (rest later)
 
 -- Pairs on levels below 8 that are marked from some pairs up are at most eight for each of these.
-pub few_marked : (pairs : Pairs) (test : ℕ → Bool) (must none marked : Marked) (count : ℕ) → ((t a : ℕ) → none t a ≡ false)
-    → AreMarkedFrom pairs must (at_address test) none marked → ((lives : List Live) → AreAmong marked lives → count ≤ length lives)
-    → AreLow pairs → (lives : List Live) → HaveEach pairs test lives → count ≤ 8 * length lives
-few_marked pairs test must none marked count unmarked more counted lows lives each =
+pub few_marked : (pairs : Pairs) (only : Option ℕ) (test : ℕ → Bool) (must none marked : Marked) (count : ℕ) → ((t a : ℕ) → none t a ≡ false)
+    → AreMarkedFrom pairs must (in_chosen only test) none marked → ((lives : List Live) → AreAmong marked lives → count ≤ length lives)
+    → AreLow pairs → (lives : List Live) → HaveEach (chosen only pairs) test lives → count ≤ 8 * length lives
+few_marked pairs only test must none marked count unmarked more counted lows lives each =
     let most : count ≤ length (all_climbed pairs lives) = counted (all_climbed pairs lives) among in
     omega (arith, most, all_few pairs lives)
   where
@@ -155,5 +156,6 @@ few_marked pairs test must none marked count unmarked more counted lows lives ea
     among : AreAmong marked (all_climbed pairs lives)
     among t a is = elim (more.only t a is) [
       | inl had ↦ absurd (nothing (none t a) had (unmarked t a))
-      | inr from ↦ all_has pairs lives t a from.0 lows from.3 from.2 (each t from.0 from.1 from.2)
+      | inr from ↦ all_has pairs lives t a from.0 lows from.3 from.2 (each t from.0 (right_of (is_chosen only t) _ from.1)
+          (there_chosen only pairs t from.0 (left_of _ (test from.0) from.1) from.2))
     ]

@@ -11,7 +11,9 @@ use Rattle.touched_pairs.specs.declared.marks.PairPlace.{PairPlace}
 use Rattle.touched_pairs.specs.Going.{AllPass, AreFound, AreGone, AreLooks, IsFirst, IsNext, is_passed, met, reached, same_pair}
 use Rattle.touched_pairs.specs.Marking.{AreMarked, AreMarkedFrom}
 use Rattle.touched_pairs.specs.Marks.{Marked, count_of, is_pair, marked_by, no_mark, pair_place}
-use Rattle.touched_pairs.specs.Spots.{at_address, lies_between}
+use Rattle.touched_pairs.specs.OneTree.{chosen, in_chosen, is_chosen}
+use Rattle.touched_pairs.specs.Spots.{lies_between}
+use Rattle.touched_pairs.proofs.Choosing.{chosen_stands, chosen_there, there_chosen}
 use Rattle.touched_pairs.proofs.Marking.{marked_then, marked_as, marked_none, same_address, same_tree}
 
 no_pair : (o : Option Live) → o ≡ None → is_some o ≡ true → ⊥
@@ -171,16 +173,16 @@ found_more old new at next live n kept behind low is found = record {
 -- ---- one range
 
 -- how far a range is gone through
-pub record AreOnTheWay (pairs : Pairs) (test : ℕ → Bool) (from last : ℕ) (cursor at : Option (ℕ × ℕ)) (before now : ℕ) (old new : Marks) : Type 0 where
-  pub marks : AreMarkedFrom pairs no_mark (at_address (λ a. lies_between from last a && test a)) (marked_by old) (marked_by new)
-  pub gone : AreGone pairs test from cursor (marked_by old) → AreGone pairs test from at (marked_by new)
+pub record AreOnTheWay (pairs : Pairs) (only : Option ℕ) (test : ℕ → Bool) (from last : ℕ) (cursor at : Option (ℕ × ℕ)) (before now : ℕ) (old new : Marks) : Type 0 where
+  pub marks : AreMarkedFrom pairs no_mark (in_chosen only (λ a. lies_between from last a && test a)) (marked_by old) (marked_by new)
+  pub gone : AreGone (chosen only pairs) test from cursor (marked_by old) → AreGone (chosen only pairs) test from at (marked_by new)
   pub low : StandsFrom from at
-  pub looks : AllPass pairs (λ a. lies_between from last a) test → AreLooks before now old new cursor at 0
+  pub looks : AllPass (chosen only pairs) (λ a. lies_between from last a) test → AreLooks before now old new cursor at 0
 
-pub way_start : (pairs : Pairs) (test : ℕ → Bool) (from last : ℕ) (cursor at : Option (ℕ × ℕ)) (before : ℕ) (old : Marks) → at ≡ reached cursor from
-    → AreOnTheWay pairs test from last cursor at before before old old
-way_start pairs test from last cursor at before old is = subst (λ x. AreOnTheWay pairs test from last cursor x before before old old) (sym is) (record {
-  marks = marked_none pairs no_mark (at_address (λ a. lies_between from last a && test a)) (marked_by old) (λ t a h. nothing h);
+pub way_start : (pairs : Pairs) (only : Option ℕ) (test : ℕ → Bool) (from last : ℕ) (cursor at : Option (ℕ × ℕ)) (before : ℕ) (old : Marks) → at ≡ reached cursor from
+    → AreOnTheWay pairs only test from last cursor at before before old old
+way_start pairs only test from last cursor at before old is = subst (λ x. AreOnTheWay pairs only test from last cursor x before before old old) (sym is) (record {
+  marks = marked_none pairs no_mark (in_chosen only (λ a. lies_between from last a && test a)) (marked_by old) (λ t a h. nothing h);
   gone = λ gone t a small short low passed passes some. gone t a small short low (reached_gone cursor from t a low passed) passes some;
   low = reached_low cursor from;
   looks = λ all n found. (n, found_kept (marked_by old) (marked_by old) cursor (reached cursor from) n (λ t a h. h) (λ t a h. reached_on cursor from t a h) found, omega arith);
@@ -189,21 +191,23 @@ way_start pairs test from last cursor at before old is = subst (λ x. AreOnTheWa
     nothing : false ≡ true → ⊥
     nothing h = cc
 
-pub way_more : (pairs : Pairs) (test : ℕ → Bool) (from last : ℕ) (cursor at next : Option (ℕ × ℕ)) (live : Live) (before now looked after : ℕ) (old mid new : Marks)
-    → AreOnTheWay pairs test from last cursor at before now old mid → IsFirst pairs at (Some live) → live.address ≤ last → live.tree < 2 ^ 64 → live.address < 2 ^ 64
+pub way_more : (pairs : Pairs) (only : Option ℕ) (test : ℕ → Bool) (from last : ℕ) (cursor at next : Option (ℕ × ℕ)) (live : Live) (before now looked after : ℕ) (old mid new : Marks)
+    → AreOnTheWay pairs only test from last cursor at before now old mid → IsFirst (chosen only pairs) at (Some live) → live.address ≤ last → live.tree < 2 ^ 64 → live.address < 2 ^ 64
     → looked ≤ now + 1 → AreMarked pairs (met test live) (marked_by mid) (marked_by new) → after + count_of mid ≤ looked + count_of new → IsNext live next
-    → AreOnTheWay pairs test from last cursor next before after old new
-way_more pairs test from last cursor at next live before now looked after old mid new way first high small short looks more few behind = record {
+    → AreOnTheWay pairs only test from last cursor next before after old new
+way_more pairs only test from last cursor at next live before now looked after old mid new way first high small short looks more few behind = record {
   marks =
-      marked_then pairs no_mark (at_address (λ a. lies_between from last a && test a)) (met test live) (met test live)
-      no_mark (at_address (λ a. lies_between from last a && test a)) (marked_by old) (marked_by mid) (marked_by new) way.marks more
+      marked_then pairs no_mark (in_chosen only (λ a. lies_between from last a && test a)) (met test live) (met test live)
+      no_mark (in_chosen only (λ a. lies_between from last a && test a)) (marked_by old) (marked_by mid) (marked_by new) way.marks more
       (λ t a tight narrow s some. absurd (nothing s)) (λ t a s. s)
       (λ t a s. and_true _ _
+      (subst (λ x. is_chosen only x ≡ true) (same_tree live.tree live.address t a (left_of _ (test a) s)) stands.0)
+      (and_true _ _
       (subst (λ x. lies_between from last x ≡ true) (same_address live.tree live.address t a (left_of _ (test a) s)) (inside from last live.address low high))
-      (right_of (is_pair live.tree live.address t a) _ s));
+      (right_of (is_pair live.tree live.address t a) _ s)));
   gone = λ gone t a tight narrow above passed passes some. elim (decided (is_passed at t a)) [
     | inl was ↦ more.kept t a (way.gone gone t a tight narrow above was passes some)
-    | inr not_yet ↦ more.found t a tight narrow (and_true _ _ (here t a tight narrow passed not_yet some) passes) some
+    | inr not_yet ↦ more.found t a tight narrow (and_true _ _ (here t a tight narrow passed not_yet some) passes) (chosen_there only pairs t a some).1
   ];
   low = low_behind live next from behind low;
   looks = λ all n found.
@@ -212,7 +216,7 @@ way_more pairs test from last cursor at next live before now looked after old mi
       let rest : now + n + count_of old ≤ before + so_far.0 + count_of mid + 0 = so_far.2 in (
         so_far.0 + 1,
         found_more (marked_by mid) (marked_by new) at next live so_far.0 more.kept behind first.1
-            (more.found live.tree live.address small short (and_true _ _ (itself live) passes) (ap is_some first.0)) so_far.1,
+            (more.found live.tree live.address small short (and_true _ _ (itself live) passes) (ap is_some stands.1)) so_far.1,
         omega arith,
       );
 }
@@ -220,30 +224,35 @@ way_more pairs test from last cursor at next live before now looked after old mi
     nothing : false ≡ true → ⊥
     nothing h = cc
 
+    stands : (is_chosen only live.tree ≡ true) × (pairs live.tree live.address ≡ Some live)
+    stands = chosen_stands only pairs live first.0
+
     low : from ≤ live.address
     low = way.low live.tree live.address first.1
 
-    here : (t a : ℕ) → t < 2 ^ 64 → a < 2 ^ 64 → is_passed next t a ≡ true → is_passed at t a ≡ false → is_some (pairs t a) ≡ true → is_pair live.tree live.address t a ≡ true
+    here : (t a : ℕ) → t < 2 ^ 64 → a < 2 ^ 64 → is_passed next t a ≡ true → is_passed at t a ≡ false → is_some (chosen only pairs t a) ≡ true → is_pair live.tree live.address t a ≡ true
     here t a tight narrow passed not_yet some = elim (decided (comes_before a t live.address live.tree)) [
-      | inl below ↦ absurd (no_pair (pairs t a) (first.2 a t not_yet below) some)
+      | inl below ↦ absurd (no_pair (chosen only pairs t a) (first.2 a t not_yet below) some)
       | inr above ↦ between live next t a behind tight narrow passed above
     ]
 
 -- at the end of the range
-pub record IsRangeGone (pairs : Pairs) (test : ℕ → Bool) (from last : ℕ) (cursor at : Option (ℕ × ℕ)) (before now : ℕ) (old new : Marks) : Type 0 where
-  pub ok : AreGone pairs test from cursor (marked_by old) → AreMarked pairs (at_address (λ a. lies_between from last a && test a)) (marked_by old) (marked_by new)
-  pub gone : AreGone pairs test from cursor (marked_by old) → AreGone pairs test from at (marked_by new)
-  pub looks : AllPass pairs (λ a. lies_between from last a) test → AreLooks before now old new cursor at 1
+pub record IsRangeGone (pairs : Pairs) (only : Option ℕ) (test : ℕ → Bool) (from last : ℕ) (cursor at : Option (ℕ × ℕ)) (before now : ℕ) (old new : Marks) : Type 0 where
+  pub ok : AreGone (chosen only pairs) test from cursor (marked_by old) → AreMarked pairs (in_chosen only (λ a. lies_between from last a && test a)) (marked_by old) (marked_by new)
+  pub gone : AreGone (chosen only pairs) test from cursor (marked_by old) → AreGone (chosen only pairs) test from at (marked_by new)
+  pub looks : AllPass (chosen only pairs) (λ a. lies_between from last a) test → AreLooks before now old new cursor at 1
 
-way_end : (pairs : Pairs) (test : ℕ → Bool) (from last : ℕ) (cursor at : Option (ℕ × ℕ)) (before now looked : ℕ) (old new : Marks)
-    → AreOnTheWay pairs test from last cursor at before now old new → looked ≤ now + 1
-    → ((t a : ℕ) → lies_between from last a ≡ true → is_some (pairs t a) ≡ true → is_passed at t a ≡ true) → IsRangeGone pairs test from last cursor at before looked old new
-way_end pairs test from last cursor at before now looked old new way looks passed = record {
+way_end : (pairs : Pairs) (only : Option ℕ) (test : ℕ → Bool) (from last : ℕ) (cursor at : Option (ℕ × ℕ)) (before now looked : ℕ) (old new : Marks)
+    → AreOnTheWay pairs only test from last cursor at before now old new → looked ≤ now + 1
+    → ((t a : ℕ) → lies_between from last a ≡ true → is_some (chosen only pairs t a) ≡ true → is_passed at t a ≡ true) → IsRangeGone pairs only test from last cursor at before looked old new
+way_end pairs only test from last cursor at before now looked old new way looks passed = record {
   ok = λ gone. record {
     kept = way.marks.kept;
     closed = way.marks.closed;
     found = λ t a tight narrow s some.
-        way.gone gone t a tight narrow (from_range from last a (left_of _ (test a) s)) (passed t a (left_of _ (test a) s) some) (right_of (lies_between from last a) _ s) some;
+        let within : (lies_between from last a && test a) ≡ true = right_of (is_chosen only t) _ s in
+        let is : is_some (chosen only pairs t a) ≡ true = there_chosen only pairs t a (left_of _ (lies_between from last a && test a) s) some in
+        way.gone gone t a tight narrow (from_range from last a (left_of _ (test a) within)) (passed t a (left_of _ (test a) within) is) (right_of (lies_between from last a) _ within) is;
     only = way.marks.only;
   };
   gone = way.gone;
@@ -253,20 +262,20 @@ way_end pairs test from last cursor at before now looked old new way looks passe
       (so_far.0, so_far.1, omega arith);
 }
 
-pub way_none : (pairs : Pairs) (test : ℕ → Bool) (from last : ℕ) (cursor at : Option (ℕ × ℕ)) (before now looked : ℕ) (old new : Marks)
-    → AreOnTheWay pairs test from last cursor at before now old new → looked ≤ now + 1 → IsFirst pairs at None → IsRangeGone pairs test from last cursor at before looked old new
-way_none pairs test from last cursor at before now looked old new way looks none =
-    way_end pairs test from last cursor at before now looked old new way looks
-    (λ t a within some. elim (decided (is_passed at t a)) [ inl was ↦ was | inr not_yet ↦ absurd (no_pair (pairs t a) (none a t not_yet) some) ])
+pub way_none : (pairs : Pairs) (only : Option ℕ) (test : ℕ → Bool) (from last : ℕ) (cursor at : Option (ℕ × ℕ)) (before now looked : ℕ) (old new : Marks)
+    → AreOnTheWay pairs only test from last cursor at before now old new → looked ≤ now + 1 → IsFirst (chosen only pairs) at None → IsRangeGone pairs only test from last cursor at before looked old new
+way_none pairs only test from last cursor at before now looked old new way looks none =
+    way_end pairs only test from last cursor at before now looked old new way looks
+    (λ t a within some. elim (decided (is_passed at t a)) [ inl was ↦ was | inr not_yet ↦ absurd (no_pair (chosen only pairs t a) (none a t not_yet) some) ])
 
-pub way_past : (pairs : Pairs) (test : ℕ → Bool) (from last : ℕ) (cursor at : Option (ℕ × ℕ)) (live : Live) (before now looked : ℕ) (old new : Marks)
-    → AreOnTheWay pairs test from last cursor at before now old new → looked ≤ now + 1 → IsFirst pairs at (Some live) → last < live.address
-    → IsRangeGone pairs test from last cursor at before looked old new
-way_past pairs test from last cursor at live before now looked old new way looks first high =
-    way_end pairs test from last cursor at before now looked old new way looks
+pub way_past : (pairs : Pairs) (only : Option ℕ) (test : ℕ → Bool) (from last : ℕ) (cursor at : Option (ℕ × ℕ)) (live : Live) (before now looked : ℕ) (old new : Marks)
+    → AreOnTheWay pairs only test from last cursor at before now old new → looked ≤ now + 1 → IsFirst (chosen only pairs) at (Some live) → last < live.address
+    → IsRangeGone pairs only test from last cursor at before looked old new
+way_past pairs only test from last cursor at live before now looked old new way looks first high =
+    way_end pairs only test from last cursor at before now looked old new way looks
     (λ t a within some. elim (decided (is_passed at t a)) [
       | inl was ↦ was
-      | inr not_yet ↦ absurd (no_pair (pairs t a) (first.2 a t not_yet (lower a t (below_range from last a within))) some)
+      | inr not_yet ↦ absurd (no_pair (chosen only pairs t a) (first.2 a t not_yet (lower a t (below_range from last a within))) some)
     ])
   where
     lower : (a t : ℕ) → a ≤ last → comes_before a t live.address live.tree ≡ true

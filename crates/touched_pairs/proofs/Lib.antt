@@ -1,6 +1,7 @@
 pub mod MarkLaws
 pub mod Marking
 pub mod Among
+pub mod Choosing
 pub mod Going
 pub mod Ranges
 pub mod Writing

@@ -22,7 +22,8 @@ use Rattle.touched_pairs.specs.Looks.{ArePlaced}
 use Rattle.touched_pairs.specs.Marking.{AreLow, AreMarkedFrom, HaveEach}
 use Rattle.touched_pairs.specs.Marks.{AreAmong, Marked, count_of, no_mark}
 use Rattle.touched_pairs.specs.Moves.{AreApart, LieApart, held_and_moved, is_kept_chunk, is_moved, is_same_in, move_passes, same_chunk, same_second}
-use Rattle.touched_pairs.specs.Spots.{at_address, is_in}
+use Rattle.touched_pairs.specs.OneTree.{chosen, in_chosen, is_chosen}
+use Rattle.touched_pairs.specs.Spots.{is_in}
 use Rattle.touched_pairs.specs.Touched.{same_place, stays_in_place}
 use Rattle.touched_pairs.proofs.Among.{few_marked}
 use Rattle.touched_pairs.proofs.Counting.{few_left}
@@ -260,22 +261,24 @@ chunk_decides c d =
         let same : made c.start c.length c.class c.first c.second ≡ made d.start d.length d.class d.first d.second = cc in same
 
 -- the marks on what moved
-abbrev pub AreMoveMarks : Pairs → Marked → List Chunk → List Chunk → ℕ → ℕ → Type 0
-AreMoveMarks pairs marked old new n end =
-    AreApart new → 0 < n → AreMarkedFrom pairs (at_address (held_and_moved old new n end)) (at_address (is_moved old new n end)) no_mark marked
+abbrev pub AreMoveMarks : Pairs → Option ℕ → Marked → List Chunk → List Chunk → ℕ → ℕ → Type 0
+AreMoveMarks pairs only marked old new n end =
+    AreApart new → 0 < n → AreMarkedFrom pairs (in_chosen only (held_and_moved old new n end)) (in_chosen only (is_moved old new n end)) no_mark marked
 
-moved_marked : (pairs : Pairs) (move : Move) (ranges slice : List Range) (count : ℕ) (none marked : Marked) → ((t a : ℕ) → none t a ≡ false)
+moved_marked : (pairs : Pairs) (only : Option ℕ) (move : Move) (ranges slice : List Range) (count : ℕ) (none marked : Marked) → ((t a : ℕ) → none t a ≡ false)
     → AreAdded (IsMoving move) (leaves_one move) count [] ranges → slice ≡ ranges
-    → AreMarkedFrom pairs (at_address (λ a. is_in slice a && move_passes move a)) (at_address (move_passes move)) none marked
-    → AreMoveMarks pairs marked move.old.now move.new.now move.nodesize move.end
+    → AreMarkedFrom pairs (in_chosen only (λ a. is_in slice a && move_passes move a)) (in_chosen only (move_passes move)) none marked
+    → AreMoveMarks pairs only marked move.old.now move.new.now move.nodesize move.end
 unfolding move_passes
-moved_marked pairs move ranges slice count none marked unmarked all is more apart some =
-    from_none pairs (at_address (held_and_moved move.old.now move.new.now move.nodesize move.end)) (at_address (is_moved move.old.now move.new.now move.nodesize move.end)) none marked unmarked
-    (marked_as pairs (at_address (λ a. is_in slice a && move_passes move a)) (at_address (move_passes move)) (at_address (held_and_moved move.old.now move.new.now move.nodesize move.end))
-    (at_address (is_moved move.old.now move.new.now move.nodesize move.end)) none marked more
+moved_marked pairs only move ranges slice count none marked unmarked all is more apart some =
+    from_none pairs (in_chosen only (held_and_moved move.old.now move.new.now move.nodesize move.end)) (in_chosen only (is_moved move.old.now move.new.now move.nodesize move.end)) none marked unmarked
+    (marked_as pairs (in_chosen only (λ a. is_in slice a && move_passes move a)) (in_chosen only (move_passes move)) (in_chosen only (held_and_moved move.old.now move.new.now move.nodesize move.end))
+    (in_chosen only (is_moved move.old.now move.new.now move.nodesize move.end)) none marked more
     (λ t a tight small s there.
-    and_true _ _ (subst (λ l. is_in l a ≡ true) (sym is) (all.found a small (moved_leaves move a apart some s)))
-    (right_of (is_some (home move.old.now a move.nodesize)) _ s))
+    let moves : held_and_moved move.old.now move.new.now move.nodesize move.end a ≡ true = right_of (is_chosen only t) _ s in
+    and_true _ _ (left_of _ (held_and_moved move.old.now move.new.now move.nodesize move.end a) s)
+    (and_true _ _ (subst (λ l. is_in l a ≡ true) (sym is) (all.found a small (moved_leaves move a apart some moves)))
+    (right_of (is_some (home move.old.now a move.nodesize)) _ moves)))
     (λ t a s. s))
 
 -- the same by the lists, the size and the end that a move is made of
@@ -287,12 +290,12 @@ by_lists P move old new n end is_old is_new is_size is_end so =
     (subst (λ x. P old x move.nodesize move.end) is_new
     (subst (λ x. P x move.new.now move.nodesize move.end) is_old so)))
 
-pub moved_told : (pairs : Pairs) (move : Move) (old new : List Chunk) (n end : ℕ) (ranges slice : List Range) (count : ℕ) (none marked : Marked)
+pub moved_told : (pairs : Pairs) (only : Option ℕ) (move : Move) (old new : List Chunk) (n end : ℕ) (ranges slice : List Range) (count : ℕ) (none marked : Marked)
     → move.old.now ≡ old → move.new.now ≡ new → move.nodesize ≡ n → move.end ≡ end → ((t a : ℕ) → none t a ≡ false)
     → AreAdded (IsMoving move) (leaves_one move) count [] ranges → slice ≡ ranges
-    → AreMarkedFrom pairs (at_address (λ a. is_in slice a && move_passes move a)) (at_address (move_passes move)) none marked → AreMoveMarks pairs marked old new n end
-moved_told pairs move old new n end ranges slice count none marked is_old is_new is_size is_end unmarked all is more =
-    by_lists (AreMoveMarks pairs marked) move old new n end is_old is_new is_size is_end (moved_marked pairs move ranges slice count none marked unmarked all is more)
+    → AreMarkedFrom pairs (in_chosen only (λ a. is_in slice a && move_passes move a)) (in_chosen only (move_passes move)) none marked → AreMoveMarks pairs only marked old new n end
+moved_told pairs only move old new n end ranges slice count none marked is_old is_new is_size is_end unmarked all is more =
+    by_lists (AreMoveMarks pairs only marked) move old new n end is_old is_new is_size is_end (moved_marked pairs only move ranges slice count none marked unmarked all is more)
 
 -- and how many looks it took to find them
 abbrev pub AreMoveLooks : Pairs → ℕ → ℕ → ℕ → List Chunk → List Chunk → ℕ → ℕ → Type 0
@@ -329,19 +332,19 @@ looks_of_move pairs move old new n end ranges slice none marks before now is_old
     by_lists (AreMoveLooks pairs (count_of marks) before now) move old new n end is_old is_new is_size is_end (moved_looks pairs move ranges slice none marks before now all is looks)
 
 -- and how many marks there are at most
-abbrev pub HaveFewMarks : Pairs → ℕ → List Chunk → List Chunk → ℕ → ℕ → Type 0
-HaveFewMarks pairs marks old new n end = AreLow pairs → (lives : List Live) → HaveEach pairs (is_moved old new n end) lives → marks ≤ 8 * length lives
+abbrev pub HaveFewMarks : Pairs → Option ℕ → ℕ → List Chunk → List Chunk → ℕ → ℕ → Type 0
+HaveFewMarks pairs only marks old new n end = AreLow pairs → (lives : List Live) → HaveEach (chosen only pairs) (is_moved old new n end) lives → marks ≤ 8 * length lives
 
-few_by_move : (pairs : Pairs) (move : Move) (must none marked : Marked) (count : ℕ) → ((t a : ℕ) → none t a ≡ false)
-    → AreMarkedFrom pairs must (at_address (move_passes move)) none marked → ((lives : List Live) → AreAmong marked lives → count ≤ length lives)
-    → HaveFewMarks pairs count move.old.now move.new.now move.nodesize move.end
+few_by_move : (pairs : Pairs) (only : Option ℕ) (move : Move) (must none marked : Marked) (count : ℕ) → ((t a : ℕ) → none t a ≡ false)
+    → AreMarkedFrom pairs must (in_chosen only (move_passes move)) none marked → ((lives : List Live) → AreAmong marked lives → count ≤ length lives)
+    → HaveFewMarks pairs only count move.old.now move.new.now move.nodesize move.end
 unfolding move_passes
-few_by_move pairs move must none marked count unmarked more counted =
-    few_marked pairs (is_moved move.old.now move.new.now move.nodesize move.end) must none marked count unmarked more counted
+few_by_move pairs only move must none marked count unmarked more counted =
+    few_marked pairs only (is_moved move.old.now move.new.now move.nodesize move.end) must none marked count unmarked more counted
 
-pub few_of_move : (pairs : Pairs) (move : Move) (old new : List Chunk) (n end : ℕ) (must none marked : Marked) (count : ℕ)
+pub few_of_move : (pairs : Pairs) (only : Option ℕ) (move : Move) (old new : List Chunk) (n end : ℕ) (must none marked : Marked) (count : ℕ)
     → move.old.now ≡ old → move.new.now ≡ new → move.nodesize ≡ n → move.end ≡ end → ((t a : ℕ) → none t a ≡ false)
-    → AreMarkedFrom pairs must (at_address (move_passes move)) none marked → ((lives : List Live) → AreAmong marked lives → count ≤ length lives)
-    → HaveFewMarks pairs count old new n end
-few_of_move pairs move old new n end must none marked count is_old is_new is_size is_end unmarked more counted =
-    by_lists (HaveFewMarks pairs count) move old new n end is_old is_new is_size is_end (few_by_move pairs move must none marked count unmarked more counted)
+    → AreMarkedFrom pairs must (in_chosen only (move_passes move)) none marked → ((lives : List Live) → AreAmong marked lives → count ≤ length lives)
+    → HaveFewMarks pairs only count old new n end
+few_of_move pairs only move old new n end must none marked count is_old is_new is_size is_end unmarked more counted =
+    by_lists (HaveFewMarks pairs only count) move old new n end is_old is_new is_size is_end (few_by_move pairs only move must none marked count unmarked more counted)

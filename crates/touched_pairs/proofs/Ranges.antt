@@ -17,11 +17,12 @@ use Rattle.touched_pairs.specs.declared.range.Range.{Range}
 use Rattle.touched_pairs.specs.Going.{AllPass, AreFound, AreGone, AreLooks, is_passed, same_pair}
 use Rattle.touched_pairs.specs.Marking.{AreMarked, AreMarkedFrom}
 use Rattle.touched_pairs.specs.Marks.{by_pair, count_of, marked_by, pair_place}
-use Rattle.touched_pairs.specs.Spots.{at_address, has_address, is_in}
+use Rattle.touched_pairs.specs.OneTree.{chosen, in_chosen, is_chosen}
+use Rattle.touched_pairs.specs.Spots.{has_address, is_in}
 use Rattle.touched_pairs.proofs.Each.{any_has, each_more, each_start}
 use Rattle.touched_pairs.proofs.MarkLaws.{tied}
 use Rattle.touched_pairs.proofs.Marking.{marked_as, same_address, same_tree}
-use Rattle.touched_pairs.proofs.Writing.{either, right_of}
+use Rattle.touched_pairs.proofs.Writing.{and_true, either, left_of, right_of}
 
 -- ---- of the pairs that were found there are no more than marks
 
@@ -68,14 +69,14 @@ found_few marks at n found =
 -- ---- range by range
 
 -- how far some ranges are gone through
-pub record AreRangesGone (pairs : Pairs) (test : ℕ → Bool) (ranges : List Range) (i : ℕ) (cursor : Option (ℕ × ℕ)) (before now : ℕ) (old new : Marks) : Type 0 where
-  pub marks : AreMarkedFrom pairs (any_has has_address test (take i ranges)) (at_address test) (marked_by old) (marked_by new)
-  pub gone : (d : Range) (from : ℕ) → ((k : ℕ) → k < i → (get_or ranges k d).from ≤ from) → AreGone pairs test from cursor (marked_by new)
-  pub looks : AllPass pairs (is_in ranges) test → AreLooks before now old new (Some (0, 0)) cursor i
+pub record AreRangesGone (pairs : Pairs) (only : Option ℕ) (test : ℕ → Bool) (ranges : List Range) (i : ℕ) (cursor : Option (ℕ × ℕ)) (before now : ℕ) (old new : Marks) : Type 0 where
+  pub marks : AreMarkedFrom pairs (any_has only has_address test (take i ranges)) (in_chosen only test) (marked_by old) (marked_by new)
+  pub gone : (d : Range) (from : ℕ) → ((k : ℕ) → k < i → (get_or ranges k d).from ≤ from) → AreGone (chosen only pairs) test from cursor (marked_by new)
+  pub looks : AllPass (chosen only pairs) (is_in ranges) test → AreLooks before now old new (Some (0, 0)) cursor i
 
-pub ranges_start : (pairs : Pairs) (test : ℕ → Bool) (ranges : List Range) (before : ℕ) (old : Marks) → AreRangesGone pairs test ranges 0 (Some (0, 0)) before before old old
-ranges_start pairs test ranges before old = record {
-  marks = each_start pairs has_address test ranges (marked_by old);
+pub ranges_start : (pairs : Pairs) (only : Option ℕ) (test : ℕ → Bool) (ranges : List Range) (before : ℕ) (old : Marks) → AreRangesGone pairs only test ranges 0 (Some (0, 0)) before before old old
+ranges_start pairs only test ranges before old = record {
+  marks = each_start pairs only has_address test ranges (marked_by old);
   gone = λ d from low t a tight narrow above passed passes some. absurd (not_before t a passed);
   looks = λ all n found. (n, found, omega arith);
 }
@@ -83,20 +84,21 @@ ranges_start pairs test ranges before old = record {
     not_before : (t a : ℕ) → is_passed (Some (0, 0)) t a ≡ true → ⊥
     not_before t a h = grind (arith, nat_tests)
 
-pub ranges_more : (pairs : Pairs) (test : ℕ → Bool) (ranges : List Range) (i : ℕ) (d : Range) (cursor next : Option (ℕ × ℕ)) (before now after : ℕ) (old mid new : Marks)
+pub ranges_more : (pairs : Pairs) (only : Option ℕ) (test : ℕ → Bool) (ranges : List Range) (i : ℕ) (d : Range) (cursor next : Option (ℕ × ℕ)) (before now after : ℕ) (old mid new : Marks)
     → IsNonDecreasingBy (λ (range : Range). range.from) ranges
-    → AreRangesGone pairs test ranges i cursor before now old mid → i < length ranges
-    → (AreGone pairs test (get_or ranges i d).from cursor (marked_by mid)
-    → AreMarked pairs (at_address (λ a. has_address a (get_or ranges i d) && test a)) (marked_by mid) (marked_by new))
-    → (AreGone pairs test (get_or ranges i d).from cursor (marked_by mid) → AreGone pairs test (get_or ranges i d).from next (marked_by new))
-    → (AllPass pairs (λ a. has_address a (get_or ranges i d)) test → AreLooks now after mid new cursor next 1)
-    → AreRangesGone pairs test ranges (i + 1) next before after old new
-ranges_more pairs test ranges i d cursor next before now after old mid new rise so_far inside more gone looks = record {
+    → AreRangesGone pairs only test ranges i cursor before now old mid → i < length ranges
+    → (AreGone (chosen only pairs) test (get_or ranges i d).from cursor (marked_by mid)
+    → AreMarked pairs (in_chosen only (λ a. has_address a (get_or ranges i d) && test a)) (marked_by mid) (marked_by new))
+    → (AreGone (chosen only pairs) test (get_or ranges i d).from cursor (marked_by mid) → AreGone (chosen only pairs) test (get_or ranges i d).from next (marked_by new))
+    → (AllPass (chosen only pairs) (λ a. has_address a (get_or ranges i d)) test → AreLooks now after mid new cursor next 1)
+    → AreRangesGone pairs only test ranges (i + 1) next before after old new
+ranges_more pairs only test ranges i d cursor next before now after old mid new rise so_far inside more gone looks = record {
   marks =
-      each_more pairs has_address test ranges i d (marked_by old) (marked_by mid) (marked_by new) so_far.marks inside
-      (marked_as pairs (at_address (λ a. has_address a (get_or ranges i d) && test a)) (at_address (λ a. has_address a (get_or ranges i d) && test a))
-      (λ t a. has_address a (get_or ranges i d) && test a) (at_address test) (marked_by mid) (marked_by new) (more before_it)
-      (λ t a tight narrow s some. s) (λ t a s. right_of (has_address a (get_or ranges i d)) _ s));
+      each_more pairs only has_address test ranges i d (marked_by old) (marked_by mid) (marked_by new) so_far.marks inside
+      (marked_as pairs (in_chosen only (λ a. has_address a (get_or ranges i d) && test a)) (in_chosen only (λ a. has_address a (get_or ranges i d) && test a))
+      (in_chosen only (λ a. has_address a (get_or ranges i d) && test a)) (in_chosen only test) (marked_by mid) (marked_by new) (more before_it)
+      (λ t a tight narrow s some. s)
+      (λ t a s. and_true _ _ (left_of _ (has_address a (get_or ranges i d) && test a) s) (right_of (has_address a (get_or ranges i d)) _ (right_of (is_chosen only t) _ s))));
   gone = λ e from low t a tight narrow above passed passes some.
       gone before_it t a tight narrow
       (let begins : (get_or ranges i e).from ≤ from = low i (omega arith) in
@@ -111,18 +113,18 @@ ranges_more pairs test ranges i d cursor next before now after old mid new rise 
       (second.0, second.1, omega arith);
 }
   where
-    before_it : AreGone pairs test (get_or ranges i d).from cursor (marked_by mid)
+    before_it : AreGone (chosen only pairs) test (get_or ranges i d).from cursor (marked_by mid)
     before_it = so_far.gone d (get_or ranges i d).from (λ k below. rise k i d (omega arith) inside)
 
 -- at the end
-pub record AreAllGone (pairs : Pairs) (test : ℕ → Bool) (ranges : List Range) (before now : ℕ) (old new : Marks) : Type 0 where
-  pub ok : AreMarkedFrom pairs (at_address (λ a. is_in ranges a && test a)) (at_address test) (marked_by old) (marked_by new)
-  pub looks : AllPass pairs (is_in ranges) test → now + count_of old ≤ before + 2 * count_of new + length ranges
+pub record AreAllGone (pairs : Pairs) (only : Option ℕ) (test : ℕ → Bool) (ranges : List Range) (before now : ℕ) (old new : Marks) : Type 0 where
+  pub ok : AreMarkedFrom pairs (in_chosen only (λ a. is_in ranges a && test a)) (in_chosen only test) (marked_by old) (marked_by new)
+  pub looks : AllPass (chosen only pairs) (is_in ranges) test → now + count_of old ≤ before + 2 * count_of new + length ranges
 
-pub ranges_all : (pairs : Pairs) (test : ℕ → Bool) (ranges : List Range) (i : ℕ) (cursor : Option (ℕ × ℕ)) (before now : ℕ) (old new : Marks) → take i ranges ≡ ranges → i ≤ length ranges
-    → AreRangesGone pairs test ranges i cursor before now old new → AreAllGone pairs test ranges before now old new
-ranges_all pairs test ranges i cursor before now old new whole inside gone = record {
-  ok = subst (λ l. AreMarkedFrom pairs (any_has has_address test l) (at_address test) (marked_by old) (marked_by new)) whole gone.marks;
+pub ranges_all : (pairs : Pairs) (only : Option ℕ) (test : ℕ → Bool) (ranges : List Range) (i : ℕ) (cursor : Option (ℕ × ℕ)) (before now : ℕ) (old new : Marks) → take i ranges ≡ ranges → i ≤ length ranges
+    → AreRangesGone pairs only test ranges i cursor before now old new → AreAllGone pairs only test ranges before now old new
+ranges_all pairs only test ranges i cursor before now old new whole inside gone = record {
+  ok = subst (λ l. AreMarkedFrom pairs (any_has only has_address test l) (in_chosen only test) (marked_by old) (marked_by new)) whole gone.marks;
   looks = λ all.
       let last = gone.looks all 0 (record { places = []; many = refl; apart = IsDistinct-from_apart same_pair [] (λ i j d before short. absurd (omega arith)); all = tt }) in
       let few : last.0 ≤ count_of new = found_few new cursor last.0 last.1 in

@@ -1,6 +1,7 @@
 pub mod Touched
 pub mod Marks
 pub mod Marking
+pub mod OneTree
 pub mod Spots
 pub mod Pending
 pub mod Going

@@ -15,6 +15,6 @@ mod written;
 pub use mark::parent_of;
 pub use marks::{Marks, PairPlace};
 pub use moved::Move;
-pub use moves::moved_pairs;
+pub use moves::{moved_pairs, moved_pairs_of};
 pub use test::AddressTest;
 pub use written::touched_pairs;

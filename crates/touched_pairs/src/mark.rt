@@ -1,15 +1,16 @@
 //! The pairs of a table that are touched, with all that stand above them.
 
-ghost use Rattle.std.specs.Prelude.{◌≡◌, ◌+◌, ◌*◌, ◌<◌, ◌≤◌, ◌&&◌, Some, length, IfSome, IfOk, OnOk};
+ghost use Rattle.std.specs.Prelude.{◌≡◌, ℕ, ◌+◌, ◌*◌, ◌<◌, ◌≤◌, ◌&&◌, not, Some, length, IfSome, IfOk, OnOk};
 ghost use Rattle.std.specs.List.Sorted.{IsNonDecreasingBy};
 ghost use Rattle.recon_disk.specs.Outside.{counted};
-ghost use Rattle.live_index.specs.Pairs.{Stands};
+ghost use Rattle.live_index.specs.Pairs.{Stands, comes_before, is_above};
 ghost use Rattle.live_index.specs.Table.{pairs_of};
 ghost use Rattle.touched_pairs.specs.declared.range.Range.{Range as ARange};
 ghost use Rattle.touched_pairs.specs.Going.{AllPass, AreGone, AreLooks, IsFirst, IsNext, met, reached};
 ghost use Rattle.touched_pairs.specs.Marking.{AreMarked, AreMarkedFrom, parent_of};
 ghost use Rattle.touched_pairs.specs.Marks.{count_of, is_pair, marked_by};
-ghost use Rattle.touched_pairs.specs.Spots.{at_address, has_address, is_in};
+ghost use Rattle.touched_pairs.specs.OneTree.{chosen, in_chosen};
+ghost use Rattle.touched_pairs.specs.Spots.{has_address, is_in};
 
 use crate::marks::Marks;
 use crate::range::Range;
@@ -62,10 +63,12 @@ pub fn parent_of<L>(table: &LiveIndex<L>, live: &Live, steps: &mut Steps<L>) -> 
 }
 
 /// Marks the pairs of a table at the addresses of some ranges that pass a test, and all that stand above them in their trees. The ranges
-/// are in the order of where they begin. Each pair of the table is found at most once.
+/// are in the order of where they begin. Where a tree is given, it goes through that tree's pairs alone. Each pair of the
+/// table is found at most once.
 #[tactic(auto, using(crate::proofs::Ranges::ranges_start))]
 pub(crate) fn mark_ranges<L, T: AddressTest>(
     table: &LiveIndex<L>,
+    only: Option<u64>,
     test: &T,
     ranges: &[Range],
     marks: &mut Marks,
@@ -73,16 +76,16 @@ pub(crate) fn mark_ranges<L, T: AddressTest>(
 ) -> Result<(), NoMemory>
     requires { IsNonDecreasingBy (λ (range : ARange). range.from) ranges.now }
     ensures ok { OnOk result (AreMarkedFrom (pairs_of table.now)
-        (at_address (λ a. is_in ranges.now a && T.passes test.now a))
-        (at_address (T.passes test.now)) (marked_by marks.old) (marked_by marks.new)) }
+        (in_chosen only (λ a. is_in ranges.now a && T.passes test.now a))
+        (in_chosen only (T.passes test.now)) (marked_by marks.old) (marked_by marks.new)) }
     ensures looks { OnOk result (
-        AllPass (pairs_of table.now) (is_in ranges.now) (T.passes test.now) →
+        AllPass (chosen only (pairs_of table.now)) (is_in ranges.now) (T.passes test.now) →
         steps.new + count_of marks.old ≤
         steps.old + 2 * count_of marks.new + length ranges.now) }
 {
     let mut cursor: Option<(u64, u64)> = Some((0, 0));
     for range in ranges {
-        cursor = mark_range(table, test, range, cursor, marks, steps)?;
+        cursor = mark_range(table, only, test, range, cursor, marks, steps)?;
     }
     Ok(())
 }
@@ -90,6 +93,7 @@ pub(crate) fn mark_ranges<L, T: AddressTest>(
 // The same of those in one range that a cursor has not passed. It gives the cursor behind them.
 fn mark_range<L, T: AddressTest>(
     table: &LiveIndex<L>,
+    only: Option<u64>,
     test: &T,
     range: &Range,
     cursor: Option<(u64, u64)>,
@@ -97,22 +101,23 @@ fn mark_range<L, T: AddressTest>(
     steps: &mut Steps<L>,
 ) -> Result<Option<(u64, u64)>, NoMemory>
     ensures ok { IfOk result (λ _.
-        AreGone (pairs_of table.now) (T.passes test.now) range.now.from cursor
+        AreGone (chosen only (pairs_of table.now)) (T.passes test.now) range.now.from cursor
         (marked_by marks.old) →
         AreMarked (pairs_of table.now)
-        (at_address (λ a. has_address a range.now && T.passes test.now a))
+        (in_chosen only (λ a. has_address a range.now && T.passes test.now a))
         (marked_by marks.old) (marked_by marks.new)) }
     ensures gone { IfOk result (λ next.
-        AreGone (pairs_of table.now) (T.passes test.now) range.now.from cursor
+        AreGone (chosen only (pairs_of table.now)) (T.passes test.now) range.now.from cursor
         (marked_by marks.old) →
-        AreGone (pairs_of table.now) (T.passes test.now) range.now.from next
+        AreGone (chosen only (pairs_of table.now)) (T.passes test.now) range.now.from next
         (marked_by marks.new)) }
     ensures looks { IfOk result (λ next.
-        AllPass (pairs_of table.now) (λ a. has_address a range.now) (T.passes test.now) →
+        AllPass (chosen only (pairs_of table.now)) (λ a. has_address a range.now)
+        (T.passes test.now) →
         AreLooks steps.old steps.new marks.old marks.new cursor next 1) }
 {
     let mut at = reached(cursor, range.from);
-    while let Some(live) = first_from(table, at, steps) {
+    while let Some(live) = first_from(table, only, at, steps) {
         if live.address > range.last {
             return Ok(at);
         }
@@ -122,18 +127,35 @@ fn mark_range<L, T: AddressTest>(
     Ok(at)
 }
 
-// The first pair of a table that a cursor has not passed. It looks at most once into the table.
+// The first pair of a table that a cursor has not passed, or of the tree that is given. It looks at most once into the table.
+#[tactic(auto, using(crate::proofs::Choosing::firsts))]
 fn first_from<L>(
     table: &LiveIndex<L>,
+    only: Option<u64>,
     cursor: Option<(u64, u64)>,
     steps: &mut Steps<L>,
 ) -> Option<Live>
-    ensures value { IsFirst (pairs_of table.now) cursor result }
+    ensures value { IsFirst (chosen only (pairs_of table.now)) cursor result }
     ensures looks { steps.new ≤ steps.old + 1 }
 {
-    match cursor {
-        None => None,
-        Some((address, tree)) => table.at_or_after(address, tree, steps),
+    match (only, cursor) {
+        (_, None) => None,
+        (None, Some((address, tree))) => table.at_or_after(address, tree, steps),
+        (Some(one), Some((address, tree))) => {
+            table.next_of(one, last_passed(one, address, tree), steps)
+        }
+    }
+}
+
+// The greatest address at which a cursor, that stands at an address and a tree, has passed the pair of one tree. `None` where it has passed
+// none.
+fn last_passed(one: u64, address: u64, tree: u64) -> Option<u64>
+    ensures { (a : ℕ) → is_above result a ≡ not (comes_before a one address tree) }
+{
+    if one < tree {
+        Some(address)
+    } else {
+        address.checked_sub(1)
     }
 }
 

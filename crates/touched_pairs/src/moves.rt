@@ -7,6 +7,7 @@ ghost use Rattle.touched_pairs.specs.Looks.{ArePlaced};
 ghost use Rattle.touched_pairs.specs.Marking.{AreLow, AreMarkedFrom, HaveEach};
 ghost use Rattle.touched_pairs.specs.Marks.{count_of, marked_by, no_mark};
 ghost use Rattle.touched_pairs.specs.Moves.{AreApart, held_and_moved, is_moved};
+ghost use Rattle.touched_pairs.specs.OneTree.{chosen, in_chosen, in_tree, of_tree};
 ghost use Rattle.touched_pairs.specs.Spots.{at_address};
 
 use crate::leaving::ranges_left;
@@ -48,6 +49,65 @@ pub fn moved_pairs<L>(
         HaveEach (pairs_of table.now) (is_moved old.now new.now nodesize end) lives →
         count_of marks ≤ 8 * length lives) }
 {
+    marks_of_moves(alloc, table, None, old, new, nodesize, end, steps)
+}
+
+/// Marks as `moved_pairs` does, but of the pairs of one tree alone. Other trees' pairs at the same addresses are not marked, and cost no
+/// look: where each pair of the tree has a place, and no two chunks of a list overlap, it looks at most twice for each mark and for each
+/// old chunk, and once for each new chunk. Where the pairs are on levels below 8, there are at most eight marks for each pair of the tree
+/// of which the block moves.
+pub fn moved_pairs_of<L>(
+    alloc: Global,
+    table: &LiveIndex<L>,
+    tree: u64,
+    old: &ChunkMap,
+    new: &ChunkMap,
+    nodesize: u32,
+    end: u64,
+    steps: &mut Steps<L>,
+) -> Result<Marks, NoMemory>
+    ensures ok { AreApart new.now → 0 < nodesize → IfOk result (λ marks. AreMarkedFrom
+        (pairs_of table.now)
+        (in_tree tree (held_and_moved old.now new.now nodesize end))
+        (in_tree tree (is_moved old.now new.now nodesize end)) no_mark (marked_by marks)) }
+    ensures same { old.now ≡ new.now → steps.new ≡ steps.old }
+    ensures looks { IfOk result (λ marks.
+        ArePlaced (of_tree tree (pairs_of table.now)) old.now nodesize end →
+        AreApart old.now → AreApart new.now → 0 < nodesize →
+        steps.new ≤ steps.old + 2 * count_of marks + 2 * length old.now + length new.now) }
+    ensures few_marks { IfOk result (λ marks. AreLow (pairs_of table.now) → (lives : List Live) →
+        HaveEach (of_tree tree (pairs_of table.now))
+        (is_moved old.now new.now nodesize end) lives →
+        count_of marks ≤ 8 * length lives) }
+{
+    marks_of_moves(alloc, table, Some(tree), old, new, nodesize, end, steps)
+}
+
+// The marks on the pairs of the tree that is given whose block moves, or of all trees where none is, and on all that stand above them.
+fn marks_of_moves<L>(
+    alloc: Global,
+    table: &LiveIndex<L>,
+    only: Option<u64>,
+    old: &ChunkMap,
+    new: &ChunkMap,
+    nodesize: u32,
+    end: u64,
+    steps: &mut Steps<L>,
+) -> Result<Marks, NoMemory>
+    ensures ok { AreApart new.now → 0 < nodesize → IfOk result (λ marks. AreMarkedFrom
+        (pairs_of table.now)
+        (in_chosen only (held_and_moved old.now new.now nodesize end))
+        (in_chosen only (is_moved old.now new.now nodesize end)) no_mark (marked_by marks)) }
+    ensures same { old.now ≡ new.now → steps.new ≡ steps.old }
+    ensures looks { IfOk result (λ marks.
+        ArePlaced (chosen only (pairs_of table.now)) old.now nodesize end →
+        AreApart old.now → AreApart new.now → 0 < nodesize →
+        steps.new ≤ steps.old + 2 * count_of marks + 2 * length old.now + length new.now) }
+    ensures few_marks { IfOk result (λ marks. AreLow (pairs_of table.now) → (lives : List Live) →
+        HaveEach (chosen only (pairs_of table.now))
+        (is_moved old.now new.now nodesize end) lives →
+        count_of marks ≤ 8 * length lives) }
+{
     let mut marks = Marks::new(alloc);
     let test = Move::new(old, new, nodesize, end);
     if test.is_same {
@@ -55,7 +115,7 @@ pub fn moved_pairs<L>(
         return Ok(marks);
     }
     let ranges = ranges_left(alloc, &test)?;
-    mark_ranges(table, &test, ranges.as_slice(), &mut marks, steps)?;
+    mark_ranges(table, only, &test, ranges.as_slice(), &mut marks, steps)?;
     marks.count_law();
     Ok(marks)
 }

@@ -58,6 +58,6 @@ pub fn touched_pairs<L>(
         end,
     };
     let ranges = ranges_of(alloc, &pending)?;
-    mark_ranges(table, &pending, ranges.as_slice(), &mut marks, steps)?;
+    mark_ranges(table, None, &pending, ranges.as_slice(), &mut marks, steps)?;
     Ok(marks)
 }

@@ -26,6 +26,7 @@ use Rattle.touched_pairs.specs.Marking.{AreMarkedFrom}
 use Rattle.touched_pairs.specs.Marks.{marked_by, no_mark}
 use Rattle.touched_pairs.specs.Moves.{held_and_moved, is_moved, move_passes}
 use Rattle.touched_pairs.specs.declared.moved.Move.{Move}
+use Rattle.touched_pairs.specs.OneTree.{in_tree}
 use Rattle.touched_pairs.specs.Spots.{at_address}
 use Rattle.touched_pairs.specs.Touched.{touches_block, written_in}
 use Rattle.shared_trees.specs.ArrayLaw.{HasArray}
@@ -46,7 +47,7 @@ use Rattle.tree_change.specs.declared.sides.Sides.{Sides}
 use Rattle.tree_change.specs.declared.trees.TreeParts.{TreeParts}
 use Rattle.tree_change.proofs.Chunks.{chunks_found, chunks_made}
 use Rattle.tree_change.proofs.EachTree.{one_tree}
-use Rattle.tree_change.proofs.Knowing.{AreMovedBy, AreTouched, known_of, knows_chunk_tree}
+use Rattle.tree_change.proofs.Knowing.{IsMovedBy, AreTouched, known_of, knows_chunk_tree}
 
 -- a step that stops for want of chunks tells the finding of the new chunk map
 pub refused : {D L : Type 0} (disk : Ghosts D) (old new : D) (some all : TreeParts) (both : Compared L) (array : List Chunk)
@@ -102,8 +103,8 @@ module _ {L : Type 0} (both : Compared L) (array old_array some : List Chunk) (m
 
   abbrev pub AreMoving : Type 0
   AreMoving =
-      AreMarkedFrom (pairs_of both.kept.now) (at_address (held_and_moved old_array some both.was.sup.now.nodesize both.was.end))
-      (at_address (is_moved old_array some both.was.sup.now.nodesize both.was.end)) no_mark moving
+      AreMarkedFrom (pairs_of both.kept.now) (in_tree 3 (held_and_moved old_array some both.was.sup.now.nodesize both.was.end))
+      (in_tree 3 (is_moved old_array some both.was.sup.now.nodesize both.was.end)) no_mark moving
 
   pub array_known : (fit : FitsCompared both end) (image : List ℕ) (is : IsCompared both image)
       → array_chunks (array_place both.was.sup.now) both.was.sup.now.array both.was.sup.now.array_size ≡ Ok old_array
@@ -140,11 +141,11 @@ module _ {L : Type 0} (both : Compared L) (array old_array some : List Chunk) (m
           (subst (λ sup. P (pairs_of both.table.now) sup both.was.map.now both.was.end) based.super_is
           (subst (λ pairs. P pairs both.was.sup.now both.was.map.now both.was.end) kept fit.marked)))
 
-      moves : (pairs_of both.kept.now ≡ pairs_of both.table.now) → AreMovedBy image old old_array some (pairs_of both.table.now) moving
+      moves : (pairs_of both.kept.now ≡ pairs_of both.table.now) → IsMovedBy image old old_array some (pairs_of both.table.now) moving
       moves kept =
           let P = λ (pairs : Pairs) (sup : Super) (n : ℕ).
-          AreMarkedFrom pairs (at_address (held_and_moved old_array some sup.nodesize n))
-          (at_address (is_moved old_array some sup.nodesize n)) no_mark moving in
+          AreMarkedFrom pairs (in_tree 3 (held_and_moved old_array some sup.nodesize n))
+          (in_tree 3 (is_moved old_array some sup.nodesize n)) no_mark moving in
           subst (λ n. P (pairs_of both.table.now) old.sup n) is.end
           (subst (λ sup. P (pairs_of both.table.now) sup both.was.end) based.super_is
           (subst (λ pairs. P pairs both.was.sup.now both.was.end) kept moved))

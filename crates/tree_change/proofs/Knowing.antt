@@ -1,5 +1,5 @@
 -- What the calls promise that mark and list by the table of the old pairs is what is known of the old trees.
-use Rattle.std.proofs.Common.{◌≡◌, ℕ, ◌⊎◌, inl, inr, true, not, ◌&&◌, List, length, refl, ap, sym, ◌∙◌}
+use Rattle.std.proofs.Common.{◌≡◌, ℕ, ◌⊎◌, inl, inr, true, not, ◌==◌, ◌&&◌, List, length, refl, ap, sym, ◌∙◌}
 use Rattle.std.specs.Prelude.{Some, is_some}
 use Rattle.std.specs.Ordering.{nat_cmp}
 use Rattle.std.specs.FinMap.{FinMap}
@@ -11,6 +11,7 @@ use Rattle.records.specs.Contents.{chunk_tree_root}
 use Rattle.touched_pairs.specs.Marking.{AreMarkedFrom, ClimbsTo}
 use Rattle.touched_pairs.specs.Marks.{Marked, no_mark}
 use Rattle.touched_pairs.specs.Moves.{held_and_moved, is_moved}
+use Rattle.touched_pairs.specs.OneTree.{in_tree}
 use Rattle.touched_pairs.specs.Spots.{at_address}
 use Rattle.touched_pairs.specs.Touched.{same_place, written_in}
 use Rattle.shared_trees.specs.ArrayLaw.{HasArray}
@@ -80,6 +81,12 @@ AreMovedBy image old before after pairs moving =
     AreMarkedFrom pairs (at_address (held_and_moved before after old.sup.nodesize (length image)))
     (at_address (is_moved before after old.sup.nodesize (length image))) no_mark moving
 
+-- the same of the chunk tree alone, which is tree 3
+abbrev pub IsMovedBy : List ℕ → Walked → List Chunk → List Chunk → Pairs → Marks → Type 0
+IsMovedBy image old before after pairs moving =
+    AreMarkedFrom pairs (in_tree 3 (held_and_moved before after old.sup.nodesize (length image)))
+    (in_tree 3 (is_moved before after old.sup.nodesize (length image))) no_mark moving
+
 -- all old trees are known
 pub knows_trees : (image : List ℕ) (pending : FinMap nat_cmp ℕ) (old : Walked) (trees : List Tree) (pairs : Pairs) (marked moving : Marks)
     (under : Under) (is : Side) → AreNarrow pairs → HasTrees image old trees
@@ -97,7 +104,7 @@ pub knows_chunk_tree : (image : List ℕ) (pending : FinMap nat_cmp ℕ) (old : 
     → ((tree address : ℕ) → pairs tree address ≡ table_of (live_in old.seen) tree address) → are_read_alike old.sup is.sup ≡ true
     → AreTouched image pending old pairs marked
     → ((address : ℕ) → place some address old.sup.nodesize (length image) ≡ place is.chunks address old.sup.nodesize (length image))
-    → AreMovedBy image old old_array some pairs moving → AreListedBy pairs moving under
+    → IsMovedBy image old old_array some pairs moving → AreListedBy pairs moving under
     → KnowsTree image pending old is (known_of image old pairs marked under is) (Some (chunk_tree_root old.sup))
 knows_chunk_tree image pending old olds old_array some pairs marked moving under is narrow has_array has pairs_are alike touched same moved listed =
     let trees = trees_in old.sup old.chunks old.chunks olds image in
@@ -106,11 +113,11 @@ knows_chunk_tree image pending old olds old_array some pairs marked moving under
     let end = length image in
     let test = at_address (touches_old old (written_in pending) end) in
     let all = marks_image image old trees pairs test test marked narrow has pairs_are (λ id address some is. is) touched in
-    let by_array : AreMovedBy image old old_array is.chunks pairs moving =
-    marked_as pairs (at_address (held_and_moved old_array some n end)) (at_address (is_moved old_array some n end))
-    (at_address (held_and_moved old_array is.chunks n end)) (at_address (is_moved old_array is.chunks n end)) no_mark moving
-    (λ id address. held_as old_array some is.chunks n end address (same address))
-    (λ id address. moved_as old_array some is.chunks n end address (same address)) moved in
+    let by_array : IsMovedBy image old old_array is.chunks pairs moving =
+    marked_as pairs (in_tree 3 (held_and_moved old_array some n end)) (in_tree 3 (is_moved old_array some n end))
+    (in_tree 3 (held_and_moved old_array is.chunks n end)) (in_tree 3 (is_moved old_array is.chunks n end)) no_mark moving
+    (λ id address. ap (λ b. id == 3 && b) (held_as old_array some is.chunks n end address (same address)))
+    (λ id address. ap (λ b. id == 3 && b) (moved_as old_array some is.chunks n end address (same address))) moved in
     record {
       alike = alike;
       pairs_are = pairs_are;

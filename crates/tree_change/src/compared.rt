@@ -15,7 +15,7 @@ use chunk_map::ChunkMap;
 use recon_disk::{Disk, Steps};
 use shared_trees::Starts;
 use std::alloc::Global;
-use touched_pairs::{Move, moved_pairs};
+use touched_pairs::{Move, moved_pairs, moved_pairs_of};
 
 /// The new chunks, by what changes in the chunk tree, which is put behind other parts. The new chunk tree is read by these chunks of
 /// the new system array.
@@ -44,7 +44,7 @@ pub(crate) fn change_map<D: Disk, L>(
     }
     let old_array = system_chunks(alloc, both.was.sup)?;
     let some = distinct_chunks(alloc, array)?;
-    let moving = moved_pairs(alloc, both.kept, &old_array, &some, nodesize, end, steps)?;
+    let moving = moved_pairs_of(alloc, both.kept, 3, &old_array, &some, nodesize, end, steps)?;
     let starts = Starts::listed(alloc, both.kept, &moving, steps)?;
     let moves = Move::new(both.was.map, array, nodesize, end);
     let sides = Sides {
