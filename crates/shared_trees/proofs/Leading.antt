@@ -58,7 +58,7 @@ some_start : (level : ℕ) (e : Expect) (address : ℕ) (starts : List Start) �
 some_start level e address [] any = absurd (cc)
 some_start level e address (start ∷ starts) any = omega arith
 
-module _ (pairs : Pairs) (moving : Marks) (held moved : ℕ → Bool) (under : Under) (are : AreMoving pairs moving held moved under) where
+module _ (pairs : Pairs) (moving held went : Marks) (moved : ℕ → Bool) (under : Under) (are : AreMoving pairs moving held went moved under) where
   closed : (tree address : ℕ) (live up : Live) → moving tree address ≡ true → pairs tree address ≡ Some live → parent_of pairs tree live ≡ Some up
       → moving tree live.parent ≡ true
   closed = are.marks.closed (λ t a l u none. absurd (cc))
@@ -93,13 +93,13 @@ module _ (pairs : Pairs) (moving : Marks) (held moved : ℕ → Bool) (under : U
           not_both b is not = cc
       end from went (inr has) = has
 
-      by : (no_mark tree address ≡ true) ⊎ ((from : ℕ) × (moved from ≡ true) × (is_some (pairs tree from) ≡ true) × ClimbsTo pairs tree address from)
+      by : (no_mark tree address ≡ true) ⊎ ((from : ℕ) × (went tree from ≡ true) × (is_some (pairs tree from) ≡ true) × ClimbsTo pairs tree address from)
           → HasChild tree address
       by (inl none) = absurd (cc)
       by (inr found) =
           let narrow = are.narrow tree found.0 found.2 in
           let first = are.marks.found tree found.0 narrow.0 narrow.1 (are.must tree found.0 found.2 found.1) found.2 in
-          end found.0 found.1 (last_step tree address found.0 found.3 first)
+          end found.0 (are.gone tree found.0 found.1) (last_step tree address found.0 found.3 first)
 
   led : (kept : Kept) → IsAtRest pairs moved under kept → LeadsOn kept (anew_of under)
   led kept rest e last is = each_led (under e.tree e.address) (are.listed e.tree e.address).each
@@ -145,8 +145,8 @@ known_rest pairs marked moved under e last is =
     (or_false (marked e.tree e.address) (moved e.address) parts.0, parts.1)
 
 pub leading : LeadsLaw
-leading pairs marked moving held moved under are =
-    led pairs moving held moved under are (kept_of pairs marked moved under) (known_rest pairs marked moved under)
+leading pairs marked moving held went moved under are =
+    led pairs moving held went moved under are (kept_of pairs marked moved under) (known_rest pairs marked moved under)
 
 -- a block at the address of a stop did not move
 stop_rest : (moved : ℕ → Bool) (stops : List Expect) (address : ℕ) → AreAtRest moved stops → is_stop stops address ≡ true → moved address ≡ false
@@ -165,8 +165,8 @@ at_rest pairs moved under stops rest e last is =
     (stop_rest moved stops e.address rest parts.0, parts.1)
 
 pub old_leading : OldLeadsLaw
-old_leading pairs moving held moved under stops are rest =
-    led pairs moving held moved under are (kept_at pairs stops under) (at_rest pairs moved under stops rest)
+old_leading pairs moving held went moved under stops are rest =
+    led pairs moving held went moved under are (kept_at pairs stops under) (at_rest pairs moved under stops rest)
 
 among_rest : (pairs : Pairs) (moved test : ℕ → Bool) (under : Under) (stops : List Expect) → AreAtRest moved stops
     → ((address : ℕ) → test address ≡ is_stop stops address) → IsAtRest pairs moved under (kept_among pairs test under)
@@ -176,8 +176,8 @@ among_rest pairs moved test under stops rest same e last is =
     (stop_rest moved stops e.address rest (sym (same e.address) ∙ parts.0), parts.1)
 
 pub among_leading : AmongLeadsLaw
-among_leading pairs moving held moved test under stops are rest same =
-    led pairs moving held moved under are (kept_among pairs test under) (among_rest pairs moved test under stops rest same)
+among_leading pairs moving held went moved test under stops are rest same =
+    led pairs moving held went moved under are (kept_among pairs test under) (among_rest pairs moved test under stops rest same)
 
 -- what holds of each kept block holds of each stop
 module _ (P : Expect → Type 0) (kept : Kept) (anew : Anew) (sup : Super) (stored : Stored) (all : (e : Expect) (last : Key) → kept e ≡ Some last → P e) where

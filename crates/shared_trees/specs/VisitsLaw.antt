@@ -11,7 +11,6 @@ use Rattle.records.specs.Seen.{Seen}
 use Rattle.records.specs.Seen.Seen.{BlockSeen}
 use Rattle.touched_pairs.specs.Marking.{AreMarkedFrom}
 use Rattle.touched_pairs.specs.Marks.{no_mark}
-use Rattle.touched_pairs.specs.Spots.{at_address}
 use Rattle.shared_trees.specs.Keeping.{Marks, Under, anew_of, kept_of}
 use Rattle.shared_trees.specs.Listed.{AreListedBy}
 use Rattle.shared_trees.specs.OldSide.{kept_at}
@@ -60,18 +59,19 @@ VisitsLaw = (kept : Kept) (anew : Anew) (sup : Super) (stored : Stored) (e : Exp
     → LeadsOn kept anew → skip_of kept nothing anew sup stored e ≡ Ok records
     → visits_of kept anew sup stored e ≤ 1 + entries_seen stored records + e.level * blocks_seen records
 
--- Of each block the marked children are listed, and pairs are marked from those that moved on up: each pair that moved must be marked.
--- The id of a tree and an address have 64 bits.
-pub record AreMoving (pairs : Pairs) (moving : Marks) (held moved : ℕ → Bool) (under : Under) : Type 0 where
+-- Of each block the marked children are listed, and pairs are marked from those that went on up: of these the blocks moved, and each must be
+-- marked. The id of a tree and an address have 64 bits.
+pub record AreMoving (pairs : Pairs) (moving held went : Marks) (moved : ℕ → Bool) (under : Under) : Type 0 where
   pub narrow : AreNarrow pairs
-  pub marks : AreMarkedFrom pairs (at_address held) (at_address moved) no_mark moving
-  pub must : (tree address : ℕ) → is_some (pairs tree address) ≡ true → moved address ≡ true → held address ≡ true
+  pub marks : AreMarkedFrom pairs held went no_mark moving
+  pub gone : (tree address : ℕ) → went tree address ≡ true → moved address ≡ true
+  pub must : (tree address : ℕ) → is_some (pairs tree address) ≡ true → went tree address ≡ true → held tree address ≡ true
   pub listed : AreListedBy pairs moving under
 
 -- where blocks are kept by what is known of a tree as it was, each block that is walked below a kept one leads on
 abbrev pub LeadsLaw : Type 0
-LeadsLaw = (pairs : Pairs) (marked moving : Marks) (held moved : ℕ → Bool) (under : Under)
-    → AreMoving pairs moving held moved under → LeadsOn (kept_of pairs marked moved under) (anew_of under)
+LeadsLaw = (pairs : Pairs) (marked moving held went : Marks) (moved : ℕ → Bool) (under : Under)
+    → AreMoving pairs moving held went moved under → LeadsOn (kept_of pairs marked moved under) (anew_of under)
 
 -- no stop has moved
 abbrev pub AreAtRest : (ℕ → Bool) → List Expect → Type 0
@@ -79,13 +79,13 @@ AreAtRest moved stops = AllByRecursion (λ s. moved s.address ≡ false) stops
 
 -- the same, where blocks are kept at stops of which none has moved
 abbrev pub OldLeadsLaw : Type 0
-OldLeadsLaw = (pairs : Pairs) (moving : Marks) (held moved : ℕ → Bool) (under : Under) (stops : List Expect)
-    → AreMoving pairs moving held moved under → AreAtRest moved stops → LeadsOn (kept_at pairs stops under) (anew_of under)
+OldLeadsLaw = (pairs : Pairs) (moving held went : Marks) (moved : ℕ → Bool) (under : Under) (stops : List Expect)
+    → AreMoving pairs moving held went moved under → AreAtRest moved stops → LeadsOn (kept_at pairs stops under) (anew_of under)
 
 -- the same, where just the addresses of these stops pass a test
 abbrev pub AmongLeadsLaw : Type 0
-AmongLeadsLaw = (pairs : Pairs) (moving : Marks) (held moved test : ℕ → Bool) (under : Under) (stops : List Expect)
-    → AreMoving pairs moving held moved under → AreAtRest moved stops → ((address : ℕ) → test address ≡ is_stop stops address)
+AmongLeadsLaw = (pairs : Pairs) (moving held went : Marks) (moved test : ℕ → Bool) (under : Under) (stops : List Expect)
+    → AreMoving pairs moving held went moved under → AreAtRest moved stops → ((address : ℕ) → test address ≡ is_stop stops address)
     → LeadsOn (kept_among pairs test under) (anew_of under)
 
 -- no stop has moved, where blocks are kept by what is known of a tree as it was
