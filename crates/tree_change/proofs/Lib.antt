@@ -51,3 +51,6 @@ pub mod ByMap
 pub mod Comparing
 pub mod Readable
 pub mod Differing
+pub mod Copies
+pub mod Levels
+pub mod Accepting

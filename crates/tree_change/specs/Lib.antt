@@ -13,3 +13,4 @@ pub mod Making
 pub mod Merges
 pub mod Distinct
 pub mod Compared
+pub mod Accepted

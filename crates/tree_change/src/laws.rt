@@ -1,5 +1,6 @@
 //! Laws of what changes in trees. Each stands on a function that does nothing.
 
+ghost use Rattle.tree_change.specs.Accepted.{AcceptedLaw};
 ghost use Rattle.tree_change.specs.AllTrees.{AllTreesLaw, GoneLaw, NamedLaw};
 ghost use Rattle.tree_change.specs.OneTree.{OneTreeLaw};
 
@@ -21,4 +22,11 @@ pub fn gone_trees_law()
 /// What changes in each tree of an image is all that changes.
 pub fn all_trees_law()
     ensures { AllTreesLaw }
+{}
+
+/// In an image whose walks have no finding no two chunks overlap, no two copies of chunks overlap on the device, and each live pair has a
+/// place and is on a level below 8. No pair is shared with another image that pending writes touch, or that is above one, or of which the
+/// block moved.
+pub fn accepted_law()
+    ensures { AcceptedLaw }
 {}

@@ -20,6 +20,6 @@ mod walks;
 
 pub use change::{Change, Diff};
 pub use differ::{are_read_alike, difference};
-pub use laws::{all_trees_law, gone_trees_law, named_law, one_tree_law};
+pub use laws::{accepted_law, all_trees_law, gone_trees_law, named_law, one_tree_law};
 pub use merge::merge_roots;
 pub use path::{Path, PathStep};
