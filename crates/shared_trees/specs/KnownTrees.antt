@@ -1,5 +1,6 @@
 -- Which blocks are kept by what is known of a tree as it was.
 use Rattle.std.specs.Prelude.{ℕ, Bool, Some}
+use Rattle.std.specs.Borrow.{GName}
 use Rattle.live_index.specs.Pairs.{Pairs}
 use Rattle.live_index.specs.Table.{pairs_of}
 use Rattle.touched_pairs.specs.Marks.{marked_by}
@@ -45,3 +46,7 @@ looks_by known = known.steps.now
 -- the pair of a block is at hand where it is the one that the table gave last
 abbrev pub ready_by : {L : Type 0} → KnownTree L → Expect → Bool
 ready_by known = is_found known.found
+
+-- which loan the counter is
+abbrev pub loan_by : {L : Type 0} → KnownTree L → GName
+loan_by known = known.steps.ghost_name

@@ -1,4 +1,5 @@
 -- Which blocks the walk of a tree as it was keeps: those at its stops.
+use Rattle.std.specs.Borrow.{GName}
 use Rattle.std.specs.Prelude.{ℕ, Bool, true, None}
 use Rattle.live_index.specs.Pairs.{Pairs}
 use Rattle.live_index.specs.Table.{pairs_of}
@@ -46,3 +47,7 @@ looks_by_stops old = old.steps.now
 -- to meet a block and to tell its greatest key takes no look
 abbrev pub always_ready : {L : Type 0} → OldTree L → Expect → Bool
 always_ready old e = true
+
+-- which loan the counter is
+abbrev pub loan_by_stops : {L : Type 0} → OldTree L → GName
+loan_by_stops old = old.steps.ghost_name

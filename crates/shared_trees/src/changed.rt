@@ -49,6 +49,7 @@ pub fn walk_changed<D: Disk, K: Keeps, T: Taker>(
     ensures kept { IsKept D.Disk disk.old disk.new (is_disk_halt result) }
     ensures same { OnOk result (K.keeps keeps.new ≡ K.keeps keeps.old) }
     ensures same_anew { OnOk result (K.anew keeps.new ≡ K.anew keeps.old) }
+    ensures same_loan { K.loan keeps.new ≡ K.loan keeps.old }
     ensures same_pairs { OnOk result (K.pairs keeps.new ≡ K.pairs keeps.old) }
     ensures met { OnOk result (
         Meets (D.bytes disk.old) source.now.cache.now (K.met keeps.old) (K.met keeps.new)
@@ -114,6 +115,7 @@ fn walk_keeping<D: Disk, K: Keeps, T: Taker>(
         source.now.sup.now source.now.map.now e.now)) }
     ensures same_pairs { K.pairs keeps.new ≡ K.pairs keeps.old }
     ensures same_lasts { K.lasts keeps.new ≡ K.lasts keeps.old }
+    ensures same_loan { K.loan keeps.new ≡ K.loan keeps.old }
     ensures ended { IfOk result (λ last.
         HoldsLast (D.bytes disk.old) source.now.cache.now (K.ended keeps.old)
         (K.ended keeps.new) last
@@ -175,6 +177,7 @@ fn end_kept<K: Keeps>(
     ensures same_met { K.met keeps.new ≡ K.met keeps.old }
     ensures same_pairs { K.pairs keeps.new ≡ K.pairs keeps.old }
     ensures same_lasts { K.lasts keeps.new ≡ K.lasts keeps.old }
+    ensures same_loan { K.loan keeps.new ≡ K.loan keeps.old }
     ensures looks { K.looks keeps.new ≡ K.looks keeps.old }
 {
     let last = known.unwrap_or(below);

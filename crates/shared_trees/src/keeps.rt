@@ -1,6 +1,7 @@
 //! What says which blocks a walk keeps.
 
 ghost use Rattle.std.specs.Prelude.{◌≡◌, ℕ, Bool, true, ◌+◌, ◌-◌, ◌<◌, ◌≤◌, ◌∷◌, [], length, drop, IfSome, OnOk};
+ghost use Rattle.std.specs.Borrow.{GName};
 ghost use Rattle.live_index.specs.Pairs.{Pairs};
 ghost use Rattle.node_reader.specs.declared.expect.Expect.{Expect};
 ghost use Rattle.shared_trees.specs.Ending.{Held, Lasts, with_ended};
@@ -45,6 +46,8 @@ pub trait Keeps {
     ghost ended: { Self → Held };
     /// How many looks into a table of live pairs were counted so far.
     ghost looks: { Self → ℕ };
+    /// Which loan the counter is of these looks: it stays the one that was lent.
+    ghost loan: { Self → GName };
     /// Whether what is known of a block is at hand, with no look.
     ghost ready: { Self → Expect → Bool };
 
@@ -56,6 +59,7 @@ pub trait Keeps {
         ensures same_met { met self.new ≡ met self.old }
         ensures same_pairs { pairs self.new ≡ pairs self.old }
         ensures same_lasts { lasts self.new ≡ lasts self.old }
+        ensures same_loan { loan self.new ≡ loan self.old }
         ensures same_ended { ended self.new ≡ ended self.old }
         ensures looks { looks self.new ≤ looks self.old + 3 }
         ensures ready { IfSome result (λ _. ready self.new e.now ≡ true) };
@@ -67,6 +71,7 @@ pub trait Keeps {
         ensures same_anew { anew self.new ≡ anew self.old }
         ensures same_pairs { pairs self.new ≡ pairs self.old }
         ensures same_lasts { lasts self.new ≡ lasts self.old }
+        ensures same_loan { loan self.new ≡ loan self.old }
         ensures same_ended { ended self.new ≡ ended self.old }
         ensures looks { ready self.old e.now ≡ true → looks self.new ≡ looks self.old }
         ensures ready { ready self.old e.now ≡ true → ready self.new e.now ≡ true };
@@ -85,6 +90,7 @@ pub trait Keeps {
         ensures same_met { met self.new ≡ met self.old }
         ensures same_pairs { pairs self.new ≡ pairs self.old }
         ensures same_lasts { lasts self.new ≡ lasts self.old }
+        ensures same_loan { loan self.new ≡ loan self.old }
         ensures same_ended { ended self.new ≡ ended self.old }
         ensures looks { looks self.new ≡ looks self.old };
 
@@ -96,6 +102,7 @@ pub trait Keeps {
         ensures same_met { met self.new ≡ met self.old }
         ensures same_pairs { pairs self.new ≡ pairs self.old }
         ensures same_lasts { lasts self.new ≡ lasts self.old }
+        ensures same_loan { loan self.new ≡ loan self.old }
         ensures same_ended { ended self.new ≡ ended self.old }
         ensures looks { ready self.old e.now ≡ true → looks self.new ≡ looks self.old };
 
@@ -109,5 +116,6 @@ pub trait Keeps {
         ensures same_met { met self.new ≡ met self.old }
         ensures same_pairs { pairs self.new ≡ pairs self.old }
         ensures same_lasts { lasts self.new ≡ lasts self.old }
+        ensures same_loan { loan self.new ≡ loan self.old }
         ensures looks { looks self.new ≡ looks self.old };
 }

@@ -59,6 +59,7 @@ impl<'a, 's, L> KnownTree<'a, 's, L> {
         ensures starts { self.new.starts.now ≡ self.old.starts.now }
         ensures met { self.new.met ≡ self.old.met }
         ensures ended { self.new.ended ≡ self.old.ended }
+        ensures loan { self.new.steps.ghost_name ≡ self.old.steps.ghost_name }
         ensures looks { self.new.steps.now ≤ self.old.steps.now + 3 }
         ensures found { IfSome result (λ _. is_found self.new.found e.now ≡ true) }
         ensures again { is_found self.old.found e.now ≡ true
@@ -83,6 +84,7 @@ impl<'a, 's, L> KnownTree<'a, 's, L> {
         ensures starts { self.new.starts.now ≡ self.old.starts.now }
         ensures met { self.new.met ≡ self.old.met }
         ensures ended { self.new.ended ≡ self.old.ended }
+        ensures loan { self.new.steps.ghost_name ≡ self.old.steps.ghost_name }
         ensures looks { self.new.steps.now ≤ self.old.steps.now + 3 }
         ensures own { IfSome result (λ live.
             (live.tree ≡ (e.now).tree) × (live.address ≡ (e.now).address)) }
@@ -101,7 +103,7 @@ impl<'a, 's, L> KnownTree<'a, 's, L> {
 }
 
 impl<'a, 's, L> Keeps for KnownTree<'a, 's, L> {
-    ghost use Rattle.shared_trees.specs.KnownTrees.{ended_by, kept_by, lasts_by, listed_by, looks_by, met_by, pairs_by, ready_by};
+    ghost use Rattle.shared_trees.specs.KnownTrees.{ended_by, kept_by, lasts_by, listed_by, loan_by, looks_by, met_by, pairs_by, ready_by};
 
     ghost keeps = { kept_by };
 
@@ -116,6 +118,8 @@ impl<'a, 's, L> Keeps for KnownTree<'a, 's, L> {
     ghost ended = { ended_by };
 
     ghost looks = { looks_by };
+
+    ghost loan = { loan_by };
 
     ghost ready = { ready_by };
 

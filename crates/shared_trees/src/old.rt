@@ -34,7 +34,7 @@ pub struct OldTree<'a, 's, 'm, L> {
 }
 
 impl<'a, 's, 'm, L> Keeps for OldTree<'a, 's, 'm, L> {
-    ghost use Rattle.shared_trees.specs.OldTrees.{always_ready, kept_by_stops, listed_by_stops, looks_by_stops, none_ended, none_last, none_met, pairs_by_stops};
+    ghost use Rattle.shared_trees.specs.OldTrees.{always_ready, kept_by_stops, listed_by_stops, loan_by_stops, looks_by_stops, none_ended, none_last, none_met, pairs_by_stops};
 
     ghost keeps = { kept_by_stops };
 
@@ -49,6 +49,8 @@ impl<'a, 's, 'm, L> Keeps for OldTree<'a, 's, 'm, L> {
     ghost ended = { none_ended };
 
     ghost looks = { looks_by_stops };
+
+    ghost loan = { loan_by_stops };
 
     ghost ready = { always_ready };
 

@@ -34,6 +34,7 @@ loop-i-init g t c = record {
       (g.K.Keeps.met c.args.keeps.now) (g.K.Keeps.met c.kept.new.self) (sym c.kept.ensures.value ∙ c.in_default.is) c.if-e-eq0-2.false c.in_ok-block.ensures.gives c.kept.ensures.same_met;
   same_pairs = c.kept.ensures.same_pairs;
   same_lasts = c.kept.ensures.same_lasts;
+  same_loan = c.kept.ensures.same_loan;
   ended = ends_start (g.K.Keeps.keeps c.args.keeps.now) (g.K.Keeps.anew c.args.keeps.now) (g.K.Keeps.lasts c.args.keeps.now) (g.D.Disk.bytes c.args.disk.now) c.args.source.now.cache.now c.args.source.now.sup.now c.args.source.now.map.now c.args.e.now.level (children_of (c.args.e.now.level - 1) c.args.e.now (pointers_from c.in_ok-block.block 0)) (g.K.Keeps.ended c.args.keeps.now) (g.K.Keeps.ended c.kept.new.self) _ c.kept.ensures.same_ended c.none-last-2.ensures;
   looks = read_looks (g.K.Keeps.keeps c.args.keeps.now) (g.K.Keeps.anew c.args.keeps.now) (g.D.Disk.bytes c.args.disk.now) c.args.source.now.cache.now c.args.source.now.sup.now c.args.source.now.map.now c.args.e.now c.in_ok-block.block (g.K.Keeps.looks c.args.keeps.now) (g.K.Keeps.looks c.kept.new.self)
       (sym c.kept.ensures.value ∙ c.in_default.is) c.if-e-eq0-2.false c.in_ok-block.ensures.gives c.kept.ensures.looks;
@@ -87,6 +88,7 @@ loop-place-init g t c = record {
       (c.last-known.ensures.same_met ∙ c.in_ok-meet.ensures.met ∙ ap (λ m. with_met m (c.args.e.now ∷ [])) c.kept.ensures.same_met);
   same_pairs = c.last-known.ensures.same_pairs ∙ c.in_ok-meet.ensures.same_pairs ∙ c.kept.ensures.same_pairs;
   same_lasts = c.last-known.ensures.same_lasts ∙ c.in_ok-meet.ensures.same_lasts ∙ c.kept.ensures.same_lasts;
+  same_loan = c.last-known.ensures.same_loan ∙ c.in_ok-meet.ensures.same_loan ∙ c.kept.ensures.same_loan;
   ended = ends_start (g.K.Keeps.keeps c.args.keeps.now) (g.K.Keeps.anew c.args.keeps.now) (g.K.Keeps.lasts c.args.keeps.now) (g.D.Disk.bytes c.args.disk.now) c.args.source.now.cache.now c.args.source.now.sup.now c.args.source.now.map.now c.args.e.now.level (g.K.Keeps.anew c.args.keeps.now c.args.e.now) (g.K.Keeps.ended c.args.keeps.now) (g.K.Keeps.ended c.last-known.new.self) _
       (c.last-known.ensures.same_ended ∙ c.in_ok-meet.ensures.same_ended ∙ c.kept.ensures.same_ended) c.none-last.ensures;
   looks = node_looks (g.K.Keeps.keeps c.args.keeps.now) (g.K.Keeps.anew c.args.keeps.now) (g.D.Disk.bytes c.args.disk.now) c.args.source.now.cache.now c.args.source.now.sup.now c.args.source.now.map.now c.args.e.now c.in-Some.bound (g.K.Keeps.looks c.args.keeps.now) (g.K.Keeps.looks c.last-known.new.self)
@@ -113,6 +115,7 @@ loop-place-preserved g t c = record {
       c.loop-place.invariant.met c.in_ok-last-2.ensures.met;
   same_pairs = c.in_ok-last-2.ensures.same_pairs ∙ c.next-child.ensures.same_pairs ∙ c.loop-place.invariant.same_pairs;
   same_lasts = c.in_ok-last-2.ensures.same_lasts ∙ c.next-child.ensures.same_lasts ∙ c.loop-place.invariant.same_lasts;
+  same_loan = c.in_ok-last-2.ensures.same_loan ∙ c.next-child.ensures.same_loan ∙ c.loop-place.invariant.same_loan;
   ended = ends_step (g.K.Keeps.keeps c.args.keeps.now) (g.K.Keeps.anew c.args.keeps.now) (g.K.Keeps.lasts c.args.keeps.now) (g.D.Disk.bytes c.args.disk.now) c.args.source.now.cache.now c.args.source.now.sup.now c.args.source.now.map.now c.args.e.now.level c.next-child.result
       (drop c.loop-place.place (g.K.Keeps.anew c.args.keeps.now c.args.e.now)) (drop (c.loop-place.place + 1) (g.K.Keeps.anew c.args.keeps.now c.args.e.now))
       (g.K.Keeps.ended c.args.keeps.now) (g.K.Keeps.ended c.loop-place.keeps) (g.K.Keeps.ended c.next-child.new.self) (g.K.Keeps.ended c.walk_keeping.new.keeps) c.loop-place.last _
@@ -196,6 +199,7 @@ loop-i-preserved g t c = record {
       c.loop-i.invariant.met c.in_ok-last-4.ensures.met;
   same_pairs = c.in_ok-last-4.ensures.same_pairs ∙ c.loop-i.invariant.same_pairs;
   same_lasts = c.in_ok-last-4.ensures.same_lasts ∙ c.loop-i.invariant.same_lasts;
+  same_loan = c.in_ok-last-4.ensures.same_loan ∙ c.loop-i.invariant.same_loan;
   ended = ends_step (g.K.Keeps.keeps c.args.keeps.now) (g.K.Keeps.anew c.args.keeps.now) (g.K.Keeps.lasts c.args.keeps.now) (g.D.Disk.bytes c.args.disk.now) c.args.source.now.cache.now c.args.source.now.sup.now c.args.source.now.map.now c.args.e.now.level c.child_at-child.result
       (children_of (c.args.e.now.level - 1) c.args.e.now (pointers_from c.in_ok-block.block c.loop-i.i))
       (children_of (c.args.e.now.level - 1) c.args.e.now (pointers_from c.in_ok-block.block (c.loop-i.i + 1)))

@@ -34,6 +34,7 @@ invariant-loop-place g l =
           (met_in kept anew sup l.source.map.now l.e);
       same_pairs : g.K.Keeps.pairs l.keeps ≡ g.K.Keeps.pairs l.fn.keeps;
       same_lasts : g.K.Keeps.lasts l.keeps ≡ g.K.Keeps.lasts l.fn.keeps;
+      same_loan : g.K.Keeps.loan l.keeps ≡ g.K.Keeps.loan l.fn.keeps;
       ended : EndsSoFar (g.D.Disk.bytes l.fn.disk) l.source.cache.now (g.K.Keeps.ended l.fn.keeps) (g.K.Keeps.ended l.keeps) (left (drop l.place (anew l.e)) l.last) (left (anew l.e) no_key);
       looks : LooksSoFar (g.D.Disk.bytes l.fn.disk) l.source.cache.now (g.K.Keeps.looks l.fn.keeps) (g.K.Keeps.looks l.keeps)
           (left_visits kept anew (g.D.Disk.bytes l.fn.disk) l.source.cache.now sup l.source.map.now l.e.level (drop l.place (anew l.e)))
@@ -58,6 +59,7 @@ invariant-loop-i g l =
           (met_in kept anew sup l.source.map.now l.e);
       same_pairs : g.K.Keeps.pairs l.keeps ≡ g.K.Keeps.pairs l.fn.keeps;
       same_lasts : g.K.Keeps.lasts l.keeps ≡ g.K.Keeps.lasts l.fn.keeps;
+      same_loan : g.K.Keeps.loan l.keeps ≡ g.K.Keeps.loan l.fn.keeps;
       ended : EndsSoFar (g.D.Disk.bytes l.fn.disk) l.source.cache.now (g.K.Keeps.ended l.fn.keeps) (g.K.Keeps.ended l.keeps)
           (left (children_of (l.e.level - 1) l.e (pointers_from l.block l.i)) l.last) (left (children_of (l.e.level - 1) l.e (pointers_from l.block 0)) no_key);
       looks : LooksSoFar (g.D.Disk.bytes l.fn.disk) l.source.cache.now (g.K.Keeps.looks l.fn.keeps) (g.K.Keeps.looks l.keeps)
