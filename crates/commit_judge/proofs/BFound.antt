@@ -9,7 +9,7 @@ use Rattle.std.proofs.lemmas.Bool.{and_from, and_parts, cases_lt, lt-ltb}
 use Rattle.std.proofs.lemmas.Bool.Decides.{nat_tests}
 use Rattle.std.proofs.lemmas.List.{take_more}
 use Rattle.std.proofs.lemmas.Option.{same_Some}
-use Rattle.std.proofs.lemmas.List.Elements.{Contains-append_cases, Contains-append_left, Contains-push, Contains-push_cases}
+use Rattle.std.proofs.lemmas.List.Elements.{Contains-append_cases, Contains-append_left, Contains-get_or, Contains-push, Contains-push_cases}
 use Rattle.live_index.specs.Pairs.{Pairs}
 use Rattle.span_index.specs.Order.{is_below}
 use Rattle.span_index.specs.Spans.{IsMeeting, Table, is_met}
@@ -20,6 +20,7 @@ use Rattle.span_index.specs.declared.span.SpanSort.TheVariants.{Owned, Summed, S
 use Rattle.change_records.proofs.Merge.{contains_none}
 use Rattle.change_records.specs.Search.{AreAlone, AreLawful, SpanNames}
 use Rattle.change_records.specs.declared.item_ref.ItemRef.{ItemRef}
+use Rattle.commit_judge.specs.Moves.{HaveNames, NameSpans}
 
 -- ---- what an extent owns
 
@@ -186,3 +187,33 @@ stand_more table now new some so stands more span among =
       | inl none ↦ absurd (contains_none span none)
       | inr same ↦ subst (λ s. 0 < table s) same stands
     ]
+
+-- where all names are those of spans that stand, what is found has the names
+abbrev pub AreNamedSpans : ℕ → Table → List ItemRef → List Span → Type 0
+AreNamedSpans nodesize table refs found =
+    AreLawful nodesize table → AreAlone table → (pairs : Pairs) → NameSpans table pairs refs → HaveNames pairs refs found
+
+pub named_none : (nodesize : ℕ) (table : Table) (refs : List ItemRef) (found : List Span) → found ≡ [] → AreNamedSpans nodesize table refs found
+named_none nodesize table refs found empty lawful alone pairs name span among =
+    absurd (contains_none span (subst (λ l. Contains l span) empty among))
+
+pub named_more : (nodesize : ℕ) (table : Table) (refs : List ItemRef) (i : ℕ) (d : ItemRef) (now new : List Span) (some : Option Span)
+    → i < length refs → AreNamedSpans nodesize table refs now
+    → (AreLawful nodesize table → AreAlone table → (pairs : Pairs) (span : Span) → 0 < table span → SpanNames pairs span (get_or refs i d)
+    → some ≡ Some span)
+    → new ≡ now ++ option_to_list some → AreNamedSpans nodesize table refs new
+named_more nodesize table refs i d now new some inside so is more lawful alone pairs name span among =
+    by (Contains-append_cases now (option_to_list some) span (subst (λ l. Contains l span) more among))
+  where
+    here : Contains refs (get_or refs i d)
+    here = Contains-get_or refs i d inside
+
+    by : Contains now span ⊎ Contains (option_to_list some) span → (at : ItemRef) × Contains refs at × SpanNames pairs span at
+    by (inl early) = so lawful alone pairs name span early
+    by (inr late) =
+        let its = name (get_or refs i d) here in
+        let found : some ≡ Some its.0 = is lawful alone pairs its.0 its.1 its.2 in
+        elim (Contains-push_cases [] its.0 span (subst (λ o. Contains (option_to_list o) span) found late)) [
+          | inl never ↦ absurd (contains_none span never)
+          | inr same ↦ (get_or refs i d, here, subst (λ s. SpanNames pairs s (get_or refs i d)) same its.2)
+        ]

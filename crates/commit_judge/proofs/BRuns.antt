@@ -1,19 +1,20 @@
 -- The runs of spans, and runs that are one where they meet or touch.
 use Rattle.std.proofs.Common.{◌≡◌, ℕ, suc, ◌+◌, ◌%◌, ◌<◌, ◌≤◌, ◌⊎◌, max, Bool, true, false, ◌&&◌, ◌||◌, List, [], ◌∷◌, ◌++◌, length, take, get_or, inl, inr, refl, ap, sym, ◌∙◌, subst, arith}
 use Rattle.std.specs.Prelude.{Option, Some, None, IfSome, Result, Ok, Err, IfOk, nat_le, nat_lt, option_to_list}
-use Rattle.std.specs.List.{All, Contains}
+use Rattle.std.specs.List.{All, Contains, list_any}
 use Rattle.std.specs.List.Sorted.{IsNonDecreasingBy, IsPermutation}
-use Rattle.std.proofs.lemmas.Bool.{and_from, and_parts, leb-true, le-leb, lt-ltb, ltb-true, or_cases, or_left, or_right}
-use Rattle.std.proofs.lemmas.List.{get_or_default, take_more}
+use Rattle.std.proofs.lemmas.Bool.{and_from, and_parts, cases_lt, leb-true, le-leb, lt-ltb, ltb-true, or_cases, or_left, or_right}
+use Rattle.std.proofs.lemmas.List.{get_or_default, length-append, take_more}
 use Rattle.std.proofs.lemmas.List.Elements.{All-append, All-head, All-nil, All-push, All-tail, Contains-push_cases}
-use Rattle.std.proofs.lemmas.List.Folds.{list_any-append}
-use Rattle.std.proofs.lemmas.List.Sorted.{list_any-IsPermutation}
+use Rattle.std.proofs.lemmas.List.Folds.{list_any-append, list_any_more}
+use Rattle.std.proofs.lemmas.List.Sorted.{length_permutation, list_any-IsPermutation}
 use Rattle.accounts.specs.Context.{Context}
 use Rattle.span_index.specs.Sectors.{AreRunsFrom, IsRun, counts, has_sector, is_inside}
 use Rattle.span_index.specs.declared.span.Run.{Run}
 use Rattle.span_index.specs.declared.span.Span.{Span}
 use Rattle.change_laws.specs.Sectors.{AreInside, CountedInside}
 use Rattle.change_laws.specs.Sound.{IsWhole}
+use Rattle.commit_judge.specs.Moves.{AreOfChanged, any_counted}
 
 -- ---- addresses inside runs
 
@@ -96,6 +97,45 @@ counted_more context spans i d now new some inside so is more whole span address
         (is (whole i d inside) (subst (λ (s : Span). counts context s s.sort ≡ true) (sym here) counted) address
         (subst (λ s. has_sector s address ≡ true) (sym here) has))
 
+-- ---- few runs, with no other sectors
+
+-- a list with one more, where there is one, is at most one longer
+pub few_more : {X : Type 0} (now new : List X) (some : Option X) (old i : ℕ) → length now ≤ old + i → new ≡ now ++ option_to_list some
+    → length new ≤ old + (i + 1)
+few_more {X} now new some old i few more = by some (ap length more ∙ length-append now (option_to_list some))
+  where
+    by : (some : Option X) → length new ≡ length now + length (option_to_list some) → length new ≤ old + (i + 1)
+    by None is = omega (arith, is, few)
+    by (Some one) is = omega (arith, is, few)
+
+-- of runs behind others each sector passes a test, or is one of the others
+abbrev pub AddOnly : List Run → List Run → (ℕ → Bool) → Type 0
+AddOnly old new has = (address : ℕ) → is_inside new address ≡ true → address % 4096 ≡ 0 → (is_inside old address || has address) ≡ true
+
+pub only_none : (old : List Run) (has : ℕ → Bool) → AddOnly old old has
+only_none old has address is whole = or_left (is_inside old address) (has address) is
+
+pub only_more : (test : ℕ → Span → Bool) (spans : List Span) (i : ℕ) (d : Span) (old now new : List Run) (some : Option Run) → i < length spans
+    → AddOnly old now (λ address. list_any (test address) (take i spans))
+    → ((address : ℕ) → is_inside (option_to_list some) address ≡ true → address % 4096 ≡ 0 → test address (get_or spans i d) ≡ true)
+    → new ≡ now ++ option_to_list some → AddOnly old new (λ address. list_any (test address) (take (i + 1) spans))
+only_more test spans i d old now new some inside so is more address has whole =
+    subst (λ (b : Bool). (is_inside old address || b) ≡ true) (sym (list_any_more (test address) spans i d inside))
+    (by (inside_parts now (option_to_list some) address (subst (λ l. is_inside l address ≡ true) more has)))
+  where
+    early : (a b : Bool) → (is_inside old address || a) ≡ true → (is_inside old address || (a || b)) ≡ true
+    early a b is = elim (or_cases (is_inside old address) a is) [
+      | inl old_has ↦ or_left (is_inside old address) (a || b) old_has
+      | inr some_has ↦ or_right (is_inside old address) (a || b) (or_left a b some_has)
+    ]
+
+    by : (is_inside now address ≡ true) ⊎ (is_inside (option_to_list some) address ≡ true)
+        → (is_inside old address || (list_any (test address) (take i spans) || test address (get_or spans i d))) ≡ true
+    by (inl first) = early (list_any (test address) (take i spans)) (test address (get_or spans i d)) (so address first whole)
+    by (inr last) =
+        or_right (is_inside old address) (list_any (test address) (take i spans) || test address (get_or spans i d))
+        (or_right (list_any (test address) (take i spans)) (test address (get_or spans i d)) (is address last whole))
+
 -- ---- runs that are one
 
 -- of runs in order the last may end later, or another may follow
@@ -136,6 +176,9 @@ pub record AreMerged (runs rest : List Run) (i : ℕ) (some : List Run) (last : 
   pub ascend : AreRunsFrom 0 (some ++ last ∷ [])
   pub behind : (k : ℕ) (d : Run) → i ≤ k → k < length rest → last.from ≤ (get_or rest k d).from
   pub inside : StayInside (first ∷ take i rest) (some ++ last ∷ [])
+  pub only : StayInside (some ++ last ∷ []) (first ∷ take i rest)
+  pub few : length some ≤ i
+  pub fit : i ≤ length rest
 
 -- where a run begins
 abbrev begin : Run → ℕ
@@ -150,7 +193,21 @@ merged_first runs rest some first parts are up none = record {
       (omega arith, All-head IsRun first rest (subst (λ l. All IsRun l) parts are), tt);
   behind = λ k d low inside. subst (λ l. IsNonDecreasingBy begin l) parts up 0 (suc k) d (omega arith) (omega arith);
   inside = λ address is. subst (λ l. is_inside (l ++ first ∷ []) address ≡ true) (sym none) is;
+  only = λ address is. subst (λ l. is_inside (l ++ first ∷ []) address ≡ true) none is;
+  few = subst (λ (l : List Run). length l ≤ 0) (sym none) (omega arith);
+  fit = omega arith;
 }
+
+joined_inside : (first : Run) (rest : List Run) (i : ℕ) (d : Run) (address : ℕ) → i < length rest
+    → (is_inside (first ∷ take i rest) address ≡ true) ⊎ (is_inside (get_or rest i d ∷ []) address ≡ true)
+    → is_inside (first ∷ take (i + 1) rest) address ≡ true
+joined_inside first rest i d address inside is =
+    subst (λ l. is_inside (first ∷ l) address ≡ true) (sym (take_more rest i d inside)) (by is)
+  where
+    by : (is_inside (first ∷ take i rest) address ≡ true) ⊎ (is_inside (get_or rest i d ∷ []) address ≡ true)
+        → is_inside ((first ∷ take i rest) ++ get_or rest i d ∷ []) address ≡ true
+    by (inl early) = inside_left (first ∷ take i rest) (get_or rest i d ∷ []) address early
+    by (inr late) = inside_right (first ∷ take i rest) (get_or rest i d ∷ []) address late
 
 split_inside : (first : Run) (rest : List Run) (i : ℕ) (d : Run) (address : ℕ) → i < length rest
     → is_inside (first ∷ take (i + 1) rest) address ≡ true
@@ -164,9 +221,9 @@ rest_is runs rest first i d parts are inside = All-tail IsRun first rest (subst 
 
 -- the next run meets or touches the last
 pub merged_joined : (runs rest : List Run) (i : ℕ) (d : Run) (some : List Run) (last : Run) (until : ℕ) → i < length rest → All IsRun runs
-    → until ≡ max last.until (get_or rest i d).until → AreMerged runs rest i some last
+    → (get_or rest i d).from ≤ last.until → until ≡ max last.until (get_or rest i d).until → AreMerged runs rest i some last
     → AreMerged runs rest (i + 1) some (record { from = last.from; until = until })
-merged_joined runs rest i d some last until inside are is so =
+merged_joined runs rest i d some last until inside are meets is so =
     subst (λ n. AreMerged runs rest (i + 1) some (record { from = last.from; until = n })) (sym is) all
   where
     begins : last.from ≤ (get_or rest i d).from
@@ -193,6 +250,33 @@ merged_joined runs rest i d some last until inside are is so =
     ]
     by address (inr later) = inside_right some (joined last (get_or rest i d) ∷ []) address (there address later)
 
+    -- an address of both is one of the last or of the next
+    one : (address : ℕ) → is_inside (joined last (get_or rest i d) ∷ []) address ≡ true
+        → (is_inside (last ∷ []) address ≡ true) ⊎ (is_inside (get_or rest i d ∷ []) address ≡ true)
+    one address has =
+        let at = inside_is (joined last (get_or rest i d)) address has in
+        let low : last.from ≤ address = at.0 in
+        let high : address < max last.until (get_or rest i d).until = at.1 in
+        elim (cases_lt address last.until) [
+          | inl under ↦ inl (is_in last address low under)
+          | inr over ↦
+              let here : (get_or rest i d).from ≤ address = omega (arith, over, meets) in
+              let end : address < (get_or rest i d).until = omega (arith, over, high) in
+              inr (is_in (get_or rest i d) address here end)
+        ]
+
+    early : (address : ℕ) → is_inside (some ++ last ∷ []) address ≡ true
+        → (is_inside (so.first ∷ take i rest) address ≡ true) ⊎ (is_inside (get_or rest i d ∷ []) address ≡ true)
+    early address has = inl (so.only address has)
+
+    back : (address : ℕ) → (is_inside some address ≡ true) ⊎ (is_inside (joined last (get_or rest i d) ∷ []) address ≡ true)
+        → (is_inside (so.first ∷ take i rest) address ≡ true) ⊎ (is_inside (get_or rest i d ∷ []) address ≡ true)
+    back address (inl old) = early address (inside_left some (last ∷ []) address old)
+    back address (inr new) = elim (one address new) [
+      | inl first ↦ early address (inside_right some (last ∷ []) address first)
+      | inr next ↦ inr next
+    ]
+
     all : AreMerged runs rest (i + 1) some (joined last (get_or rest i d))
     all = record {
       first = so.first;
@@ -201,6 +285,10 @@ merged_joined runs rest i d some last until inside are is so =
           (joined_is last (get_or rest i d) (last_is 0 some last so.ascend) (rest_is runs rest so.first i d so.parts are inside));
       behind = λ k e low up. so.behind k e (omega arith) up;
       inside = λ address has. by address (split_inside so.first rest i d address inside has);
+      only = λ address has.
+          joined_inside so.first rest i d address inside (back address (inside_parts some (joined last (get_or rest i d) ∷ []) address has));
+      few = omega (arith, so.few);
+      fit = omega (arith, inside);
     }
 
 -- the next run begins behind the last
@@ -220,6 +308,11 @@ merged_apart runs rest i d some new last inside are up behind more so =
     by address (inl early) = inside_left (some ++ last ∷ []) (get_or rest i d ∷ []) address (so.inside address early)
     by address (inr later) = inside_right (some ++ last ∷ []) (get_or rest i d ∷ []) address later
 
+    back : (address : ℕ) → (is_inside (some ++ last ∷ []) address ≡ true) ⊎ (is_inside (get_or rest i d ∷ []) address ≡ true)
+        → (is_inside (so.first ∷ take i rest) address ≡ true) ⊎ (is_inside (get_or rest i d ∷ []) address ≡ true)
+    back address (inl old) = inl (so.only address old)
+    back address (inr new) = inr new
+
     all : AreMerged runs rest (i + 1) (some ++ last ∷ []) (get_or rest i d)
     all = record {
       first = so.first;
@@ -227,6 +320,11 @@ merged_apart runs rest i d some new last inside are up behind more so =
       ascend = last_followed 0 some last (get_or rest i d) so.ascend (omega (arith, behind)) (rest_is runs rest so.first i d so.parts are inside);
       behind = above;
       inside = λ address has. by address (split_inside so.first rest i d address inside has);
+      only = λ address has.
+          joined_inside so.first rest i d address inside
+          (back address (inside_parts (some ++ last ∷ []) (get_or rest i d ∷ []) address has));
+      few = omega (arith, so.few, length-append some (last ∷ []));
+      fit = omega (arith, inside);
     }
 
 -- ---- all of it
@@ -247,3 +345,44 @@ merged_counted (Ok some) items context runs sorted lent spans same lends stay ar
     stay address (subst (λ l. is_inside l address ≡ true) (sym lends)
     (sym (list_any-IsPermutation (covers address) runs sorted same) ∙ are span address among counted has))
 merged_counted (Err e) items context runs sorted lent spans same lends stay are = tt
+
+-- Runs that are merged have no sectors but those of the three lists that they come from.
+pub merged_only : {V E : Type 0} (result : Result V E) (items : V → List Run) (before after : Context) (gone came found : List Span)
+    (none first second third sorted lent : List Run) → none ≡ []
+    → AddOnly none first (λ address. any_counted before (λ span. has_sector span address) gone)
+    → AddOnly first second (λ address. any_counted after (λ span. has_sector span address) came)
+    → AddOnly second third (λ address. list_any (λ (span : Span). has_sector span address) found)
+    → IsPermutation third sorted → lent ≡ sorted → IfOk result (λ some. StayInside (items some) lent)
+    → IfOk result (λ some. AreOfChanged before after gone came found (items some))
+merged_only (Ok some) items before after gone came found none first second third sorted lent empty one two three same lends stay = λ address is whole.
+    let gone_has = any_counted before (λ span. has_sector span address) gone in
+    let came_has = any_counted after (λ span. has_sector span address) came in
+    let found_has = list_any (λ (span : Span). has_sector span address) found in
+    let there : is_inside third address ≡ true =
+    list_any-IsPermutation (covers address) third sorted same ∙ subst (λ l. is_inside l address ≡ true) lends (stay address is) in
+    elim (or_cases (is_inside second address) found_has (three address there whole)) [
+      | inr last ↦ or_right gone_has (came_has || found_has) (or_right came_has found_has last)
+      | inl more ↦ (elim (or_cases (is_inside first address) came_has (two address more whole)) [
+        | inr next ↦ or_right gone_has (came_has || found_has) (or_left came_has found_has next)
+        | inl rest ↦ (elim (or_cases (is_inside none address) gone_has (one address rest whole)) [
+          | inr early ↦ or_left gone_has (came_has || found_has) early
+          | inl never ↦ absurd (nothing address (subst (λ l. is_inside l address ≡ true) empty never))
+        ])
+      ])
+    ]
+  where
+    nothing : (address : ℕ) → is_inside [] address ≡ true → ⊥
+    nothing address is = absurd (cc)
+merged_only (Err e) items before after gone came found none first second third sorted lent empty one two three same lends stay = tt
+
+-- they are no more than the spans of these lists
+pub few_runs : {V E : Type 0} (result : Result V E) (items : V → List Run) (none first second third sorted lent : List Run) (gone came found : ℕ)
+    → none ≡ [] → length first ≤ length none + gone → length second ≤ length first + came → length third ≤ length second + found
+    → IsPermutation third sorted → lent ≡ sorted → IfOk result (λ some. length (items some) ≤ length lent)
+    → IfOk result (λ some. length (items some) ≤ gone + came + found)
+few_runs (Ok some) items none first second third sorted lent gone came found empty one two three same lends few =
+    let nothing : length none ≡ 0 = ap length empty in
+    let lent_is : length lent ≡ length sorted = ap length lends in
+    let sorted_is : length sorted ≡ length third = length_permutation third sorted same in
+    omega (arith, nothing, lent_is, sorted_is, one, two, three, few)
+few_runs (Err e) items none first second third sorted lent gone came found empty one two three same lends few = tt

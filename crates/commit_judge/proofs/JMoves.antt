@@ -1,5 +1,5 @@
 -- What a commit does to accounts and to spans.
-use Rattle.std.proofs.Common.{◌≡◌, ℕ, ◌<◌, List, [], ◌∷◌, sym, ◌∙◌, subst, inl, inr}
+use Rattle.std.proofs.Common.{◌≡◌, ℕ, ◌+◌, ◌<◌, ◌≤◌, List, [], ◌∷◌, length, sym, ap, ◌∙◌, subst, inl, inr, arith}
 use Rattle.std.specs.List.{All, Contains, filter_map}
 use Rattle.std.proofs.lemmas.List.Elements.{All-contains, Contains-push_cases}
 use Rattle.accounts.specs.Context.{Context}
@@ -22,7 +22,7 @@ use Rattle.change_laws.specs.Sound.{IsSound, IsWhole, SpansStand}
 use Rattle.change_laws.specs.Steps.{change_records, spans_of, step_posts}
 use Rattle.change_laws.proofs.WNamed.{each_of}
 use Rattle.change_laws.proofs.XWhole.{span_whole}
-use Rattle.commit_judge.specs.Moves.{AreSpansMoved, context_after}
+use Rattle.commit_judge.specs.Moves.{AreOfChanged, AreSpansMoved, HaveNames, NameSpans, context_after}
 
 -- the spans of sound records are whole
 pub spans_whole : (n : ℕ) (records : List Located) → AreSound n records → All IsWhole (spans_of n records)
@@ -61,6 +61,21 @@ counted_by context other runs slice spans alike same is whole =
     subst (λ (x : Context). CountedInside x runs spans) alike
     (subst (λ (s : List Span). All IsWhole s → CountedInside context runs s) same is whole)
 
+-- what slices show bounds runs where the lists that they show do
+pub few_by : (runs : List Run) (shown some few gone came found : List Span) (refs names : List ItemRef) → shown ≡ gone → some ≡ came → few ≡ found
+    → names ≡ refs → length runs ≤ length shown + length some + length few → length found ≤ length names
+    → length runs ≤ length gone + length came + length refs
+few_by runs shown some few gone came found refs names gone_are came_are found_are refs_are less names_less =
+    omega (arith, less, names_less, ap length gone_are, ap length came_are, ap length found_are, ap length refs_are)
+
+pub only_by : (before after other : Context) (runs : List Run) (shown some few gone came found : List Span) → after ≡ other → shown ≡ gone
+    → some ≡ came → few ≡ found → AreOfChanged before after shown some few runs → AreOfChanged before other gone came found runs
+only_by before after other runs shown some few gone came found alike gone_are came_are found_are only =
+    subst (λ (p : Context). AreOfChanged before p gone came found runs) alike
+    (subst (λ (p : List Span). AreOfChanged before after p came found runs) gone_are
+    (subst (λ (p : List Span). AreOfChanged before after shown p found runs) came_are
+    (subst (λ (p : List Span). AreOfChanged before after shown some p runs) found_are only)))
+
 -- a span of some is inside runs where all are
 one_inside : (runs : List Run) (spans : List Span) (span : Span) → AreInside runs spans → Contains spans span → AreInside runs (span ∷ [])
 one_inside runs spans span inside has one address is sector =
@@ -76,7 +91,11 @@ module _ (k : Known) (c : Commit) (gone came : List Span) (runs : List Run) (fou
     → 0 < k.spans span → SpanNames pairs span at → Contains c.refs at → Contains found span)
     (there : (span : Span) → Contains found span → 0 < k.spans span)
     (gone_in : All IsWhole gone → CountedInside (context_by k) runs gone) (came_in : All IsWhole came → CountedInside (context_after k c) runs came)
-    (found_in : All IsWhole found → AreInside runs found) where
+    (found_in : All IsWhole found → AreInside runs found)
+    (named : AreLawful k.sup.nodesize k.spans → AreAlone k.spans → (pairs : Pairs) → NameSpans k.spans pairs c.refs → HaveNames pairs c.refs found)
+    (few_found : length found ≤ length c.refs)
+    (few_runs : length runs ≤ length gone + length came + length c.refs)
+    (only : AreOfChanged (context_by k) (context_after k c) gone came found runs) where
   pub spans_moved : SpansStand k → IsSound k c → AreSpansMoved k c gone came runs
   spans_moved stand sound =
       let gone_is : gone ≡ spans_of k.sup.nodesize (gone_by k c) = gone_are sound.gone in
@@ -88,4 +107,10 @@ module _ (k : Known) (c : Commit) (gone came : List Span) (runs : List Run) (fou
         gone_inside = gone_in (subst (All IsWhole) (sym gone_is) (spans_whole k.sup.nodesize (gone_by k c) sound.gone));
         came_inside = came_in (subst (All IsWhole) (sym came_is) (spans_whole c.fresh.nodesize (came_by c) sound.came));
         found_inside = λ span at stands shows has. one_inside runs found span all (names stand.lawful stand.alone k.pairs span at stands shows has);
+        found = found;
+        found_stand = there;
+        found_named = named stand.lawful stand.alone k.pairs;
+        few_found = few_found;
+        few_runs = few_runs;
+        only_named = only;
       }

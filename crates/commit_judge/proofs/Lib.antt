@@ -13,6 +13,7 @@ pub mod EPlan
 pub mod ERoots
 pub mod JCounts
 pub mod JJudge
+pub mod JLooks
 pub mod JMoves
 pub mod JPassed
 pub mod JShort

@@ -2,6 +2,7 @@
 
 ghost use Rattle.change_laws.specs.Frame.{FrameLaw};
 ghost use Rattle.commit_judge.specs.Judging.{CountsLaw, TriedLaw};
+ghost use Rattle.commit_judge.specs.Looks.{FewLooksLaw};
 ghost use Rattle.commit_judge.specs.Stops.{SafeStops};
 
 use change_laws::{ascend_law, commit_law, held_law, hot_law, known_spans_law, sound_law};
@@ -42,3 +43,9 @@ pub fn stop_law()
 {
     change_laws::stop_law();
 }
+
+/// The law of looks. To judge a plan that passes costs a number of looks that what the commit changes
+/// bounds: it does not grow with the image, but for the spans that share a sector with a changed one.
+pub fn few_looks_law()
+    ensures { FewLooksLaw }
+{}

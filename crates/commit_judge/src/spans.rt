@@ -20,6 +20,7 @@ ghost use Rattle.change_laws.specs.Paired.{came_items, came_of, gone_items, gone
 ghost use Rattle.change_laws.specs.Sectors.{AreSound};
 ghost use Rattle.change_laws.specs.Steps.{change_records, spans_of};
 ghost use Rattle.tree_change.specs.Gathered.{located_item};
+ghost use Rattle.commit_judge.specs.Moves.{HaveNames, NameSpans};
 ghost use Rattle.commit_judge.specs.Tables.{with_spans, without_spans};
 
 use change_records::{ItemChange, ItemRef};
@@ -195,6 +196,10 @@ pub(crate) fn found_spans<L>(
         Contains found.items span) }
     ensures stand { IfOk result (λ found.
         (span : ASpan) → Contains found.items span → 0 < times_of table.now span) }
+    ensures named { AreLawful nodesize (times_of table.now) → AreAlone (times_of table.now) →
+        IfOk result (λ found. (pairs : Pairs) → NameSpans (times_of table.now) pairs refs.now →
+        HaveNames pairs refs.now found.items) }
+    ensures few { IfOk result (λ found. length found.items ≤ length refs.now) }
     ensures looks { steps.new ≤ steps.old + length refs.now }
 {
     let mut found = Vec::new(alloc);

@@ -1,12 +1,13 @@
-use Rattle.std.proofs.Common.{refl, sym, ◌∙◌, subst}
+use Rattle.std.proofs.Common.{◌≤◌, List, length, refl, sym, ◌∙◌, subst}
 use Rattle.std.specs.List.{Contains}
+use Rattle.change_records.specs.declared.item_ref.ItemRef.{ItemRef as ARef}
 use Rattle.change_laws.specs.Commit.{context_by}
 use Rattle.change_laws.specs.Paired.{came_items, gone_items}
 use Rattle.change_laws.specs.Steps.{change_records, step_posts}
 use Rattle.commit_judge.specs.Index.{known}
-use Rattle.commit_judge.specs.Moves.{context_after}
+use Rattle.commit_judge.specs.Moves.{HaveNames, NameSpans, context_after}
 use Rattle.commit_judge.specs.Plan.{commit_in}
-use Rattle.commit_judge.proofs.JMoves.{counted_by, inside_by, posts_by, spans_by, spans_moved}
+use Rattle.commit_judge.proofs.JMoves.{counted_by, few_by, inside_by, only_by, posts_by, spans_by, spans_moved}
 use Rattle.commit_judge.proofs.moves.moves_of.Goals as goal
 
 pub returns-clause-moves : goal.returns-clause-moves
@@ -33,6 +34,14 @@ returns-clause-moves g c =
           c.in_ok-found.ensures.found lawful alone pairs span at stands shows (subst (λ refs. Contains refs at) (sym c.as_slice-refs.ensures.value) has))
           c.in_ok-found.ensures.stand (counted_by (context_by k) (context_by k) c.in_ok-runs.runs.items _ _ refl c.as_slice-3.ensures.value c.in_ok-runs.ensures.gone)
           (counted_by _ (context_after k d) c.in_ok-runs.runs.items _ _ c.after-after.ensures c.as_slice-4.ensures.value c.in_ok-runs.ensures.came)
-          (inside_by c.in_ok-runs.runs.items _ _ c.as_slice-5.ensures.value c.in_ok-runs.ensures.found);
+          (inside_by c.in_ok-runs.runs.items _ _ c.as_slice-5.ensures.value c.in_ok-runs.ensures.found)
+          (λ lawful alone pairs.
+          subst (λ (refs : List ARef). NameSpans k.spans pairs refs → HaveNames pairs refs c.in_ok-found.found.items) c.as_slice-refs.ensures.value
+          (c.in_ok-found.ensures.named lawful alone pairs))
+          (subst (λ (refs : List ARef). length c.in_ok-found.found.items ≤ length refs) c.as_slice-refs.ensures.value c.in_ok-found.ensures.few)
+          (few_by c.in_ok-runs.runs.items _ _ _ _ _ _ _ _ c.as_slice-3.ensures.value c.as_slice-4.ensures.value c.as_slice-5.ensures.value
+          c.as_slice-refs.ensures.value c.in_ok-runs.ensures.few c.in_ok-found.ensures.few)
+          (only_by (context_by k) _ (context_after k d) c.in_ok-runs.runs.items _ _ _ _ _ _ c.after-after.ensures c.as_slice-3.ensures.value
+          c.as_slice-4.ensures.value c.as_slice-5.ensures.value c.in_ok-runs.ensures.only);
       ascend = c.in_ok-runs.ensures.ascend;
     }

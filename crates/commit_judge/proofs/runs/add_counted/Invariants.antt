@@ -1,9 +1,10 @@
-use Rattle.std.proofs.Common.{take}
+use Rattle.std.proofs.Common.{◌+◌, ◌≤◌, length, take}
 use Rattle.std.specs.List.{All}
-use Rattle.span_index.specs.Sectors.{IsRun}
+use Rattle.span_index.specs.Sectors.{IsRun, has_sector}
 use Rattle.change_laws.specs.Sectors.{CountedInside}
 use Rattle.change_laws.specs.Sound.{IsWhole}
-use Rattle.commit_judge.proofs.BRuns.{StayInside}
+use Rattle.commit_judge.specs.Moves.{any_counted}
+use Rattle.commit_judge.proofs.BRuns.{AddOnly, StayInside}
 use Rattle.commit_judge.proofs.runs.add_counted.Given as goal
 
 -- the runs of the spans so far that count are added
@@ -12,4 +13,7 @@ invariant-loop-span g l = record {
   runs : All IsRun l.into.items;
   stay : StayInside l.initial.into.items l.into.items;
   inside : All IsWhole l.spans → CountedInside (g.C.Ctx.context l.ctx) l.into.items (take l.span-index l.spans);
+  few : length l.into.items ≤ length l.initial.into.items + l.span-index;
+  only : AddOnly l.initial.into.items l.into.items
+      (λ address. any_counted (g.C.Ctx.context l.ctx) (λ span. has_sector span address) (take l.span-index l.spans));
 }

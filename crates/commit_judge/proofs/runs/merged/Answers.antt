@@ -9,7 +9,7 @@ loop-run-init c =
 pub loop-run-preserved-then-run-open : goal.loop-run-preserved-then-run-open
 loop-run-preserved-then-run-open c =
     merged_joined c.args.runs.now c.in-Some.rest.now c.loop-run.run-index _ c.loop-run.some.items c.loop-run.open c.max.result c.loop-run-test.true
-    c.requires.runs c.max.ensures c.loop-run.invariant
+    c.requires.runs c.if-run-open.true c.max.ensures c.loop-run.invariant
 
 pub loop-run-preserved : goal.loop-run-preserved
 loop-run-preserved c =

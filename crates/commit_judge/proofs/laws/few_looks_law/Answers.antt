@@ -1,0 +1,5 @@
+use Rattle.commit_judge.proofs.JLooks.{few_looks}
+use Rattle.commit_judge.proofs.laws.few_looks_law.Goals as goal
+
+pub returns : goal.returns
+returns c = few_looks
