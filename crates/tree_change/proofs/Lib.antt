@@ -54,3 +54,11 @@ pub mod Differing
 pub mod Copies
 pub mod Levels
 pub mod Accepting
+pub mod MetVisits
+pub mod SomeRead
+pub mod OfTree
+pub mod FewLooks
+pub mod TouchedRoot
+pub mod LedTree
+pub mod OneRead
+pub mod TreeLooks

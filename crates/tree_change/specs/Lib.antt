@@ -14,3 +14,4 @@ pub mod Merges
 pub mod Distinct
 pub mod Compared
 pub mod Accepted
+pub mod LooksLaw

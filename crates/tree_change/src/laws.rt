@@ -2,6 +2,7 @@
 
 ghost use Rattle.tree_change.specs.Accepted.{AcceptedLaw};
 ghost use Rattle.tree_change.specs.AllTrees.{AllTreesLaw, GoneLaw, NamedLaw};
+ghost use Rattle.tree_change.specs.LooksLaw.{GoneLooksLaw, TreeLooksLaw};
 ghost use Rattle.tree_change.specs.OneTree.{OneTreeLaw};
 
 /// What the two walks of a tree give is what changes in it, and their first finding is that of the whole walk.
@@ -29,4 +30,15 @@ pub fn all_trees_law()
 /// block moved.
 pub fn accepted_law()
     ensures { AcceptedLaw }
+{}
+
+/// The walks of a tree come to few blocks, by the pairs that change in it: to the first one, to one for each entry of the blocks that are
+/// read, and to one for each of these blocks and each of seven levels.
+pub fn tree_looks_law()
+    ensures { TreeLooksLaw }
+{}
+
+/// The same of the walk of a tree that is gone.
+pub fn gone_looks_law()
+    ensures { GoneLooksLaw }
 {}
