@@ -1,5 +1,6 @@
 pub mod Gathering
 pub mod Telling
+pub mod Looking
 pub mod Ended
 pub mod Free
 pub mod Gone
@@ -47,7 +48,9 @@ pub mod RootItems
 pub mod AllChanges
 pub mod ByArray
 pub mod Others
+pub mod OtherLooks
 pub mod ByMap
+pub mod ComparedLooks
 pub mod Comparing
 pub mod Readable
 pub mod Differing

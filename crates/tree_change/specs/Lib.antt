@@ -10,8 +10,10 @@ pub mod LastKeys
 pub mod Leaves
 pub mod Roots
 pub mod Making
+pub mod Looks
 pub mod Merges
 pub mod Distinct
 pub mod Compared
 pub mod Accepted
 pub mod LooksLaw
+pub mod AllLooks

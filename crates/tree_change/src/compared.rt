@@ -1,7 +1,9 @@
 //! The two images that are compared, and what changes from the one to the other.
 
+ghost use Rattle.std.specs.Prelude.{OnOk};
 ghost use Rattle.recon_disk.specs.Keeping.{Kept};
 ghost use Rattle.block_source.specs.Gives.{is_disk_halt};
+ghost use Rattle.tree_change.specs.AllLooks.{LooksForMap, LooksForRest};
 ghost use Rattle.tree_change.specs.Compared.{FitsCompared, TellsMap, TellsRest};
 
 use crate::array::{lie_apart, refuse_map};
@@ -30,6 +32,8 @@ pub(crate) fn change_map<D: Disk, L>(
 ) -> Result<ChunkMap, Halt>
     requires fit { FitsCompared both.now (D.len disk.old) }
     ensures tells { TellsMap D.Disk disk.old disk.new all.old all.new both.now array.now result }
+    ensures looks { OnOk result (
+        LooksForMap (D.bytes disk.old) steps.old steps.new both.now array.now) }
     ensures kept { Kept D.Disk disk.old disk.new (is_disk_halt result) }
 {
     let (nodesize, end) = (both.was.sup.nodesize, both.was.end);
@@ -74,6 +78,8 @@ pub(crate) fn change_rest<D: Disk, L>(
 ) -> Result<(), Halt>
     requires fit { FitsCompared both.now (D.len disk.old) }
     ensures tells { TellsRest D.Disk disk.old disk.new all.old all.new both.now map.now result }
+    ensures looks { OnOk result (
+        LooksForRest (D.bytes disk.old) steps.old steps.new both.now map.now) }
     ensures kept { Kept D.Disk disk.old disk.new (is_disk_halt result) }
 {
     let (nodesize, end) = (both.was.sup.nodesize, both.was.end);

@@ -7,6 +7,7 @@ ghost use Rattle.live_index.specs.Table.{pairs_of};
 ghost use Rattle.super_reader.specs.Superblock.{IsReadable};
 ghost use Rattle.block_source.specs.Gives.{is_disk_fault, is_disk_halt};
 ghost use Rattle.shared_trees.specs.Shared.{are_read_alike};
+ghost use Rattle.tree_change.specs.AllLooks.{LooksFromOld, LooksToCompare};
 ghost use Rattle.tree_change.specs.Change.{GivesDifference};
 ghost use Rattle.tree_change.specs.Compared.{FitsCompared, IsFinished, TellsChange, TellsOld};
 
@@ -82,6 +83,9 @@ fn change_from<D: Disk, L>(
     requires none { was.now.cache.now ≡ empty }
     ensures tells { TellsOld D.Disk disk.old disk.new was.now.sup.now was.now.map.now
         cache.now fresh.now roots.now (pairs_of table.now) result }
+    ensures looks { OnOk result (
+        LooksFromOld (D.bytes disk.old) steps.old steps.new was.now
+        cache.now fresh.now roots.now table.now) }
     ensures kept { Kept D.Disk disk.old disk.new (is_disk_halt result) }
 {
     check_readable(was.sup)?;
@@ -122,6 +126,8 @@ fn compare<D: Disk, L>(
     requires fit { FitsCompared both.now (D.len disk.old) }
     requires array { (both.now).fresh.now.array_size ≤ 2048 }
     ensures tells { TellsChange D.Disk disk.old disk.new both.now result }
+    ensures looks { OnOk result (
+        LooksToCompare (D.bytes disk.old) steps.old steps.new both.now) }
     ensures kept { Kept D.Disk disk.old disk.new (is_disk_halt result) }
 {
     let array = system_chunks(alloc, both.fresh)?;

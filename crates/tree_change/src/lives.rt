@@ -1,6 +1,6 @@
 //! Blocks of walks as live pairs.
 
-ghost use Rattle.std.specs.Prelude.{◌≡◌, ◌++◌, true, OnOk, option_to_list};
+ghost use Rattle.std.specs.Prelude.{◌≡◌, ◌+◌, ◌≤◌, ◌++◌, true, length, OnOk, option_to_list};
 ghost use Rattle.live_index.specs.Table.{pairs_of};
 ghost use Rattle.shared_trees.specs.Known.{AreMetBy, blocks_met};
 ghost use Rattle.shared_trees.specs.LivePairs.{first_or_greatest};
@@ -31,9 +31,11 @@ pub(crate) fn add_new<L>(
     moved: &mut Vec<Live>,
 ) -> Result<(), NoMemory>
     requires asked { is_asked ≡ true → AreMetBy (pairs_of table.now) met.now }
-    ensures { OnOk result ((lives.new.items ≡ lives.old.items ++ lives_of ended.now blocks.now)
+    ensures puts { OnOk result ((lives.new.items ≡ lives.old.items ++ lives_of ended.now blocks.now)
         × (moved.new.items ≡ moved.old.items
         ++ moved_of (pairs_of table.now) ended.now (blocks_met met.now))) }
+    ensures looks { OnOk result (steps.new ≤ steps.old + length met.now) }
+    ensures none { is_asked ≡ true → steps.new ≡ steps.old }
 {
     let lasts = Lasts::new(alloc, ended)?;
     add_lives(&lasts, blocks, lives)?;
@@ -64,8 +66,10 @@ fn add_moved<L>(
     into: &mut Vec<Live>,
 ) -> Result<(), NoMemory>
     requires asked { is_asked ≡ true → AreMetBy (pairs_of table.now) met.now }
-    ensures { OnOk result (into.new.items ≡
+    ensures puts { OnOk result (into.new.items ≡
         into.old.items ++ moved_by (pairs_of table.now) (last_in lasts.now) (blocks_met met.now)) }
+    ensures looks { OnOk result (steps.new ≤ steps.old + length met.now) }
+    ensures none { is_asked ≡ true → steps.new ≡ steps.old }
 {
     for one in met {
         push_some(into, moved_of(table, is_asked, steps, lasts, one))?;
@@ -83,7 +87,9 @@ fn moved_of<L>(
 ) -> Option<Live>
     requires asked { is_asked ≡ true →
         one.now.live ≡ pairs_of table.now one.now.expect.tree one.now.expect.address }
-    ensures { result ≡ moved_by_one (pairs_of table.now) (last_in lasts.now) one.now.expect }
+    ensures pair { result ≡ moved_by_one (pairs_of table.now) (last_in lasts.now) one.now.expect }
+    ensures looks { steps.new ≤ steps.old + 1 }
+    ensures none { is_asked ≡ true → steps.new ≡ steps.old }
 {
     let e = &one.expect;
     let live = if is_asked {
@@ -101,8 +107,9 @@ pub(crate) fn add_known<L>(
     blocks: &[BlockAt],
     into: &mut Vec<Live>,
 ) -> Result<(), NoMemory>
-    ensures { OnOk result (
+    ensures puts { OnOk result (
         into.new.items ≡ into.old.items ++ pairs_at (pairs_of table.now) blocks.now) }
+    ensures looks { OnOk result (steps.new ≤ steps.old + length blocks.now) }
 {
     for block in blocks {
         push_some(into, table.get(block.tree, block.address, steps))?;

@@ -1,9 +1,11 @@
 //! What changes in the chunk tree and in the root tree, with the chunks and the roots that follow from it.
 
+ghost use Rattle.std.specs.Prelude.{OnOk};
 ghost use Rattle.recon_disk.specs.Keeping.{Kept};
 ghost use Rattle.live_index.specs.Table.{pairs_of};
 ghost use Rattle.block_source.specs.Gives.{is_disk_halt};
 ghost use Rattle.block_source.specs.Takes.{handing};
+ghost use Rattle.tree_change.specs.Looks.{LooksAtMost, OthersLookAtMost, chunk_looks_in, root_looks_in};
 ghost use Rattle.tree_change.specs.Making.{FitSides, TellsChunks, TellsOthers, TellsRoots};
 ghost use Rattle.tree_change.specs.Stays.{RootsStand};
 
@@ -29,6 +31,8 @@ pub(crate) fn change_chunks<D: Disk, L>(
 ) -> Result<ChunkMap, Halt>
     requires fit { FitSides sides.now (D.len disk.old) }
     ensures tells { TellsChunks D.Disk disk.old disk.new all.old all.new sides.now result }
+    ensures looks { OnOk result (
+        LooksAtMost (D.bytes disk.old) steps.old steps.new (chunk_looks_in sides.now)) }
     ensures kept { Kept D.Disk disk.old disk.new (is_disk_halt result) }
 {
     let before = chunk_root(sides.was.sup);
@@ -57,6 +61,8 @@ pub(crate) fn change_roots<D: Disk, L>(
     requires fit { FitSides sides.now (D.len disk.old) }
     ensures tells { TellsRoots D.Disk disk.old disk.new all.old all.new sides.now olds.now
         (handing (λ roots. roots.items) result) }
+    ensures looks { OnOk result (
+        LooksAtMost (D.bytes disk.old) steps.old steps.new (root_looks_in sides.now)) }
     ensures kept { Kept D.Disk disk.old disk.new (is_disk_halt result) }
 {
     let before = top_root(sides.was.sup);
@@ -81,6 +87,8 @@ pub(crate) fn change_others<D: Disk, L>(
     requires fit { FitSides sides.now (D.len disk.old) }
     ensures tells { RootsStand (pairs_of (sides.now).table.now) olds.now
         → TellsOthers D.Disk disk.old disk.new all.old all.new sides.now olds.now result }
+    ensures looks { OnOk result (
+        OthersLookAtMost (D.bytes disk.old) steps.old steps.new sides.now olds.now) }
     ensures kept { Kept D.Disk disk.old disk.new (is_disk_halt result) }
 {
     let roots = change_roots(alloc, disk, sides, steps, room, olds, all)?;

@@ -4,10 +4,12 @@ ghost use Rattle.std.specs.Prelude.{◌≡◌, ◌+◌, ◌*◌, ◌≤◌, ℕ,
 ghost use Rattle.recon_disk.specs.Keeping.{Kept};
 ghost use Rattle.live_index.specs.Table.{pairs_of};
 ghost use Rattle.shared_trees.specs.Known.{AreMetBy, blocks_met};
+ghost use Rattle.shared_trees.specs.Visits.{LooksFew};
 ghost use Rattle.block_source.specs.Gives.{Gives, is_disk_halt};
 ghost use Rattle.block_source.specs.Takes.{handing};
 ghost use Rattle.tree_change.specs.AllTrees.{no_parts, with_parts};
 ghost use Rattle.tree_change.specs.Gathered.{gathers};
+ghost use Rattle.tree_change.specs.Looks.{LooksAtMost, gone_all_looks_in, gone_looks_in, looks_in, named_looks_in, old_visits_or};
 ghost use Rattle.tree_change.specs.Stays.{RootsStand, Stays};
 ghost use Rattle.tree_change.specs.Told.{known_by, side_with};
 ghost use Rattle.tree_change.specs.Walks.{old_or_none};
@@ -74,6 +76,7 @@ impl TreeParts {
 }
 
 // Walks a tree as it was, where it was, which stops at these blocks of the tree as it is.
+#[tactic(auto, using(crate::proofs::Looking::few_none))]
 fn walk_before<D: Disk, L>(
     alloc: Global,
     disk: &mut D,
@@ -90,6 +93,10 @@ fn walk_before<D: Disk, L>(
         (side_with (sides.now).was image) before) }
     ensures reads { IfOk result (λ read. IfSome (D.bytes disk.old) (λ _.
         D.reads disk.new ≤ D.reads disk.old + 2 * length read.blocks.items)) }
+    ensures looks { OnOk result (
+        LooksFew (D.bytes disk.old) (sides.now).was.cache.now steps.old steps.new
+        (λ image. old_visits_or (known_by (sides.now).known) (blocks_met met.now)
+        (side_with (sides.now).was image) before)) }
     ensures kept { Kept D.Disk disk.old disk.new (is_disk_halt result) }
 {
     match before {
@@ -98,7 +105,8 @@ fn walk_before<D: Disk, L>(
     }
 }
 
-/// What changes in a tree that is, and that was or was not.
+/// What changes in a tree that is, and that was or was not. It looks into the table of live pairs at most three times for each block that a
+/// walk comes to, once for each block that is read of the tree as it was, and once for each kept block.
 pub(crate) fn change_tree<D: Disk, L>(
     alloc: Global,
     disk: &mut D,
@@ -110,6 +118,8 @@ pub(crate) fn change_tree<D: Disk, L>(
 ) -> Result<TreeParts, Halt>
     requires fit { FitSides sides.now (D.len disk.old) }
     ensures tells { TellsParts D.Disk disk.old disk.new result (parts_in sides.now before now.now) }
+    ensures looks { OnOk result (
+        LooksAtMost (D.bytes disk.old) steps.old steps.new (looks_in sides.now before now.now)) }
     ensures kept { Kept D.Disk disk.old disk.new (is_disk_halt result) }
 {
     let new = walk_new(alloc, disk, &sides.is, &sides.known, steps, room, now)?;
@@ -149,6 +159,8 @@ fn change_gone<D: Disk, L>(
 ) -> Result<TreeParts, Halt>
     requires fit { FitSides sides.now (D.len disk.old) }
     ensures tells { TellsParts D.Disk disk.old disk.new result (gone_in sides.now before.now) }
+    ensures looks { OnOk result (
+        LooksAtMost (D.bytes disk.old) steps.old steps.new (gone_looks_in sides.now before.now)) }
     ensures kept { Kept D.Disk disk.old disk.new (is_disk_halt result) }
 {
     let old = walk_old(
@@ -202,6 +214,9 @@ pub(crate) fn change_named<D: Disk, L>(
     ensures adds { RootsStand (pairs_of (sides.now).table.now) olds.now
         → AddsParts D.Disk disk.old disk.new all.old all.new result
         (named_parts_in sides.now olds.now news.now) }
+    ensures looks { OnOk result (
+        LooksAtMost (D.bytes disk.old) steps.old steps.new
+        (named_looks_in sides.now olds.now news.now)) }
     ensures kept { Kept D.Disk disk.old disk.new (is_disk_halt result) }
 {
     let ids = ids_of(alloc, olds)?;
@@ -229,6 +244,9 @@ pub(crate) fn change_all_gone<D: Disk, L>(
     requires fit { FitSides sides.now (D.len disk.old) }
     ensures adds { AddsParts D.Disk disk.old disk.new all.old all.new result
         (gone_parts_in sides.now news.now olds.now) }
+    ensures looks { OnOk result (
+        LooksAtMost (D.bytes disk.old) steps.old steps.new
+        (gone_all_looks_in sides.now news.now olds.now)) }
     ensures kept { Kept D.Disk disk.old disk.new (is_disk_halt result) }
 {
     let ids = ids_of(alloc, news)?;

@@ -1,13 +1,15 @@
 //! The walks of one tree: of the tree as it is, which keeps what is shared, and of the tree as it was, which stops there.
 
-ghost use Rattle.std.specs.Prelude.{◌≡◌, ◌+◌, ◌*◌, ◌≤◌, length, true, IfOk, IfSome};
+ghost use Rattle.std.specs.Prelude.{◌≡◌, ◌+◌, ◌*◌, ◌≤◌, length, true, IfOk, IfSome, OnOk};
 ghost use Rattle.verdict.specs.Trees.{is_node_size};
 ghost use Rattle.recon_disk.specs.Keeping.{Kept};
 ghost use Rattle.live_index.specs.Table.{pairs_of};
 ghost use Rattle.shared_trees.specs.Known.{AreMetBy, blocks_met};
+ghost use Rattle.shared_trees.specs.Visits.{LooksFew};
 ghost use Rattle.block_source.specs.Gives.{Gives, is_disk_halt};
 ghost use Rattle.block_source.specs.Takes.{handing};
 ghost use Rattle.tree_change.specs.Gathered.{gathers};
+ghost use Rattle.tree_change.specs.Looks.{new_visits, old_visits};
 ghost use Rattle.tree_change.specs.Walks.{new_walk, old_walk};
 ghost use Rattle.tree_change.specs.Told.{known_by, new_by, side_with};
 
@@ -45,7 +47,8 @@ pub(crate) struct NewTree {
     pub(crate) ended: Vec<Ended>,
 }
 
-/// Walks a tree as it is, and keeps what is known of it as it was.
+/// Walks a tree as it is, and keeps what is known of it as it was. It looks at most three times into the table of live pairs for each
+/// block that it comes to.
 #[tactic(auto, using(crate::proofs::Gathering::gathered_none), unfolding(crate::specs::Walks::new_walk))]
 pub(crate) fn walk_new<D: Disk, L>(
     alloc: Global,
@@ -63,6 +66,9 @@ pub(crate) fn walk_new<D: Disk, L>(
     ensures met { IfOk result (λ made. AreMetBy (pairs_of (known.now).table.now) made.met.items) }
     ensures reads { IfOk result (λ made. IfSome (D.bytes disk.old) (λ _.
         D.reads disk.new ≤ D.reads disk.old + 2 * length made.read.blocks.items)) }
+    ensures looks { OnOk result (
+        LooksFew (D.bytes disk.old) source.now.cache.now steps.old steps.new
+        (λ image. new_visits (known_by known.now) (side_with source.now image) e.now)) }
     ensures kept { Kept D.Disk disk.old disk.new (is_disk_halt result) }
 {
     let mut read = Gathered::new(alloc);
@@ -78,14 +84,17 @@ pub(crate) fn walk_new<D: Disk, L>(
         behind: None,
     };
     walk_changed(alloc, disk, source, &mut keeps, e, room, &mut read)?;
-    Ok(NewTree {
-        read,
-        met: keeps.met,
-        ended: keeps.ended,
-    })
+    let looks = keeps.steps.looks();
+    let (met, ended) = (keeps.met, keeps.ended);
+    // The walk cannot exchange the counter that is lent to it, so this never stops.
+    if steps.looks() != looks {
+        return Err(Halt::NoMemory);
+    }
+    Ok(NewTree { read, met, ended })
 }
 
-/// Walks a tree as it was, which stops at these blocks of the tree as it is.
+/// Walks a tree as it was, which stops at these blocks of the tree as it is. It looks at most three times into the table of live pairs
+/// for each block that it comes to.
 #[tactic(auto, unfolding(crate::specs::Walks::old_walk))]
 pub(crate) fn walk_old<D: Disk, L>(
     alloc: Global,
@@ -105,6 +114,10 @@ pub(crate) fn walk_old<D: Disk, L>(
         (side_with source.now image) e.now) }
     ensures reads { IfOk result (λ read. IfSome (D.bytes disk.old) (λ _.
         D.reads disk.new ≤ D.reads disk.old + 2 * length read.blocks.items)) }
+    ensures looks { OnOk result (
+        LooksFew (D.bytes disk.old) source.now.cache.now steps.old steps.new
+        (λ image. old_visits (known_by known.now) (blocks_met met.now)
+        (side_with source.now image) e.now)) }
     ensures kept { Kept D.Disk disk.old disk.new (is_disk_halt result) }
 {
     let stops = Stops::new(alloc, met)?;
@@ -117,5 +130,11 @@ pub(crate) fn walk_old<D: Disk, L>(
         next: 0,
     };
     walk_changed(alloc, disk, source, &mut keeps, e, room, &mut read)?;
+    let lent = keeps.steps;
+    let looks = lent.looks();
+    // The walk cannot exchange the counter that is lent to it, so this never stops.
+    if steps.looks() != looks {
+        return Err(Halt::NoMemory);
+    }
     Ok(read)
 }

@@ -3,6 +3,7 @@ use Rattle.live_index.specs.Table.{pairs_of}
 use Rattle.touched_pairs.specs.Marks.{marked_by}
 use Rattle.shared_trees.specs.Under.{under_of}
 use Rattle.tree_change.proofs.ByArray.{array_known, known_array, known_as, map_told, refused, size_some}
+use Rattle.tree_change.proofs.ComparedLooks.{map_few}
 use Rattle.tree_change.proofs.compared.change_map.Goals as goal
 
 pub returns-then-not-lie_apart-clause-tells : goal.returns-then-not-lie_apart-clause-tells
@@ -27,3 +28,16 @@ returns-clause-tells g c =
     (λ image is. array_known both array old_array some moving under (g.D.Disk.len c.args.disk.now) c.requires.fit image is
     c.in_ok-old_array.ensures distinct.1 (c.in_ok-moving.ensures.ok distinct.0 (size_some _ c.requires.fit.was_size)) c.in_ok-starts.ensures.ok)
     c.change_chunks.result c.change_chunks.ensures.tells
+
+pub returns-clause-looks : goal.returns-clause-looks
+returns-clause-looks g c =
+    let sound = c.lie_apart.ensures (search rules) in
+    let distinct = c.in_ok-some.ensures sound.0 sound.1 in
+    map_few c.args.both.now c.args.array (record { ref_ptr = c.args.both.ref_ptr; now = c.new-moves.result })
+    (record { ref_ptr = c.args.both.ref_ptr; now = c.in_ok-starts.starts }) c.args.both.now.same _ (g.D.Disk.bytes c.args.disk.now)
+    c.change_chunks.result c.in_ok-old_array.old_array c.in_ok-some.some
+    c.in_ok-moving.moving c.args.steps.now c.moved_pairs.new.steps c.listed.new.steps c.change_chunks.new.steps
+    (record { before = c.new-moves.ensures.old; after = c.new-moves.ensures.new; size = c.new-moves.ensures.nodesize; until = c.new-moves.ensures.end })
+    c.in_ok-old_array.ensures distinct.0 distinct.1
+    (record { marked = c.in_ok-moving.ensures.ok; listed = c.in_ok-starts.ensures.ok; few = c.in_ok-moving.ensures.few_marks })
+    c.in_ok-moving.ensures.looks c.in_ok-starts.ensures.looks c.change_chunks.ensures.looks

@@ -15,3 +15,7 @@ returns-in-Some-clause-tells g c =
     c.chunk_root-before.result c.chunk_root-now.result (g.D.Disk.reads c.args.disk.now) (g.D.Disk.reads c.change_tree.new.disk) c.in-Some.found
     c.chunk_root-before.ensures c.chunk_root-now.ensures c.in_ok-made.ensures.tells
     (rw (← c.deref.ensures.value, ← c.deref-2.ensures.value) c.in_ok-map.ensures) (sym c.map_fault.ensures ∙ c.in-Some.is)
+
+pub returns-in_ok-add-in-None-clause-looks : goal.returns-in_ok-add-in-None-clause-looks
+returns-in_ok-add-in-None-clause-looks g c =
+    rw (← c.chunk_root-before.ensures, ← c.chunk_root-now.ensures) c.in_ok-made.ensures.looks

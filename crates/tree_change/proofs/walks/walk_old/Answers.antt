@@ -1,4 +1,4 @@
-use Rattle.std.proofs.Common.{rules}
+use Rattle.std.proofs.Common.{rules, sym, ◌∙◌}
 use Rattle.shared_trees.specs.KeepingWalk.{skip_in}
 use Rattle.shared_trees.specs.Known.{blocks_met}
 use Rattle.shared_trees.specs.OldTrees.{is_stopped}
@@ -6,6 +6,7 @@ use Rattle.shared_trees.specs.Stopping.{kept_among}
 use Rattle.tree_change.specs.Gathered.{gathers}
 use Rattle.tree_change.specs.Told.{known_by}
 use Rattle.tree_change.specs.Walks.{listed_by}
+use Rattle.tree_change.proofs.Looking.{old_few}
 use Rattle.tree_change.proofs.Telling.{old_halts, old_ok, reads_ok}
 use Rattle.tree_change.proofs.walks.walk_old.Goals as goal
 
@@ -32,3 +33,10 @@ returns-in_err-walk_changed-clause-gives g c =
     old_halts g.D.Disk c.args.disk.now source.cache.now known (is_stopped c.in_ok-stops.stops)
     (blocks_met c.args.met.now) source.sup.now source.map.now c.args.e.now (gathers c.new-read.result) c.in_err-walk_changed.field-0.0 _
     (search rules) c.in_ok-stops.ensures.stops c.in_err-walk_changed.ensures.taken
+
+pub returns-clause-looks : goal.returns-clause-looks
+returns-clause-looks g c =
+    let source = c.args.source.now in
+    rw (sym c.looks.ensures ∙ c.if-looks.false ∙ c.looks-looks.ensures)
+    (old_few (g.D.Disk.bytes c.args.disk.now) source.cache.now (known_by c.args.known.now) (is_stopped c.in_ok-stops.stops)
+    (blocks_met c.args.met.now) source.sup.now source.map.now c.args.e.now _ _ c.in_ok-stops.ensures.stops c.in_ok-walk_changed.ensures.looks)

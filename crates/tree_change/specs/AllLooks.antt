@@ -1,0 +1,118 @@
+-- How many looks into a table of live pairs may be counted for all that changes from one image to another.
+use Rattle.std.specs.Prelude.{ℕ, ◌≡◌, ◌+◌, ◌*◌, ◌<◌, ◌≤◌, List, length, Option, Some, Ok, IfSome}
+use Rattle.std.specs.Ordering.{nat_cmp}
+use Rattle.std.specs.FinMap.{FinMap}
+use Rattle.verdict.specs.Chunks.{place}
+use Rattle.verdict.specs.declared.place.Chunk.{Chunk}
+use Rattle.write_cache.specs.Pieces.{ArePiecesOf, Piece}
+use Rattle.live_index.specs.Pairs.{Pairs}
+use Rattle.live_index.specs.Table.{pairs_of}
+use Rattle.live_index.specs.declared.kept.LiveIndex.{LiveIndex}
+use Rattle.live_index.specs.declared.live.Live.{Live}
+use Rattle.super_reader.specs.Superblock.{array_place}
+use Rattle.super_reader.specs.declared.Super.{Super}
+use Rattle.volume_items.specs.SystemArray.{array_chunks}
+use Rattle.volume_items.specs.declared.root_at.RootAt.{RootAt}
+use Rattle.records.specs.Contents.{chunk_map_in, chunk_tree_root, root_tree_root}
+use Rattle.block_source.specs.declared.read.BlockSource.{BlockSource}
+use Rattle.touched_pairs.specs.Looks.{ArePlaced, NoneMeet, copies_of}
+use Rattle.touched_pairs.specs.Marking.{AreLow, AreMarkedFrom, HaveEach}
+use Rattle.touched_pairs.specs.Marks.{count_of, marked_by, no_mark}
+use Rattle.touched_pairs.specs.Moves.{AreApart, held_and_moved, is_moved}
+use Rattle.touched_pairs.specs.Spots.{at_address}
+use Rattle.shared_trees.specs.Keeping.{Marks, Under}
+use Rattle.shared_trees.specs.Listed.{AreListedBy}
+use Rattle.tree_change.specs.Compared.{FitsCompared, HasNewArray, IsCompared, judged_by, side_to}
+use Rattle.tree_change.specs.Looks.{gone_all_looks, named_looks, tree_looks}
+use Rattle.tree_change.specs.Merging.{IsSortedOf, named_before, roots_left}
+use Rattle.tree_change.specs.Told.{side_with}
+use Rattle.tree_change.specs.Walks.{Known, Parts, tree_parts}
+use Rattle.tree_change.specs.declared.sides.Compared.{Compared}
+
+-- Of the pairs of a table, those are marked that move from the one list of chunks to the other, and all above them; the marked children are listed;
+-- and there are this many marks, at most eight for each pair that moves.
+pub record AreMoves (pairs : Pairs) (old new : List Chunk) (nodesize end : ℕ) (moving : Marks) (under : Under) (marks : ℕ) : Type 0 where
+  pub marked : AreApart new → 0 < nodesize
+      → AreMarkedFrom pairs (at_address (held_and_moved old new nodesize end)) (at_address (is_moved old new nodesize end)) no_mark moving
+  pub listed : AreListedBy pairs moving under
+  pub few : AreLow pairs → (lives : List Live) → HaveEach pairs (is_moved old new nodesize end) lives → marks ≤ 8 * length lives
+
+-- where each pair has a place and no two chunks of a list overlap, at most so many looks were counted: five for each of these marks, two for
+-- each old chunk, one for each new one, and those for trees
+abbrev pub MovesLookAtMost : Pairs → List Chunk → List Chunk → ℕ → ℕ → ℕ → ℕ → ℕ → ℕ → Type 0
+MovesLookAtMost pairs old new nodesize end marks before after trees =
+    ArePlaced pairs old nodesize end → AreApart old → AreApart new → 0 < nodesize
+    → after ≤ before + 5 * marks + 2 * length old + length new + trees
+
+-- The looks for the chunk tree, by what is known of the old one. Pairs move from the old system array to the chunks of the new one, without
+-- those that repeat.
+pub record FewForMap {L : Type 0} (both : Compared L) (array : List Chunk) (image : List ℕ) (before after : ℕ) : Type 0 where
+  pub old_array : List Chunk
+  pub array_is : array_chunks (array_place both.was.sup.now) both.was.sup.now.array both.was.sup.now.array_size ≡ Ok old_array
+  pub some : List Chunk
+  pub apart : AreApart some
+  pub same_place : (address n end : ℕ) → place some address n end ≡ place array address n end
+  pub moving : Marks
+  pub marks : ℕ
+  pub known : Known
+  pub by_kept : known.pairs ≡ pairs_of both.kept.now
+  pub marked_is : known.marked ≡ marked_by both.marks.now
+  pub moved_is : known.moved ≡ is_moved both.was.map.now array both.was.sup.now.nodesize both.was.end
+  pub moves : AreMoves (pairs_of both.kept.now) old_array some both.was.sup.now.nodesize both.was.end moving known.under marks
+  pub looks : MovesLookAtMost (pairs_of both.kept.now) old_array some both.was.sup.now.nodesize both.was.end marks before after
+      (tree_looks known (side_with both.was image) (side_to both image array) (Some (chunk_tree_root both.was.sup.now)) (chunk_tree_root both.fresh.now))
+
+-- the same for all other trees, where pairs move from the old chunks to the new ones
+pub record FewForRest {L : Type 0} (both : Compared L) (chunks : List Chunk) (image : List ℕ) (before after : ℕ) : Type 0 where
+  pub moving : Marks
+  pub marks : ℕ
+  pub known : Known
+  pub by_kept : known.pairs ≡ pairs_of both.kept.now
+  pub marked_is : known.marked ≡ marked_by both.marks.now
+  pub moved_is : known.moved ≡ is_moved both.was.map.now chunks both.was.sup.now.nodesize both.was.end
+  pub moves : AreMoves (pairs_of both.kept.now) both.was.map.now chunks both.was.sup.now.nodesize both.was.end moving known.under marks
+  pub parts : Parts
+  pub roots : List RootAt
+  pub tree : tree_parts (pairs_of both.table.now) known (side_with both.was image) (side_to both image chunks) (Some (root_tree_root both.was.sup.now))
+      (root_tree_root both.fresh.now) ≡ Ok parts
+  pub merged : IsSortedOf named_before (roots_left both.roots.now parts.old_items parts.new_items) roots
+  pub looks : MovesLookAtMost (pairs_of both.kept.now) both.was.map.now chunks both.was.sup.now.nodesize both.was.end marks before after
+      (tree_looks known (side_with both.was image) (side_to both image chunks) (Some (root_tree_root both.was.sup.now)) (root_tree_root both.fresh.now)
+      + named_looks both.is_same known (side_with both.was image) (side_to both image chunks) both.roots.now roots
+      + gone_all_looks known (side_with both.was image) roots both.roots.now)
+
+-- the looks for both, one behind the other
+pub record FewToCompare {L : Type 0} (both : Compared L) (image : List ℕ) (before after : ℕ) : Type 0 where
+  pub array : List Chunk
+  pub chunks : List Chunk
+  pub middle : ℕ
+  pub array_is : HasNewArray both array
+  pub chunks_are : IsCompared both image → chunk_map_in both.fresh.now array (judged_by both image) ≡ Ok chunks
+  pub for_map : FewForMap both array image before middle
+  pub for_rest : FewForRest both chunks image middle after
+
+-- where a disk tells its bytes, the looks are so few for the chunk tree, for all other trees, and for both
+abbrev pub LooksForMap : {L : Type 0} → Option (List ℕ) → ℕ → ℕ → Compared L → List Chunk → Type 0
+LooksForMap told before after both array = IfSome told (λ image. FewForMap both array image before after)
+
+abbrev pub LooksForRest : {L : Type 0} → Option (List ℕ) → ℕ → ℕ → Compared L → List Chunk → Type 0
+LooksForRest told before after both chunks = IfSome told (λ image. FewForRest both chunks image before after)
+
+abbrev pub LooksToCompare : {L : Type 0} → Option (List ℕ) → ℕ → ℕ → Compared L → Type 0
+LooksToCompare told before after both = IfSome told (λ image. FewToCompare both image before after)
+
+-- The looks to find the pairs that pending writes touch, and then those to compare. Where each pair has a place, and neither two chunks nor two
+-- copies overlap, the first are at most two for each mark, one for each piece of the writes and two for each chunk.
+pub record FewFromOld {L : Type 0} (both : Compared L) (image : List ℕ) (before after : ℕ) : Type 0 where
+  pub fits : FitsCompared both both.was.end
+  pub middle : ℕ
+  pub touched : (pieces : List Piece) → ArePiecesOf both.cache.now pieces
+      → ArePlaced (pairs_of both.kept.now) both.was.map.now both.was.sup.now.nodesize both.was.end → AreApart both.was.map.now
+      → 0 < both.was.sup.now.nodesize → NoneMeet (copies_of both.was.map.now)
+      → middle ≤ before + 2 * count_of both.marks.now + length pieces + 2 * length both.was.map.now
+  pub looks : FewToCompare both image middle after
+
+-- where a disk tells its bytes, the looks are so few from an image as it was, which is read so and of which this is known
+abbrev pub LooksFromOld : {L : Type 0} → Option (List ℕ) → ℕ → ℕ → BlockSource → FinMap nat_cmp ℕ → Super → List RootAt → LiveIndex L → Type 0
+LooksFromOld {L} told before after was pending fresh roots table = IfSome told (λ image. (both : Compared L) × (both.was ≡ was) × (both.cache.now ≡ pending)
+    × (both.fresh.now ≡ fresh) × (both.roots.now ≡ roots) × (both.table.now ≡ table) × FewFromOld both image before after)
