@@ -145,7 +145,7 @@ module _ (image : List ℕ) (old : Walked) where
         address_is = eqb-true at.0.address address both.1;
       }
 
-some_of : (entry : Option Live) → is_some entry ≡ true → (one : Live) × (entry ≡ Some one)
+pub some_of : (entry : Option Live) → is_some entry ≡ true → (one : Live) × (entry ≡ Some one)
 some_of None is = absurd (cc)
 some_of (Some one) is = (one, refl)
 
@@ -326,7 +326,7 @@ module _ (image : List ℕ) (pending : FinMap nat_cmp ℕ) (old new : Walked) wh
 -- ---- the chunk tree, by the chunks of the system arrays
 
 -- what holds of the address of each block of the chunk tree holds of that of each of its pairs
-of_chunk_pair : (image : List ℕ) (whole : Walked) (array : List Chunk) (P : ℕ → Type 0) → HasArray image whole array
+pub of_chunk_pair : (image : List ℕ) (whole : Walked) (array : List Chunk) (P : ℕ → Type 0) → HasArray image whole array
     → EachByArray (λ v. P v.address) image whole array → (address : ℕ) → is_some (table_of (live_in whole.seen) 3 address) ≡ true → P address
 of_chunk_pair image whole array P has each address some =
     let s = steps_of image whole has.walks in

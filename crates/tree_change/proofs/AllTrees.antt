@@ -29,7 +29,7 @@ use Rattle.shared_trees.proofs.Treed.{chunk_tree, trees_walk}
 use Rattle.tree_change.specs.AllTrees.{AllTreesLaw, AreAllParts, IsAll, has_id, named_at, root_named, side_by, with_parts}
 use Rattle.tree_change.specs.Change.{is_before, item_before}
 use Rattle.tree_change.specs.Merging.{root_at}
-use Rattle.tree_change.specs.OneTree.{IsAmong, IsOldOf, OneTreeLaw, shares, side_of}
+use Rattle.tree_change.specs.OneTree.{IsAmong, IsOldOf, IsTree, OneTreeLaw, shares, side_of}
 use Rattle.tree_change.specs.Walks.{Known, Parts, Side, gone_parts, tree_parts}
 use Rattle.tree_change.proofs.Alone.{alone_same, array_same}
 use Rattle.tree_change.proofs.Apart.{pairs_apart}
@@ -47,10 +47,10 @@ other_way m n is = grind (arith, nat_tests)
 module _ (law : OneTreeLaw) (image : List ℕ) (pending : FinMap nat_cmp ℕ) (old new : Walked) (olds news : List RootItem) (trees afters : List Tree)
     (array : List Chunk) (pairs : Pairs) (by_array known : Known) (chunk_parts root_parts named left : Parts)
     (a : IsAll image pending old new olds news trees afters array pairs by_array known chunk_parts root_parts named left) where
-  abbrev judged : List ℕ
+  abbrev pub judged : List ℕ
   judged = overlaid pending 0 image
 
-  abbrev side : Side
+  abbrev pub side : Side
   side = side_by judged new new.chunks
 
   abbrev all : Parts
@@ -59,7 +59,7 @@ module _ (law : OneTreeLaw) (image : List ℕ) (pending : FinMap nat_cmp ℕ) (o
   abbrev ids : List ℕ
   ids = all_ids (map root_at news) (map root_at olds)
 
-  abbrev was_stored : Stored
+  abbrev pub was_stored : Stored
   was_stored = stored_in image old.chunks old.sup.nodesize
 
   abbrev is_stored : Stored
@@ -171,6 +171,33 @@ module _ (law : OneTreeLaw) (image : List ℕ) (pending : FinMap nat_cmp ℕ) (o
         (was_named root three.0 one.0) made,
     named_all some is.1 three.1 one.1,
   )
+
+  -- each tree that is named now is one of those of the law of one tree
+  named_some : (some : List RootItem) → AllByRecursion (λ m. (m == 3) ≡ false) (at_ids (map root_at some))
+      → AllByRecursion (λ m. (m == 1) ≡ false) (at_ids (map root_at some))
+      → AllByRecursion (λ (root : RootItem).
+      IsTree image pending old trees pairs side known (root_named (map root_at olds) root.key.objectid) (named_root root)) some
+  named_some [] three one = tt
+  named_some (root ∷ some) three one = (
+    record {
+      has = a.over.has;
+      pairs_are = a.over.pairs_are;
+      over = refl;
+      root = (refl, refl);
+      was = was_named root three.0 one.0;
+      known_is = knows_one image pending old trees side known (root_named (map root_at olds) root.key.objectid) (named_root root)
+          (was_named root three.0 one.0) a.over.known_is;
+    },
+    named_some some three.1 one.1,
+  )
+
+  pub named_trees : AllByRecursion (λ (root : RootItem).
+      IsTree image pending old trees pairs side known (root_named (map root_at olds) root.key.objectid) (named_root root)) news
+  named_trees = named_some news new_distinct.0.1 new_distinct.1.0
+
+  -- each that was named is one of the old trees
+  pub olds_named : AllByRecursion (λ (root : RootItem). IsAmong (was_stored, named_root root) trees) olds
+  olds_named = named_each (λ t. IsAmong t trees) was_stored olds olds_among.1.1
 
   named_are : ArePieces all (at_ids (map root_at news)) named
   named_are =

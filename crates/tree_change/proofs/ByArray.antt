@@ -1,9 +1,9 @@
 -- What changes in the chunk tree, read by the chunks of the new system array, gives the new chunks.
-use Rattle.std.proofs.Common.{◌≡◌, ℕ, ◌+◌, ◌^◌, ◌<◌, Bool, true, List, ◌⊎◌, inl, inr, length, refl, ap, sym, ◌∙◌, Ok, Err, subst, zero, suc, arith}
+use Rattle.std.proofs.Common.{◌≡◌, ℕ, ◌+◌, ◌^◌, ◌<◌, ◌==◌, ◌&&◌, Bool, true, List, ◌⊎◌, inl, inr, length, refl, ap, sym, ◌∙◌, Ok, Err, subst, zero, suc, arith}
 use Rattle.std.specs.Prelude.{Option, Some, None, IfSome, Result}
 use Rattle.std.specs.List.{AllByRecursion}
 use Rattle.std.specs.Result.{IsErr}
-use Rattle.verdict.specs.Chunks.{place}
+use Rattle.verdict.specs.Chunks.{home, place}
 use Rattle.verdict.specs.Rules.{and_then, finding_or}
 use Rattle.verdict.specs.Trees.{is_node_size}
 use Rattle.verdict.specs.declared.finding.Finding.{Finding}
@@ -30,6 +30,7 @@ use Rattle.touched_pairs.specs.OneTree.{in_tree}
 use Rattle.touched_pairs.specs.Spots.{at_address}
 use Rattle.touched_pairs.specs.Touched.{touches_block, written_in}
 use Rattle.shared_trees.specs.ArrayLaw.{HasArray}
+use Rattle.shared_trees.specs.ArrayMoves.{LieApartOrSame}
 use Rattle.shared_trees.specs.Keeping.{Marks, Under}
 use Rattle.shared_trees.specs.LivePairs.{Walked}
 use Rattle.shared_trees.specs.Listed.{AreListedBy}
@@ -47,7 +48,9 @@ use Rattle.tree_change.specs.declared.sides.Sides.{Sides}
 use Rattle.tree_change.specs.declared.trees.TreeParts.{TreeParts}
 use Rattle.tree_change.proofs.Chunks.{chunks_found, chunks_made}
 use Rattle.tree_change.proofs.EachTree.{one_tree}
-use Rattle.tree_change.proofs.Knowing.{IsMovedBy, AreTouched, known_of, knows_chunk_tree}
+use Rattle.tree_change.proofs.ArraySound.{array_sound}
+use Rattle.tree_change.proofs.DistinctChunks.{held_left, left_alike}
+use Rattle.tree_change.proofs.Knowing.{IsMovedBy, AreTouched, known_of, knows_chunk_tree, marked_as}
 
 -- a step that stops for want of chunks tells the finding of the new chunk map
 pub refused : {D L : Type 0} (disk : Ghosts D) (old new : D) (some all : TreeParts) (both : Compared L) (array : List Chunk)
@@ -91,7 +94,7 @@ module _ {L : Type 0} (both : Compared L) (array : List Chunk) (sides : Sides L)
       ∙ ap (λ s. tree_parts (pairs_of both.table.now) known (side_of image is.based.old) s (Some before) now) (same_is image)
 
 -- what the marking calls promise is what is known of the old chunk tree, or nothing is
-module _ {L : Type 0} (both : Compared L) (array old_array some : List Chunk) (moving : Marks) (under : Under) (end : ℕ) where
+module _ {L : Type 0} (both : Compared L) (array old_array olds some : List Chunk) (moving : Marks) (under : Under) (end : ℕ) where
   -- what is known
   abbrev pub known_array : Known
   known_array = record {
@@ -103,16 +106,19 @@ module _ {L : Type 0} (both : Compared L) (array old_array some : List Chunk) (m
 
   abbrev pub AreMoving : Type 0
   AreMoving =
-      AreMarkedFrom (pairs_of both.kept.now) (in_tree 3 (held_and_moved old_array some both.was.sup.now.nodesize both.was.end))
-      (in_tree 3 (is_moved old_array some both.was.sup.now.nodesize both.was.end)) no_mark moving
+      AreMarkedFrom (pairs_of both.kept.now) (in_tree 3 (held_and_moved olds some both.was.sup.now.nodesize both.was.end))
+      (in_tree 3 (is_moved olds some both.was.sup.now.nodesize both.was.end)) no_mark moving
 
   pub array_known : (fit : FitsCompared both end) (image : List ℕ) (is : IsCompared both image)
       → array_chunks (array_place both.was.sup.now) both.was.sup.now.array both.was.sup.now.array_size ≡ Ok old_array
+      → (AllByRecursion (λ c. AllByRecursion (LieApartOrSame c) old_array) old_array
+      → AllByRecursion (λ (c : Chunk). (0 < c.length) × (c.start + c.length < 2 ^ 64)) old_array
+      → (address n : ℕ) → home olds address n ≡ home old_array address n)
       → ((address n end : ℕ) → place some address n end ≡ place array address n end) → AreMoving
       → AreListedBy (pairs_of both.kept.now) moving under
       → KnowsTree image both.cache.now is.based.old (side_to both image array) known_array (Some (chunk_tree_root is.based.old.sup))
       ⊎ KnowsNothing is.based.old (side_to both image array) known_array
-  array_known fit image is old_is same moved listed = by fit.keeps
+  array_known fit image is old_is distinct same moved listed = by fit.keeps
     where
       based : IsBased image both.was.sup.now both.was.map.now both.roots.now (pairs_of both.table.now)
       based = is.based
@@ -144,11 +150,18 @@ module _ {L : Type 0} (both : Compared L) (array old_array some : List Chunk) (m
       moves : (pairs_of both.kept.now ≡ pairs_of both.table.now) → IsMovedBy image old old_array some (pairs_of both.table.now) moving
       moves kept =
           let P = λ (pairs : Pairs) (sup : Super) (n : ℕ).
-          AreMarkedFrom pairs (in_tree 3 (held_and_moved old_array some sup.nodesize n))
-          (in_tree 3 (is_moved old_array some sup.nodesize n)) no_mark moving in
-          subst (λ n. P (pairs_of both.table.now) old.sup n) is.end
+          AreMarkedFrom pairs (in_tree 3 (held_and_moved olds some sup.nodesize n))
+          (in_tree 3 (is_moved olds some sup.nodesize n)) no_mark moving in
+          let sound = array_sound image old old_array has in
+          let homes = distinct sound.0 sound.1 in
+          let n = old.sup.nodesize in
+          marked_as (pairs_of both.table.now) (in_tree 3 (held_and_moved olds some n (length image))) (in_tree 3 (is_moved olds some n (length image)))
+          (in_tree 3 (held_and_moved old_array some n (length image))) (in_tree 3 (is_moved old_array some n (length image))) no_mark moving
+          (λ id address. ap (λ b. id == 3 && b) (sym (held_left olds old_array some homes n (length image) address)))
+          (λ id address. ap (λ b. id == 3 && b) (sym (left_alike olds old_array some homes n (length image) address)))
+          (subst (λ n. P (pairs_of both.table.now) old.sup n) is.end
           (subst (λ sup. P (pairs_of both.table.now) sup both.was.end) based.super_is
-          (subst (λ pairs. P pairs both.was.sup.now both.was.end) kept moved))
+          (subst (λ pairs. P pairs both.was.sup.now both.was.end) kept moved)))
 
       known_is : (pairs_of both.kept.now ≡ pairs_of both.table.now)
           → known_of image old (pairs_of both.table.now) (marked_by both.marks.now) under is_side_to ≡ known_array

@@ -55,7 +55,7 @@ use Rattle.tree_change.proofs.RootItems.{roots_found, roots_made}
 use Rattle.tree_change.proofs.Staying.{items_stand}
 
 -- what is known, by its parts
-abbrev known_with : Pairs → Marked → (ℕ → Bool) → Under → Known
+abbrev pub known_with : Pairs → Marked → (ℕ → Bool) → Under → Known
 known_with pairs marked moved under = record { pairs = pairs; marked = marked; moved = moved; under = under }
 
 -- All old trees are known by the table by which blocks are kept, by its marks and by its moved children; or nothing is.
@@ -94,28 +94,28 @@ size_some zero is = absurd (cc)
 size_some (suc n) is = omega arith
 
 module _ {L : Type 0} (both : Compared L) (image : List ℕ) (chunks : List Chunk) (c : IsCompared both image) where
-  abbrev old : Walked
+  abbrev pub old : Walked
   old = c.based.old
 
-  abbrev olds : List RootItem
+  abbrev pub olds : List RootItem
   olds = c.based.olds
 
-  abbrev trees : List Tree
+  abbrev pub trees : List Tree
   trees = trees_in old.sup old.chunks old.chunks olds image
 
-  abbrev pairs : Pairs
+  abbrev pub pairs : Pairs
   pairs = pairs_of both.table.now
 
-  abbrev side : Side
+  abbrev pub side : Side
   side = side_to both image chunks
 
   -- the new chunks lie apart
-  new_apart : HasNewMap both image chunks → AreApart chunks
+  pub new_apart : HasNewMap both image chunks → AreApart chunks
   new_apart has =
       map_apart chunks has.0 (length (judged_by both image)) (map_kept both.fresh.now has.0 chunks (judged_by both image) has.1)
 
   -- this is the side as it was
-  was_is : side_with both.was image ≡ side_of image old
+  pub was_is : side_with both.was image ≡ side_of image old
   was_is =
       ap (λ (s : Super). side_at s both.was.map.now) c.based.super_is ∙ ap (λ cs. side_at old.sup cs) c.based.chunks_are
     where
@@ -128,10 +128,10 @@ module _ {L : Type 0} (both : Compared L) (image : List ℕ) (chunks : List Chun
       subst (RootsStand pairs) (sym c.based.roots_are)
       (items_stand pairs old (stored_in image old.chunks old.sup.nodesize) c.based.pairs_are olds (old_stands image old trees c.based.has).1.1)
 
-  abbrev Over : Known → Type 0
+  abbrev pub Over : Known → Type 0
   Over known = IsOver image both.cache.now old olds trees pairs side known
 
-  over_by : (end : ℕ) (moving : Marked) (under : Under) (moved : ℕ → Bool) → FitsCompared both end → HasNewMap both image chunks
+  pub over_by : (end : ℕ) (moving : Marked) (under : Under) (moved : ℕ → Bool) → FitsCompared both end → HasNewMap both image chunks
       → (AreApart chunks → 0 < both.was.sup.now.nodesize
       → AreMarkedFrom (pairs_of both.kept.now) (at_address (held_and_moved both.was.map.now chunks both.was.sup.now.nodesize both.was.end))
       (at_address (is_moved both.was.map.now chunks both.was.sup.now.nodesize both.was.end)) no_mark moving)
@@ -150,7 +150,7 @@ module _ {L : Type 0} (both : Compared L) (image : List ℕ) (chunks : List Chun
 
   module _ (known : Known) (over : Over known) where
     -- the root tree is one of the trees
-    root_tree : IsTree image both.cache.now old trees pairs side known (Some (root_tree_root old.sup)) (root_tree_root both.fresh.now)
+    pub root_tree : IsTree image both.cache.now old trees pairs side known (Some (root_tree_root old.sup)) (root_tree_root both.fresh.now)
     root_tree = record {
       has = over.has;
       pairs_are = over.pairs_are;
@@ -161,10 +161,10 @@ module _ {L : Type 0} (both : Compared L) (image : List ℕ) (chunks : List Chun
           (refl, inr (inl refl)) over.known_is;
     }
 
-    abbrev tree : Result Parts Finding
+    abbrev pub tree : Result Parts Finding
     tree = tree_parts pairs known (side_of image old) side (Some (root_tree_root old.sup)) (root_tree_root both.fresh.now)
 
-    abbrev Merged : Parts → List RootAt → Type 0
+    abbrev pub Merged : Parts → List RootAt → Type 0
     Merged parts roots = IsSortedOf named_before (roots_left (map root_at olds) parts.old_items parts.new_items) roots
 
     -- the roots are those of items, on which the rules are judged

@@ -228,6 +228,20 @@ chunks_are_seen image old olds walks is =
     (sym given ∙ s.chunks_are) in
     same_ok (chunks_seen olds) old.chunks step.2
 
+-- each chunk of an image ends at an address of 64 bits
+pub chunks_end : (image : List ℕ) (old : Walked) → walked image ≡ Ok old → AllByRecursion Ends old.chunks
+unfolding walk_in
+chunks_end image old walks =
+    let s = steps_of image old walks in
+    let walk =
+    step_ok (chunk_records old.sup s.array image)
+    (λ records. and_then (finding_or (map_finding (chunks_seen records) s.array (length image)) (tt {0})) (λ _. Ok (chunks_seen records)))
+    old.chunks (sym (map_seen old.sup s.array image) ∙ s.chunks_are) in
+    let rules =
+    step_ok (finding_or (map_finding (chunks_seen walk.0) s.array (length image)) (tt {0})) (λ _. Ok (chunks_seen walk.0)) old.chunks walk.2 in
+    subst (AllByRecursion Ends) (same_ok (chunks_seen walk.0) old.chunks rules.2)
+    (fits_all old.sup s.array (chunk_tree_root old.sup) image walk.0 walk.1)
+
 -- The chunk map is what is merged of the old chunks, of what is gone and of what came, where the rules on it keep.
 pub chunks_made : OneTreeLaw → (image : List ℕ) (pending : FinMap nat_cmp ℕ) (old : Walked) (trees : List Tree) (pairs : Pairs) (is : Side)
     (known : Known) (parts : Parts) (map : List Chunk)

@@ -9,21 +9,24 @@ use Rattle.recon_disk.specs.declared.disk.Disk.{Ghosts}
 use Rattle.write_cache.specs.Pieces.{ArePiecesOf, Piece}
 use Rattle.block_source.specs.declared.read.BlockSource.{BlockSource}
 use Rattle.block_source.specs.declared.halt.Halt.{Halt}
-use Rattle.live_index.specs.Pairs.{Pairs}
+use Rattle.live_index.specs.Pairs.{AreNarrow, Pairs}
 use Rattle.live_index.specs.Table.{pairs_of}
 use Rattle.live_index.specs.declared.kept.LiveIndex.{LiveIndex}
+use Rattle.live_index.specs.declared.live.Live.{Live}
 use Rattle.super_reader.specs.declared.Super.{Super}
 use Rattle.super_reader.specs.Superblock.{array_place}
 use Rattle.volume_items.specs.declared.root_at.RootAt.{RootAt}
 use Rattle.volume_items.specs.SystemArray.{array_chunks}
 use Rattle.touched_pairs.specs.Looks.{ArePlaced, NoneMeet, copies_of}
-use Rattle.touched_pairs.specs.Marks.{count_of, marked_by}
+use Rattle.touched_pairs.specs.Marks.{AreAmong, count_of, marked_by}
 use Rattle.touched_pairs.specs.Moves.{AreApart, is_moved, move_passes}
+use Rattle.touched_pairs.specs.OneTree.{of_tree}
 use Rattle.touched_pairs.specs.declared.marks.Marks.{Marks}
 use Rattle.touched_pairs.specs.declared.moved.Move.{Move}
+use Rattle.shared_trees.specs.Shared.{are_read_alike}
 use Rattle.shared_trees.specs.Under.{under_of}
 use Rattle.shared_trees.specs.declared.starts.Starts.{Starts}
-use Rattle.tree_change.specs.AllLooks.{AreMoves, LooksForMap, LooksForRest, LooksFromOld, LooksToCompare, MovesLookAtMost}
+use Rattle.tree_change.specs.AllLooks.{AreDistinctOf, AreMoves, AreTreeMoves, HaveHomesOf, LooksForMap, LooksForRest, LooksFromOld, LooksToCompare, MovesLookAtMost}
 use Rattle.records.specs.Contents.{chunk_map_in}
 use Rattle.tree_change.specs.Compared.{FitsCompared, HasNewArray, IsCompared, MakesMap, TellsMap, judged_by}
 use Rattle.tree_change.specs.Looks.{LooksAtMost, OthersLookAtMost, chunk_looks_in, other_looks_in}
@@ -85,25 +88,31 @@ module _ {L : Type 0} (both : Compared L) (new : Bor (List Chunk)) (moves : Bor 
       }
 
   -- the looks for the chunk tree
-  pub map_few : (A : Type 0) (told : Option (List ℕ)) (result : Result A Halt) (old_array some : List Chunk) (moving : Marks) (first at next last : ℕ)
+  pub map_few : (A : Type 0) (told : Option (List ℕ)) (result : Result A Halt) (old_array olds some : List Chunk) (moving : Marks) (first at next last : ℕ)
       → IsMove both new moves starts same
       → array_chunks (array_place both.was.sup.now) both.was.sup.now.array both.was.sup.now.array_size ≡ Ok old_array
+      → AreDistinctOf old_array olds → HaveHomesOf old_array olds → length olds ≤ length old_array → length some ≤ length new.now
       → AreApart some → ((address n end : ℕ) → place some address n end ≡ place new.now address n end)
-      → AreMoves (pairs_of both.kept.now) old_array some both.was.sup.now.nodesize both.was.end (marked_by moving) (under_of starts.now) (count_of moving)
-      → (ArePlaced (pairs_of both.kept.now) old_array both.was.sup.now.nodesize both.was.end → AreApart old_array → AreApart some
-      → 0 < both.was.sup.now.nodesize → at ≤ first + 2 * count_of moving + 2 * length old_array + length some)
+      → AreTreeMoves 3 (pairs_of both.kept.now) olds some both.was.sup.now.nodesize both.was.end (marked_by moving) (under_of starts.now) (count_of moving)
+      → (ArePlaced (of_tree 3 (pairs_of both.kept.now)) olds both.was.sup.now.nodesize both.was.end → AreApart olds → AreApart some
+      → 0 < both.was.sup.now.nodesize → at ≤ first + 2 * count_of moving + 2 * length olds + length some)
       → next ≤ at + 3 * count_of moving
       → OnOk result (LooksAtMost told next last (chunk_looks_in (sides_by both new moves starts same)))
       → OnOk result (LooksForMap told first last both new.now)
-  map_few A told (Err halt) old_array some moving first at next last is array_is apart place_is are moved listed tree = tt
-  map_few A told (Ok value) old_array some moving first at next last is array_is apart place_is are moved listed tree = by told tree
+  map_few A told (Err halt) old_array olds some moving first at next last is array_is distinct homes few_olds few_some apart place_is are moved listed tree = tt
+  map_few A told (Ok value) old_array olds some moving first at next last is array_is distinct homes few_olds few_some apart place_is are moved listed tree = by told tree
     where
       by : (t : Option (List ℕ)) → LooksAtMost t next last (chunk_looks_in (sides_by both new moves starts same)) → LooksForMap t first last both new.now
       by None tree = tt
       by (Some image) tree = record {
         old_array = old_array;
         array_is = array_is;
+        olds = olds;
+        olds_are = distinct;
+        homes = homes;
+        few_olds = few_olds;
         some = some;
+        few_some = few_some;
         apart = apart;
         same_place = place_is;
         moving = marked_by moving;
@@ -113,7 +122,7 @@ module _ {L : Type 0} (both : Compared L) (new : Bor (List Chunk)) (moves : Bor 
         marked_is = refl;
         moved_is = moves_same moves.now both.was.map.now new.now both.was.sup.now.nodesize both.was.end is.before is.after is.size is.until;
         moves = are;
-        looks = moves_few (pairs_of both.kept.now) old_array some both.was.sup.now.nodesize both.was.end (count_of moving) first at next last
+        looks = moves_few (of_tree 3 (pairs_of both.kept.now)) olds some both.was.sup.now.nodesize both.was.end (count_of moving) first at next last
             (chunk_looks_in (sides_by both new moves starts same) image) moved listed tree;
       }
 
@@ -154,14 +163,24 @@ both_few {D} {L} disk start second some all both array chunks first at last arra
 pub old_few : (A : Type 0) {L : Type 0} (both : Compared L) (told : Option (List ℕ)) (result : Result A Halt) (was : BlockSource)
     (pending : FinMap nat_cmp ℕ) (fresh : Super) (roots : List RootAt) (table : LiveIndex L) (first at last : ℕ) → both.was ≡ was
     → both.cache.now ≡ pending → both.fresh.now ≡ fresh → both.roots.now ≡ roots → both.table.now ≡ table → FitsCompared both both.was.end
+    → both.is_same ≡ are_read_alike both.was.sup.now both.fresh.now → AreNarrow (pairs_of both.table.now)
+    → ((lives : List Live) → AreAmong (marked_by both.marks.now) lives → count_of both.marks.now ≤ length lives)
     → ((pieces : List Piece) → ArePiecesOf both.cache.now pieces
     → ArePlaced (pairs_of both.kept.now) both.was.map.now both.was.sup.now.nodesize both.was.end → AreApart both.was.map.now
     → 0 < both.was.sup.now.nodesize → NoneMeet (copies_of both.was.map.now)
     → at ≤ first + 2 * count_of both.marks.now + length pieces + 2 * length both.was.map.now)
     → OnOk result (LooksToCompare told at last both) → OnOk result (LooksFromOld told first last was pending fresh roots table)
-old_few A both told (Err halt) was pending fresh roots table first at last a b c d e fits touched looks = tt
-old_few A both told (Ok value) was pending fresh roots table first at last a b c d e fits touched looks = by told looks
+old_few A both told (Err halt) was pending fresh roots table first at last a b c d e fits alike narrow few_marks touched looks = tt
+old_few A both told (Ok value) was pending fresh roots table first at last a b c d e fits alike narrow few_marks touched looks = by told looks
   where
     by : (t : Option (List ℕ)) → LooksToCompare t at last both → LooksFromOld t first last was pending fresh roots table
     by None looks = tt
-    by (Some image) looks = (both, a, b, c, d, e, record { fits = fits; middle = at; touched = touched; looks = looks })
+    by (Some image) looks = (
+      both,
+      a,
+      b,
+      c,
+      d,
+      e,
+      record { fits = fits; alike = alike; narrow = narrow; few_marks = few_marks; middle = at; touched = touched; looks = looks },
+    )

@@ -67,7 +67,7 @@ module _ (judged : List ℕ) (fresh : Super) (super_is : superblock_in judged �
 
       -- and these its root items
       module _ (roots : List RootItem) (items : root_items_in fresh chunks judged ≡ Ok roots) where
-        all_found : (finding : Finding) → tree_records fresh chunks roots judged ≡ Err finding
+        pub all_found : (finding : Finding) → tree_records fresh chunks roots judged ≡ Err finding
             → all_records fresh array chunks roots judged ≡ Err finding
         unfolding all_records behind
         all_found finding failed =

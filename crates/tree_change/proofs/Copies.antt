@@ -37,7 +37,7 @@ use Rattle.tree_change.proofs.Olds.{same_ok}
 
 -- ---- each chunk has bytes
 
-abbrev HasBytes : Chunk → Type 0
+abbrev pub HasBytes : Chunk → Type 0
 HasBytes c = 0 < c.length
 
 abbrev FitsLength : Key → Part → Type 0
@@ -82,7 +82,7 @@ all_bytes (one ∷ ones) all = by one.part all.0 (all_bytes ones all.1)
     by (ChunkPart fields) some rest = (some, rest)
     by other some rest = rest
 
-chunks_have_bytes : (image : List ℕ) (old : Walked) → walked image ≡ Ok old → AllByRecursion HasBytes old.chunks
+pub chunks_have_bytes : (image : List ℕ) (old : Walked) → walked image ≡ Ok old → AllByRecursion HasBytes old.chunks
 unfolding walk_in
 chunks_have_bytes image old walks =
     let s = steps_of image old walks in

@@ -29,7 +29,7 @@ found_is (Err (Found other)) finding is = cc
 found_is (Err Disk) finding is = absurd (cc)
 found_is (Err NoMemory) finding is = absurd (cc)
 
-change_is : (result : Result Change Halt) (change : Change) → told result ≡ Ok (Ok change) → result ≡ Ok change
+pub change_is : (result : Result Change Halt) (change : Change) → told result ≡ Ok (Ok change) → result ≡ Ok change
 change_is (Ok other) change is = cc
 change_is (Err (Found other)) change is = absurd (cc)
 change_is (Err Disk) change is = absurd (cc)

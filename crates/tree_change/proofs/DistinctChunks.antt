@@ -1,18 +1,18 @@
 -- Of several chunks that hold one address one is kept, and all addresses stand at the same places.
 use Rattle.std.proofs.Common.{◌≡◌, ℕ, ◌+◌, ◌<◌, ◌≤◌, ◌^◌, ◌==◌, ◌&&◌, nat_le, not, cond, Bool, true, false}
-use Rattle.std.proofs.Common.{List, [], ◌∷◌, ◌++◌, length, take, inl, inr, refl, sym, ap, subst, ◌∙◌, arith}
+use Rattle.std.proofs.Common.{List, [], ◌∷◌, ◌++◌, length, suc, take, inl, inr, refl, sym, ap, subst, ◌∙◌, arith}
 use Rattle.std.specs.Prelude.{Some, is_some, if◌then◌else◌}
 use Rattle.std.specs.List.{AllByRecursion, fold}
 use Rattle.std.proofs.lemmas.Bool.{eqb-true}
 use Rattle.std.proofs.lemmas.Grind.{common_steps}
 use Rattle.std.proofs.lemmas.Bool.Decides.{nat_tests}
-use Rattle.std.proofs.lemmas.List.{append-nil, append_assoc}
+use Rattle.std.proofs.lemmas.List.{append-nil, append_assoc, length-append}
 use Rattle.verdict.specs.Chunks.{holds_range, home, place, place_in}
 use Rattle.verdict.specs.declared.place.Chunk.{Chunk}
 use Rattle.touched_pairs.specs.Moves.{AreApart, LieApart, held_and_moved, is_moved, same_chunk, same_second}
 use Rattle.touched_pairs.specs.Touched.{same_place}
 use Rattle.shared_trees.specs.ArrayMoves.{LieApartOrSame}
-use Rattle.tree_change.specs.Distinct.{distinct, with_new}
+use Rattle.tree_change.specs.Distinct.{distinct, is_new, with_new}
 use Rattle.tree_change.specs.Merges.{fits}
 
 -- ---- lists of which all elements have something
@@ -182,19 +182,39 @@ gives kept (d ∷ rest) is = by (is_some (home kept d.start 1)) refl (gives (kep
               ∙ ap (λ l. home l a n) (append_assoc kept (d ∷ []) rest);
         }
 
+abbrev AreApartOrSame : List Chunk → Type 0
+AreApartOrSame whole = AllByRecursion (λ c. AllByRecursion (LieApartOrSame c) whole) whole
+
 -- the chunks that are kept of a list lie apart, and the same one holds each range
+given_of : (whole : List Chunk) → AreApartOrSame whole → AllByRecursion Fine whole → Gives [] whole
+given_of whole all fine = gives [] whole (record {
+  apart = tt;
+  each = all_any (λ d. AllByRecursion (λ c. LieApartOrSame c d) []) whole (λ d. tt);
+  later = later_of whole all;
+  fine = fine;
+})
+
+-- so all addresses stand at the same places
 pub distinct_apart : (whole : List Chunk) → AllByRecursion (λ c. AllByRecursion (LieApartOrSame c) whole) whole
     → AllByRecursion (λ (c : Chunk). (0 < c.length) × (c.start + c.length < 2 ^ 64)) whole
     → AreApart (distinct whole) × ((address n end : ℕ) → place (distinct whole) address n end ≡ place whole address n end)
-distinct_apart whole all fine = (given.apart, λ address n end. ap (λ o. place_in o address n end) (given.homes address n))
+distinct_apart whole all fine =
+    let given = given_of whole all fine in
+    (given.apart, λ address n end. ap (λ o. place_in o address n end) (given.homes address n))
+
+-- no more are kept than there are
+with_few : (rest kept : List Chunk) → length (fold with_new kept rest) ≤ length kept + length rest
+with_few [] kept = omega arith
+with_few (d ∷ rest) kept =
+    by (is_new kept d) (with_few rest)
   where
-    given : Gives [] whole
-    given = gives [] whole (record {
-      apart = tt;
-      each = all_any (λ d. AllByRecursion (λ c. LieApartOrSame c d) []) whole (λ d. tt);
-      later = later_of whole all;
-      fine = fine;
-    })
+    by : (b : Bool) → ((some : List Chunk) → length (fold with_new some rest) ≤ length some + length rest)
+        → length (fold with_new (if b then kept ++ d ∷ [] else kept) rest) ≤ length kept + suc (length rest)
+    by true rest_few =
+        let here = rest_few (kept ++ d ∷ []) in
+        let more : length (kept ++ d ∷ []) ≡ length kept + 1 = length-append kept (d ∷ []) in
+        omega (arith, here, more)
+    by false rest_few = let here = rest_few kept in omega (arith, here)
 
 -- ---- where two lists place all addresses alike, the same blocks move from an old list to them
 
@@ -216,3 +236,31 @@ distinct_kept whole items some i same past is all fine =
     let taken : take i items ≡ items = grind (arith, common_steps) in
     subst (λ l. AreApart l × ((address n end : ℕ) → place l address n end ≡ place whole address n end)) (sym (is ∙ ap distinct (taken ∙ same)))
     (distinct_apart whole all fine)
+
+pub homes_kept : (whole items some : List Chunk) (i : ℕ) → items ≡ whole → length items ≤ i → some ≡ distinct (take i items)
+    → AllByRecursion (λ c. AllByRecursion (LieApartOrSame c) whole) whole
+    → AllByRecursion (λ (c : Chunk). (0 < c.length) × (c.start + c.length < 2 ^ 64)) whole
+    → (address n : ℕ) → home some address n ≡ home whole address n
+homes_kept whole items some i same past is all fine =
+    let taken : take i items ≡ items = grind (arith, common_steps) in
+    subst (λ l. (address n : ℕ) → home l address n ≡ home whole address n) (sym (is ∙ ap distinct (taken ∙ same)))
+    (given_of whole all fine).homes
+
+pub kept_few : (whole items some : List Chunk) (i : ℕ) → items ≡ whole → length items ≤ i → some ≡ distinct (take i items)
+    → length some ≤ length whole
+kept_few whole items some i same past is =
+    let taken : take i items ≡ items = grind (arith, common_steps) in
+    let few = with_few whole [] in
+    subst (λ l. length l ≤ length whole) (sym (is ∙ ap distinct (taken ∙ same))) (omega (arith, few))
+
+-- where the same chunk of two old lists holds each block, the same blocks are held and move
+pub left_alike : (some whole new : List Chunk) → ((address n : ℕ) → home some address n ≡ home whole address n)
+    → (nodesize end address : ℕ) → is_moved some new nodesize end address ≡ is_moved whole new nodesize end address
+left_alike some whole new same nodesize end address =
+    ap (λ o. not (same_place (place_in o address nodesize end) (place new address nodesize end))) (same address nodesize)
+
+pub held_left : (some whole new : List Chunk) → ((address n : ℕ) → home some address n ≡ home whole address n)
+    → (nodesize end address : ℕ) → held_and_moved some new nodesize end address ≡ held_and_moved whole new nodesize end address
+held_left some whole new same nodesize end address =
+    ap (λ o. is_some o && is_moved some new nodesize end address) (same address nodesize)
+    ∙ ap (λ b. is_some (home whole address nodesize) && b) (left_alike some whole new same nodesize end address)

@@ -20,7 +20,8 @@ use Rattle.shared_trees.specs.Visits.{visits_in, visits_of}
 use Rattle.shared_trees.specs.VisitsLaw.{entries_at, entries_seen, blocks_seen as blocks_among}
 use Rattle.shared_trees.proofs.Rooted.{step_ok}
 use Rattle.tree_change.specs.Gathered.{Gathers, blocks_seen}
-use Rattle.tree_change.specs.LooksLaw.{entries_of, few_for, old_visits}
+use Rattle.tree_change.specs.Looks.{old_visits}
+use Rattle.tree_change.specs.LooksLaw.{entries_of, few_for}
 use Rattle.tree_change.specs.OneTree.{side_of}
 use Rattle.tree_change.specs.Walks.{Known, Side, listed_by, old_walk, pairs_at}
 use Rattle.tree_change.proofs.OfTree.{LeadsIn, few_in}

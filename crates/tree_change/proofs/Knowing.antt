@@ -32,7 +32,7 @@ use Rattle.tree_change.specs.Walks.{Known, Side}
 use Rattle.tree_change.proofs.Olds.{old_stands}
 
 -- pairs are marked from some as from the same
-marked_as : (pairs : Pairs) (must may must_too may_too old new : Marked) → ((tree address : ℕ) → must_too tree address ≡ must tree address)
+pub marked_as : (pairs : Pairs) (must may must_too may_too old new : Marked) → ((tree address : ℕ) → must_too tree address ≡ must tree address)
     → ((tree address : ℕ) → may_too tree address ≡ may tree address) → AreMarkedFrom pairs must may old new
     → AreMarkedFrom pairs must_too may_too old new
 marked_as pairs must may must_too may_too old new same_must same_may from = record {

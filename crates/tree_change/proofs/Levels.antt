@@ -42,7 +42,7 @@ low_of n is = let most = ltb-false 7 n is in omega (arith, most)
 
 -- ---- the roots of the root tree and of the chunk tree
 
-supers_low : (image : List ℕ) (sup : Super) → superblock_in image ≡ Ok sup → (sup.root_level < 8) × (sup.chunk_root_level < 8)
+pub supers_low : (image : List ℕ) (sup : Super) → superblock_in image ≡ Ok sup → (sup.root_level < 8) × (sup.chunk_root_level < 8)
 unfolding superblock_in superblock_of limit_rules
 supers_low image sup is = by (nat_lt (length image) 69632) is
   where
@@ -61,7 +61,7 @@ supers_low image sup is = by (nat_lt (length image) 69632) is
 
 -- ---- the roots that root items name
 
-abbrev IsLow : RootItem → Type 0
+abbrev pub IsLow : RootItem → Type 0
 IsLow root = root.level < 8
 
 abbrev FitsLevel : Key → Part → Type 0
@@ -102,7 +102,7 @@ all_low (one ∷ ones) all = by one.part all.0 (all_low ones all.1)
     by (RootPart root) low rest = (low, rest)
     by other low rest = rest
 
-roots_low : (sup : Super) (chunks : List Chunk) (image : List ℕ) (roots : List RootItem) → root_items_in sup chunks image ≡ Ok roots
+pub roots_low : (sup : Super) (chunks : List Chunk) (image : List ℕ) (roots : List RootItem) → root_items_in sup chunks image ≡ Ok roots
     → AllByRecursion IsLow roots
 unfolding walk_in
 roots_low sup chunks image roots is =

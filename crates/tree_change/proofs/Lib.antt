@@ -46,6 +46,7 @@ pub mod Knowing
 pub mod Chunks
 pub mod RootItems
 pub mod AllChanges
+pub mod ArraySound
 pub mod ByArray
 pub mod Others
 pub mod OtherLooks
@@ -65,3 +66,7 @@ pub mod TouchedRoot
 pub mod LedTree
 pub mod OneRead
 pub mod TreeLooks
+pub mod TreeSums
+pub mod ArrayFew
+pub mod AllFew
+pub mod DifferenceFew

@@ -27,7 +27,8 @@ use Rattle.shared_trees.specs.declared.starts.Start.{Start}
 use Rattle.shared_trees.proofs.Climbing.{some_live}
 use Rattle.shared_trees.proofs.Rooted.{step_ok}
 use Rattle.tree_change.specs.Gathered.{Gathers}
-use Rattle.tree_change.specs.LooksLaw.{IsRootTouched, met_by}
+use Rattle.tree_change.specs.Looks.{met_by}
+use Rattle.tree_change.specs.LooksLaw.{IsRootTouched}
 use Rattle.tree_change.specs.OneTree.{IsOldOf, IsTree, KnowsNothing, KnowsTree, old_tree, side_of}
 use Rattle.tree_change.specs.Stays.{Stays}
 use Rattle.tree_change.specs.Walks.{Known, Side, kept_by, listed_by, old_or_none, old_walk}

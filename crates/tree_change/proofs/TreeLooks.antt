@@ -30,7 +30,8 @@ use Rattle.shared_trees.proofs.Forest.{stands_as}
 use Rattle.shared_trees.proofs.OldBlocks.{unshared_are}
 use Rattle.shared_trees.proofs.Rooted.{step_ok}
 use Rattle.tree_change.specs.Gathered.{Gathers, blocks_seen}
-use Rattle.tree_change.specs.LooksLaw.{ComesToFew, GoesByFew, GoneLooksLaw, IsRootTouched, TreeLooksLaw, entries_of, few_for, met_by, new_visits, old_visits}
+use Rattle.tree_change.specs.Looks.{met_by, new_visits, old_visits}
+use Rattle.tree_change.specs.LooksLaw.{ComesToFew, GoesByFew, GoneLooksLaw, IsRootTouched, TreeLooksLaw, entries_of, few_for}
 use Rattle.tree_change.specs.OneTree.{IsOldOf, IsTree, old_tree, side_of}
 use Rattle.tree_change.specs.Stays.{Stays}
 use Rattle.tree_change.specs.Walks.{Known, NewWalk, Parts, Side, gone_parts, kept_by, last_at, lasts_by, listed_by, live_with, lives_of, new_walk, no_walk, old_or_none, old_walk, pairs_at, parts_of, tree_parts}

@@ -1,11 +1,12 @@
 -- How many looks into a table of live pairs may be counted for all that changes from one image to another.
-use Rattle.std.specs.Prelude.{ℕ, ◌≡◌, ◌+◌, ◌*◌, ◌<◌, ◌≤◌, List, length, Option, Some, Ok, IfSome}
+use Rattle.std.specs.Prelude.{ℕ, ◌≡◌, ◌+◌, ◌*◌, ◌^◌, ◌<◌, ◌≤◌, List, length, Option, Some, Ok, IfSome}
+use Rattle.std.specs.List.{AllByRecursion}
 use Rattle.std.specs.Ordering.{nat_cmp}
 use Rattle.std.specs.FinMap.{FinMap}
-use Rattle.verdict.specs.Chunks.{place}
+use Rattle.verdict.specs.Chunks.{home, place}
 use Rattle.verdict.specs.declared.place.Chunk.{Chunk}
 use Rattle.write_cache.specs.Pieces.{ArePiecesOf, Piece}
-use Rattle.live_index.specs.Pairs.{Pairs}
+use Rattle.live_index.specs.Pairs.{AreNarrow, Pairs}
 use Rattle.live_index.specs.Table.{pairs_of}
 use Rattle.live_index.specs.declared.kept.LiveIndex.{LiveIndex}
 use Rattle.live_index.specs.declared.live.Live.{Live}
@@ -17,11 +18,14 @@ use Rattle.records.specs.Contents.{chunk_map_in, chunk_tree_root, root_tree_root
 use Rattle.block_source.specs.declared.read.BlockSource.{BlockSource}
 use Rattle.touched_pairs.specs.Looks.{ArePlaced, NoneMeet, copies_of}
 use Rattle.touched_pairs.specs.Marking.{AreLow, AreMarkedFrom, HaveEach}
-use Rattle.touched_pairs.specs.Marks.{count_of, marked_by, no_mark}
+use Rattle.touched_pairs.specs.Marks.{AreAmong, count_of, marked_by, no_mark}
 use Rattle.touched_pairs.specs.Moves.{AreApart, held_and_moved, is_moved}
+use Rattle.touched_pairs.specs.OneTree.{in_tree, of_tree}
 use Rattle.touched_pairs.specs.Spots.{at_address}
+use Rattle.shared_trees.specs.ArrayMoves.{LieApartOrSame}
 use Rattle.shared_trees.specs.Keeping.{Marks, Under}
 use Rattle.shared_trees.specs.Listed.{AreListedBy}
+use Rattle.shared_trees.specs.Shared.{are_read_alike}
 use Rattle.tree_change.specs.Compared.{FitsCompared, HasNewArray, IsCompared, judged_by, side_to}
 use Rattle.tree_change.specs.Looks.{gone_all_looks, named_looks, tree_looks}
 use Rattle.tree_change.specs.Merging.{IsSortedOf, named_before, roots_left}
@@ -37,6 +41,13 @@ pub record AreMoves (pairs : Pairs) (old new : List Chunk) (nodesize end : ℕ) 
   pub listed : AreListedBy pairs moving under
   pub few : AreLow pairs → (lives : List Live) → HaveEach pairs (is_moved old new nodesize end) lives → marks ≤ 8 * length lives
 
+-- the same of the pairs of one tree alone
+pub record AreTreeMoves (tree : ℕ) (pairs : Pairs) (old new : List Chunk) (nodesize end : ℕ) (moving : Marks) (under : Under) (marks : ℕ) : Type 0 where
+  pub marked : AreApart new → 0 < nodesize
+      → AreMarkedFrom pairs (in_tree tree (held_and_moved old new nodesize end)) (in_tree tree (is_moved old new nodesize end)) no_mark moving
+  pub listed : AreListedBy pairs moving under
+  pub few : AreLow pairs → (lives : List Live) → HaveEach (of_tree tree pairs) (is_moved old new nodesize end) lives → marks ≤ 8 * length lives
+
 -- where each pair has a place and no two chunks of a list overlap, at most so many looks were counted: five for each of these marks, two for
 -- each old chunk, one for each new one, and those for trees
 abbrev pub MovesLookAtMost : Pairs → List Chunk → List Chunk → ℕ → ℕ → ℕ → ℕ → ℕ → ℕ → Type 0
@@ -44,12 +55,32 @@ MovesLookAtMost pairs old new nodesize end marks before after trees =
     ArePlaced pairs old nodesize end → AreApart old → AreApart new → 0 < nodesize
     → after ≤ before + 5 * marks + 2 * length old + length new + trees
 
--- The looks for the chunk tree, by what is known of the old one. Pairs move from the old system array to the chunks of the new one, without
--- those that repeat.
+-- Where any two chunks of a list lie apart or are the same, and each has bytes at addresses of 64 bits, no two of others overlap, and all addresses
+-- stand at the same places by both.
+abbrev pub AreDistinctOf : List Chunk → List Chunk → Type 0
+AreDistinctOf whole some =
+    AllByRecursion (λ c. AllByRecursion (LieApartOrSame c) whole) whole
+    → AllByRecursion (λ (c : Chunk). (0 < c.length) × (c.start + c.length < 2 ^ 64)) whole
+    → AreApart some × ((address n end : ℕ) → place some address n end ≡ place whole address n end)
+
+-- there the same chunk of both holds each range
+abbrev pub HaveHomesOf : List Chunk → List Chunk → Type 0
+HaveHomesOf whole some =
+    AllByRecursion (λ c. AllByRecursion (LieApartOrSame c) whole) whole
+    → AllByRecursion (λ (c : Chunk). (0 < c.length) × (c.start + c.length < 2 ^ 64)) whole
+    → (address n : ℕ) → home some address n ≡ home whole address n
+
+-- The looks for the chunk tree, by what is known of the old one. Its pairs move from the chunks of the old system array to those of the new one, of
+-- each array without those that repeat.
 pub record FewForMap {L : Type 0} (both : Compared L) (array : List Chunk) (image : List ℕ) (before after : ℕ) : Type 0 where
   pub old_array : List Chunk
   pub array_is : array_chunks (array_place both.was.sup.now) both.was.sup.now.array both.was.sup.now.array_size ≡ Ok old_array
+  pub olds : List Chunk
+  pub olds_are : AreDistinctOf old_array olds
+  pub homes : HaveHomesOf old_array olds
+  pub few_olds : length olds ≤ length old_array
   pub some : List Chunk
+  pub few_some : length some ≤ length array
   pub apart : AreApart some
   pub same_place : (address n end : ℕ) → place some address n end ≡ place array address n end
   pub moving : Marks
@@ -58,8 +89,8 @@ pub record FewForMap {L : Type 0} (both : Compared L) (array : List Chunk) (imag
   pub by_kept : known.pairs ≡ pairs_of both.kept.now
   pub marked_is : known.marked ≡ marked_by both.marks.now
   pub moved_is : known.moved ≡ is_moved both.was.map.now array both.was.sup.now.nodesize both.was.end
-  pub moves : AreMoves (pairs_of both.kept.now) old_array some both.was.sup.now.nodesize both.was.end moving known.under marks
-  pub looks : MovesLookAtMost (pairs_of both.kept.now) old_array some both.was.sup.now.nodesize both.was.end marks before after
+  pub moves : AreTreeMoves 3 (pairs_of both.kept.now) olds some both.was.sup.now.nodesize both.was.end moving known.under marks
+  pub looks : MovesLookAtMost (of_tree 3 (pairs_of both.kept.now)) olds some both.was.sup.now.nodesize both.was.end marks before after
       (tree_looks known (side_with both.was image) (side_to both image array) (Some (chunk_tree_root both.was.sup.now)) (chunk_tree_root both.fresh.now))
 
 -- the same for all other trees, where pairs move from the old chunks to the new ones
@@ -101,10 +132,14 @@ LooksForRest told before after both chunks = IfSome told (λ image. FewForRest b
 abbrev pub LooksToCompare : {L : Type 0} → Option (List ℕ) → ℕ → ℕ → Compared L → Type 0
 LooksToCompare told before after both = IfSome told (λ image. FewToCompare both image before after)
 
--- The looks to find the pairs that pending writes touch, and then those to compare. Where each pair has a place, and neither two chunks nor two
+-- The looks to find the pairs that pending writes touch, and then those to compare. No more pairs are marked than there are live pairs among which
+-- each marked one is. Where each pair has a place, and neither two chunks nor two
 -- copies overlap, the first are at most two for each mark, one for each piece of the writes and two for each chunk.
 pub record FewFromOld {L : Type 0} (both : Compared L) (image : List ℕ) (before after : ℕ) : Type 0 where
   pub fits : FitsCompared both both.was.end
+  pub alike : both.is_same ≡ are_read_alike both.was.sup.now both.fresh.now
+  pub narrow : AreNarrow (pairs_of both.table.now)
+  pub few_marks : (lives : List Live) → AreAmong (marked_by both.marks.now) lives → count_of both.marks.now ≤ length lives
   pub middle : ℕ
   pub touched : (pieces : List Piece) → ArePiecesOf both.cache.now pieces
       → ArePlaced (pairs_of both.kept.now) both.was.map.now both.was.sup.now.nodesize both.was.end → AreApart both.was.map.now

@@ -17,3 +17,4 @@ pub mod Compared
 pub mod Accepted
 pub mod LooksLaw
 pub mod AllLooks
+pub mod FewLooks

@@ -7,29 +7,15 @@ use Rattle.live_index.specs.declared.live.Live.{Live}
 use Rattle.node_reader.specs.Stored.{stored_in}
 use Rattle.node_reader.specs.declared.expect.Expect.{Expect}
 use Rattle.shared_trees.specs.LivePairs.{Walked, live_in, table_of}
-use Rattle.shared_trees.specs.Meeting.{met_in}
-use Rattle.shared_trees.specs.OldSide.{kept_at}
 use Rattle.shared_trees.specs.Shared.{are_read_alike}
 use Rattle.shared_trees.specs.SharedLaw.{HasTrees}
 use Rattle.shared_trees.specs.TableLaw.{Tree}
-use Rattle.shared_trees.specs.Visits.{visits_in}
 use Rattle.shared_trees.specs.VisitsLaw.{entries_at}
 use Rattle.tree_change.specs.Gathered.{Gathers}
+use Rattle.tree_change.specs.Looks.{met_by, new_visits, old_visits}
 use Rattle.tree_change.specs.OneTree.{IsAmong, IsTree, old_tree, side_of}
 use Rattle.tree_change.specs.Stays.{Stays}
-use Rattle.tree_change.specs.Walks.{Known, Parts, Side, gone_parts, kept_by, listed_by, old_or_none, old_walk, tree_parts}
-
--- how many blocks the walk of a tree as it is comes to
-abbrev pub new_visits : Known → Side → Expect → ℕ
-new_visits known is e = visits_in (kept_by known) (listed_by known) is.sup is.chunks e is.image
-
--- the same of the walk of a tree as it was, which stops at these blocks
-abbrev pub old_visits : Known → List Expect → Side → Expect → ℕ
-old_visits known stops was e = visits_in (kept_at known.pairs stops known.under) (listed_by known) was.sup was.chunks e was.image
-
--- the kept blocks that the walk of a tree as it is meets
-abbrev pub met_by : Known → Side → Expect → List Expect
-met_by known is e = met_in (kept_by known) (listed_by known) is.sup is.chunks e is.image
+use Rattle.tree_change.specs.Walks.{Known, Parts, Side, gone_parts, old_or_none, old_walk, tree_parts}
 
 -- how many entries the blocks of pairs have, as they are stored in an image
 abbrev pub entries_of : Side → List Live → ℕ

@@ -47,8 +47,9 @@ pub(crate) fn change_map<D: Disk, L>(
         return refuse_map(alloc, disk, &is);
     }
     let old_array = system_chunks(alloc, both.was.sup)?;
+    let olds = distinct_chunks(alloc, &old_array)?;
     let some = distinct_chunks(alloc, array)?;
-    let moving = moved_pairs_of(alloc, both.kept, 3, &old_array, &some, nodesize, end, steps)?;
+    let moving = moved_pairs_of(alloc, both.kept, 3, &olds, &some, nodesize, end, steps)?;
     let starts = Starts::listed(alloc, both.kept, &moving, steps)?;
     let moves = Move::new(both.was.map, array, nodesize, end);
     let sides = Sides {

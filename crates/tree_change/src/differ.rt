@@ -9,6 +9,7 @@ ghost use Rattle.block_source.specs.Gives.{is_disk_fault, is_disk_halt};
 ghost use Rattle.shared_trees.specs.Shared.{are_read_alike};
 ghost use Rattle.tree_change.specs.AllLooks.{LooksFromOld, LooksToCompare};
 ghost use Rattle.tree_change.specs.Change.{GivesDifference};
+ghost use Rattle.tree_change.specs.FewLooks.{LooksFew};
 ghost use Rattle.tree_change.specs.Compared.{FitsCompared, IsFinished, TellsChange, TellsOld};
 
 use crate::change::{Change, Diff};
@@ -27,11 +28,14 @@ use verdict::{Family, Finding, NoMemory, is_node_size};
 use volume_items::RootAt;
 use write_cache::WriteCache;
 
-/// What changes from an accepted image to the image that the pending writes make of it, or the first finding of what that image holds.
-/// The disk's bytes are the accepted image, and the bases are what is known of it. `fresh` is the superblock of the new image. It reads the
+/// What changes from an accepted image to the image that the pending writes make of it, or the first finding of what that image holds. The
+/// disk's bytes are the accepted image, and the bases are what is known of it. `fresh` is the superblock of the new image. It reads the
 /// blocks that the two images do not share, each copy once, and no others. A commit that writes nothing but the superblock with its own
 /// bytes reads none. Where the two superblocks do not read blocks alike, nothing is shared. Of the live table it asks for what the pending
-/// writes touch and what the walks meet. The lists take their memory from this allocator. `Disk` comes only where a call of the disk fails.
+/// writes touch and what the walks meet. Where the answer is a change, it counts at most 111 looks into that table for each old block that
+/// changes and 35 for each new one, three for each pointer or item of the old ones and four for each of the new ones, one for each piece of
+/// the writes (a maximal run of written bytes), four for each old chunk, one for each new one, and 77. The lists take their memory from
+/// this allocator. `Disk` comes only where a call of the disk fails.
 pub fn difference<D: Disk, L, B: Bases<Table = LiveIndex<L>>>(
     alloc: Global,
     disk: &mut D,
@@ -43,6 +47,9 @@ pub fn difference<D: Disk, L, B: Bases<Table = LiveIndex<L>>>(
     ensures gives { let b = bases.now in
         GivesDifference D.Disk disk.old disk.new cache.now (B.superblock b) (B.chunks b)
         (B.root_items b) (B.is_sum_free b) (pairs_of (B.table b)) fresh.now result }
+    ensures looks { let b = bases.now in
+        IfOk result (LooksFew (D.bytes disk.old) cache.now (B.superblock b) (B.chunks b)
+        (B.root_items b) (B.is_sum_free b) (pairs_of (B.table b)) fresh.now steps.old steps.new) }
     ensures kept { Kept D.Disk disk.old disk.new (is_disk_fault result) }
 {
     let end = disk.length()?;
@@ -103,6 +110,7 @@ fn change_from<D: Disk, L>(
         steps,
     )?;
     table.narrow_law();
+    marks.count_law();
     let both = Compared {
         was: *was,
         cache,

@@ -84,13 +84,11 @@ pub(crate) fn walk_new<D: Disk, L>(
         behind: None,
     };
     walk_changed(alloc, disk, source, &mut keeps, e, room, &mut read)?;
-    let looks = keeps.steps.looks();
-    let (met, ended) = (keeps.met, keeps.ended);
-    // The walk cannot exchange the counter that is lent to it, so this never stops.
-    if steps.looks() != looks {
-        return Err(Halt::NoMemory);
-    }
-    Ok(NewTree { read, met, ended })
+    Ok(NewTree {
+        read,
+        met: keeps.met,
+        ended: keeps.ended,
+    })
 }
 
 /// Walks a tree as it was, which stops at these blocks of the tree as it is. It looks at most three times into the table of live pairs
@@ -130,11 +128,5 @@ pub(crate) fn walk_old<D: Disk, L>(
         next: 0,
     };
     walk_changed(alloc, disk, source, &mut keeps, e, room, &mut read)?;
-    let lent = keeps.steps;
-    let looks = lent.looks();
-    // The walk cannot exchange the counter that is lent to it, so this never stops.
-    if steps.looks() != looks {
-        return Err(Halt::NoMemory);
-    }
     Ok(read)
 }

@@ -37,6 +37,7 @@ returns-in_err-walk_changed-clause-gives g c =
 pub returns-clause-looks : goal.returns-clause-looks
 returns-clause-looks g c =
     let source = c.args.source.now in
-    rw (sym c.looks.ensures ∙ c.if-looks.false ∙ c.looks-looks.ensures)
-    (old_few (g.D.Disk.bytes c.args.disk.now) source.cache.now (known_by c.args.known.now) (is_stopped c.in_ok-stops.stops)
-    (blocks_met c.args.met.now) source.sup.now source.map.now c.args.e.now _ _ c.in_ok-stops.ensures.stops c.in_ok-walk_changed.ensures.looks)
+    let few =
+    old_few (g.D.Disk.bytes c.args.disk.now) source.cache.now (known_by c.args.known.now) (is_stopped c.in_ok-stops.stops)
+    (blocks_met c.args.met.now) source.sup.now source.map.now c.args.e.now _ _ c.in_ok-stops.ensures.stops c.in_ok-walk_changed.ensures.looks in
+    search (few, rules)

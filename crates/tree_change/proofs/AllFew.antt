@@ -1,0 +1,630 @@
+-- The looks for all that changes from an accepted image to another are few, by what changes.
+use Rattle.std.proofs.Common.{◌≡◌, ℕ, suc, ◌+◌, ◌*◌, ◌≤◌, ◌<◌, ◌==◌, ◌⊎◌, inl, inr, not, Bool, true, false, List, [], ◌∷◌, ◌++◌, length, refl, ap, sym, subst, ◌∙◌, arith, if◌then◌else◌}
+use Rattle.std.proofs.lemmas.Bool.{eqb-true}
+use Rattle.std.proofs.lemmas.List.Elements.{All-from_recursion, recursion_from_All}
+use Rattle.std.proofs.lemmas.List.Sorted.{length_permutation, sum_by-IsPermutation}
+use Rattle.std.specs.Prelude.{Option, Some, None, Result, Ok, Err, is_some, map}
+use Rattle.std.specs.List.{AllByRecursion, filter, fold, list_any, sum_by}
+use Rattle.std.specs.List.Sorted.{IsPermutation}
+use Rattle.std.specs.Ordering.{nat_cmp}
+use Rattle.std.specs.FinMap.{FinMap}
+use Rattle.verdict.specs.Chunks.{place}
+use Rattle.verdict.specs.Items.{is_multiple}
+use Rattle.verdict.specs.Rules.{finding_or}
+use Rattle.verdict.specs.declared.finding.Finding.{Finding}
+use Rattle.verdict.specs.declared.place.Chunk.{Chunk}
+use Rattle.write_cache.specs.Pieces.{ArePiecesOf, Piece}
+use Rattle.live_index.specs.Pairs.{Pairs, no_pairs}
+use Rattle.live_index.specs.Table.{pairs_of}
+use Rattle.live_index.specs.declared.live.Live.{Live}
+use Rattle.node_reader.specs.Stored.{bytes_at, stored_in}
+use Rattle.node_reader.specs.Stored.CopyFault.{NoPlace}
+use Rattle.node_reader.specs.declared.expect.Expect.{Expect}
+use Rattle.super_reader.specs.Superblock.{array_place}
+use Rattle.super_reader.specs.declared.Super.{Super}
+use Rattle.volume_items.specs.SystemArray.{array_chunks}
+use Rattle.volume_items.specs.declared.root.RootItem.{RootItem}
+use Rattle.volume_items.specs.declared.root_at.RootAt.{RootAt}
+use Rattle.records.specs.Contents.{all_records, chunk_map_in, chunk_tree_root, root_items_in, root_tree_root, roots_fault, tree_records}
+use Rattle.records.specs.Seen.{Seen}
+use Rattle.records.specs.Walk.{walk_in}
+use Rattle.records.specs.WalkLaw.{visited}
+use Rattle.touched_pairs.specs.Looks.{ArePlaced, NoneMeet, copies_of, has_place}
+use Rattle.touched_pairs.specs.Marking.{AreLow, AreMarked, ClimbsTo, HaveEach}
+use Rattle.touched_pairs.specs.Marks.{AreAmong, count_of, in_lives, marked_by, no_mark}
+use Rattle.touched_pairs.specs.Moves.{AreApart, is_moved}
+use Rattle.touched_pairs.specs.OneTree.{of_tree}
+use Rattle.touched_pairs.specs.Spots.{at_address}
+use Rattle.touched_pairs.specs.Touched.{same_place, touches_block, written_in}
+use Rattle.shared_trees.specs.ArrayLaw.{HasArray, IsAsByAll}
+use Rattle.shared_trees.specs.Keeping.{live_at}
+use Rattle.shared_trees.specs.LivePairs.{Walked, live_in, table_of, walked}
+use Rattle.shared_trees.specs.Shared.{are_read_alike, unshared_in}
+use Rattle.shared_trees.specs.TableLaw.{Tree, trees_in}
+use Rattle.shared_trees.specs.VisitsLaw.{entries_at, entries_in}
+use Rattle.shared_trees.proofs.ArrayPlaces.{as_by_all}
+use Rattle.shared_trees.proofs.Lives.{lives_are}
+use Rattle.shared_trees.proofs.Picking.{each_map}
+use Rattle.shared_trees.proofs.Rooted.{step_ok}
+use Rattle.shared_trees.proofs.Treed.{Steps, steps_of}
+use Rattle.tree_change.specs.Accepted.{AreMarkedTouched, AreUnshared, IsWalked, IsWellFormed, unshared_old}
+use Rattle.tree_change.specs.AllLooks.{FewForMap, FewForRest, FewFromOld, FewToCompare}
+use Rattle.tree_change.specs.AllTrees.{AreAllParts, IsAll, IsOver, gone_all, named_parts, with_parts}
+use Rattle.tree_change.specs.Change.{IsChange}
+use Rattle.tree_change.specs.Compared.{HasNewMap, IsCompared, KeepsBy, judged_by, side_to}
+use Rattle.tree_change.specs.FewLooks.{few_looks}
+use Rattle.tree_change.specs.Looks.{gone_all_looks, named_looks, tree_looks}
+use Rattle.tree_change.specs.LooksLaw.{entries_of}
+use Rattle.tree_change.specs.Merging.{IsSortedOf, named_before, root_at, roots_left}
+use Rattle.tree_change.specs.OneTree.{IsTree, KnowsNothing, KnowsTree, shares, side_of}
+use Rattle.tree_change.specs.Told.{side_with}
+use Rattle.tree_change.specs.Walks.{Known, Parts, Side, tree_parts}
+use Rattle.tree_change.specs.declared.change.Change.{Change}
+use Rattle.tree_change.specs.declared.sides.Compared.{Compared}
+use Rattle.tree_change.proofs.Accepting.{accepted, of_chunk_pair}
+use Rattle.tree_change.proofs.AllTrees.{all_trees, named_trees, olds_named}
+use Rattle.tree_change.proofs.ArrayFew.{array_few}
+use Rattle.tree_change.proofs.ArraySound.{array_sound}
+use Rattle.tree_change.proofs.ByArray.{array_known, known_array, size_some}
+use Rattle.tree_change.proofs.ByMap.{new_apart, over_by, root_tree, was_is}
+use Rattle.tree_change.proofs.Chunks.{chunks_found}
+use Rattle.tree_change.proofs.Contents.{all_found}
+use Rattle.tree_change.proofs.EachTree.{one_tree}
+use Rattle.tree_change.proofs.Gone.{gone as gone_law}
+use Rattle.tree_change.proofs.Levels.{IsLow, roots_low, supers_low}
+use Rattle.tree_change.proofs.Named.{named as named_law}
+use Rattle.tree_change.proofs.Olds.{same_ok}
+use Rattle.tree_change.proofs.Readable.{readable}
+use Rattle.tree_change.proofs.RootItems.{roots_made}
+use Rattle.tree_change.proofs.TreeSums.{all_cost, entries_append, gone_all_sum, joined_cost, named_sum, tree_cost, tree_sum}
+use Rattle.tree_change.proofs.Unordered.{all_filter}
+
+-- a result is a value, where it is no finding
+value_of : {A : Type 0} (result : Result A Finding) → ((finding : Finding) → result ≡ Err finding → ⊥) → (value : A) × (result ≡ Ok value)
+value_of (Err finding) never = elim (never finding refl) [ ]
+value_of (Ok value) never = (value, refl)
+
+not_both : {A : Type 0} (result : Result A Finding) (value : A) (finding : Finding) → result ≡ Ok value → result ≡ Err finding → ⊥
+not_both result value finding is other = cc
+
+yes_no : (b : Bool) → b ≡ true → b ≡ false → ⊥
+yes_no true is not_is = cc
+yes_no false is not_is = cc
+
+-- what is known, as it is said by its parts
+known_same : (k : Known) (pairs : Pairs) (marked : ℕ → ℕ → Bool) (moved : ℕ → Bool) → k.pairs ≡ pairs → k.marked ≡ marked → k.moved ≡ moved
+    → record k { pairs = pairs; marked = marked; moved = moved } ≡ k
+known_same k pairs marked moved a b c = λ i. record k { pairs = sym a i; marked = sym b i; moved = sym c i }
+
+-- ---- sums
+
+-- the entries of pairs in another order are as many
+folded : (side : Side) (start : ℕ) (lives : List Live)
+    → fold (λ n (live : Live). n + entries_at (stored_in side.image side.chunks side.sup.nodesize) live.address) start lives
+    ≡ start + entries_of side lives
+folded side start [] = omega arith
+folded side start (live ∷ lives) =
+    let here = entries_at (stored_in side.image side.chunks side.sup.nodesize) live.address in
+    joins start here (entries_of side lives) _ (folded side (start + here) lives)
+  where
+    joins : (start here rest all : ℕ) → all ≡ (start + here) + rest → all ≡ start + (here + rest)
+    joins start here rest all x = omega (arith, x)
+
+entries_permuted : (side : Side) (some more : List Live) → IsPermutation some more → entries_of side more ≡ entries_of side some
+entries_permuted side some more permuted =
+    let each = λ (live : Live). entries_at (stored_in side.image side.chunks side.sup.nodesize) live.address in
+    joins (sum_by each more) (sum_by each some) (entries_of side more) (entries_of side some) (folded side 0 more) (folded side 0 some)
+    (sum_by-IsPermutation each some more permuted)
+  where
+    joins : (a b x y : ℕ) → a ≡ 0 + x → b ≡ 0 + y → a ≡ b → x ≡ y
+    joins a b x y p q r = omega (arith, p, q, r)
+
+-- those of pairs are as many by another side, where those of each are
+entries_as : (one other : Side) (lives : List Live)
+    → AllByRecursion (λ (live : Live). entries_at (stored_in one.image one.chunks one.sup.nodesize) live.address
+    ≡ entries_at (stored_in other.image other.chunks other.sup.nodesize) live.address) lives
+    → entries_of one lives ≡ entries_of other lives
+entries_as one other [] each = refl
+entries_as one other (live ∷ lives) each = joins _ _ _ _ each.0 (entries_as one other lives each.1)
+  where
+    joins : (a b x y : ℕ) → a ≡ b → x ≡ y → a + x ≡ b + y
+    joins a b x y p q = omega (arith, p, q)
+
+all_mapped : {A B : Type 0} (P : B → Type 0) (make : A → B) (list : List A) → AllByRecursion (λ a. P (make a)) list → AllByRecursion P (map make list)
+all_mapped P make [] all = tt
+all_mapped P make (a ∷ list) all = (all.0, all_mapped P make list all.1)
+
+most : {n m l : ℕ} → n ≤ m → m ≤ l → n ≤ l
+most {n} {m} {l} x y = omega (arith, x, y)
+
+wide : (a e p n b : ℕ) → a ≡ e → 4 * a + 3 * p + 28 * n + 22 * b ≤ 4 * e + 3 * p + 35 * n + 29 * b
+wide a e p n b x = omega (arith, x)
+
+both_cost : (was is : Side) (some more : Parts) → all_cost was is some + all_cost was is more ≤ all_cost was is (with_parts some more)
+both_cost was is some more =
+    joined_cost was is some more (all_cost was is some) (all_cost was is more) (itself (all_cost was is some)) (itself (all_cost was is more))
+  where
+    itself : (n : ℕ) → n ≤ n
+    itself n = omega arith
+
+trees_total : (t r n g a b x1 x2 x3 x4 x34 x234 x : ℕ) → t ≤ 7 + a → r ≤ 7 + b → n ≤ x3 → g ≤ x4 → a ≤ x1 → b ≤ x2 → x3 + x4 ≤ x34 → x2 + x34 ≤ x234
+    → x1 + x234 ≤ x → t + (r + n + g) ≤ 14 + x
+trees_total t r n g a b x1 x2 x3 x4 x34 x234 x i1 i2 i3 i4 i5 i6 i7 i8 i9 = omega (arith, i1, i2, i3, i4, i5, i6, i7, i8, i9)
+
+all_total : (before middle later after t m1 m2 p cw co cn oa sa tc tr e o n b e' o' n' b' : ℕ)
+    → middle ≤ before + 2 * t + p + 2 * cw → later ≤ middle + 5 * m1 + 2 * oa + sa + tc → after ≤ later + 5 * m2 + 2 * cw + cn + tr
+    → cw ≡ co → t ≤ b' → m1 ≤ 8 * b' → m2 ≤ 8 * b' → oa ≤ 21 → sa ≤ 21
+    → tc + tr ≤ 14 + (4 * e + 3 * o + 35 * n + 29 * b)
+    → e ≡ e' → o ≡ o' → n ≡ n' → b ≡ b'
+    → after ≤ before + (p + 4 * co + cn + 77 + 111 * b' + 35 * n' + 3 * o' + 4 * e')
+all_total before middle later after t m1 m2 p cw co cn oa sa tc tr e o n b e' o' n' b' i1 i2 i3 i4 i5 i6 i7 i8 i9 i10 i11 i12 i13 i14 =
+    omega (arith, i1, i2, i3, i4, i5, i6, i7, i8, i9, i10, i11, i12, i13, i14)
+
+as_change : (before after k l m o e l' m' o' e' : ℕ) → after ≤ before + (k + 111 * l + 35 * m + 3 * o + 4 * e) → l' ≡ l → m' ≡ m → o' ≡ o → e' ≡ e
+    → after ≤ before + (k + 111 * l' + 35 * m' + 3 * o' + 4 * e')
+as_change before after k l m o e l' m' o' e' x a b c d = omega (arith, x, a, b, c, d)
+
+-- What is known of the image as it was, in the words of what is compared.
+module _ {L : Type 0} (both : Compared L) (image : List ℕ) (c : IsCompared both image) (before after : ℕ) (f : FewFromOld both image before after)
+    (seen : List Seen) where
+  abbrev old : Walked
+  old = c.based.old
+
+  abbrev chunks : List Chunk
+  chunks = f.looks.chunks
+
+  abbrev array : List Chunk
+  array = f.looks.array
+
+  abbrev pub new : Walked
+  new = record { sup = both.fresh.now; chunks = chunks; seen = seen }
+
+  abbrev judged : List ℕ
+  judged = judged_by both image
+
+  abbrev pairs : Pairs
+  pairs = pairs_of both.table.now
+
+  abbrev kept : Pairs
+  kept = pairs_of both.kept.now
+
+  abbrev nodesize : ℕ
+  nodesize = both.was.sup.now.nodesize
+
+  abbrev fm : FewForMap both array image f.middle f.looks.middle
+  fm = f.looks.for_map
+
+  abbrev fr : FewForRest both chunks image f.looks.middle after
+  fr = f.looks.for_rest
+
+  abbrev left : List Live
+  left = unshared_old image both.cache.now old new
+
+  at_both : (P : Super → List Chunk → ℕ → Type 0) → P old.sup old.chunks (length image) → P both.was.sup.now both.was.map.now both.was.end
+  at_both P is =
+      subst (λ s. P s both.was.map.now both.was.end) (sym c.based.super_is)
+      (subst (λ m. P old.sup m both.was.end) (sym c.based.chunks_are) (subst (λ n. P old.sup old.chunks n) (sym c.end) is))
+
+  at_old : (P : Super → List Chunk → ℕ → Type 0) → P both.was.sup.now both.was.map.now both.was.end → P old.sup old.chunks (length image)
+  at_old P is =
+      subst (λ n. P old.sup old.chunks n) c.end
+      (subst (λ m. P old.sup m both.was.end) c.based.chunks_are (subst (λ s. P s both.was.map.now both.was.end) c.based.super_is is))
+
+  no_pair : kept ≡ no_pairs → (tree address : ℕ) → is_some (kept tree address) ≡ true → ⊥
+  no_pair none tree address some =
+      yes_no (is_some (kept tree address)) some (ap (λ (ps : Pairs). is_some (ps tree address)) none)
+
+  kept_some : kept ≡ pairs → (tree address : ℕ) → is_some (kept tree address) ≡ true → is_some (pairs tree address) ≡ true
+  kept_some same tree address some = subst (λ (ps : Pairs). is_some (ps tree address) ≡ true) same some
+
+  walked_is : IsWalked image old pairs
+  walked_is = record { walks = c.based.walks; pairs_are = c.based.pairs_are }
+
+  formed : IsWellFormed image old pairs
+  formed = accepted.well_formed image old pairs walked_is
+
+  unshared : AreUnshared image both.cache.now old new pairs
+  unshared = accepted.unshared image both.cache.now old new pairs walked_is
+
+  sized : 0 < nodesize
+  sized = size_some nodesize f.fits.was_size
+
+  apart : AreApart both.was.map.now
+  apart = subst AreApart (sym c.based.chunks_are) formed.apart
+
+  unmet : NoneMeet (copies_of both.was.map.now)
+  unmet = subst (λ m. NoneMeet (copies_of m)) (sym c.based.chunks_are) formed.unmet
+
+  placed : ArePlaced kept both.was.map.now nodesize both.was.end
+  placed = by f.fits.keeps
+    where
+      by : KeepsBy both.was.sup.now both.fresh.now pairs kept → ArePlaced kept both.was.map.now nodesize both.was.end
+      by (inl k) tree address some =
+          at_both (λ sup map n. has_place (place map address sup.nodesize n) ≡ true) (formed.placed tree address (kept_some k.1 tree address some))
+      by (inr k) tree address some = elim (no_pair k.1 tree address some) [ ]
+
+  low : AreLow kept
+  low = by f.fits.keeps
+    where
+      by : KeepsBy both.was.sup.now both.fresh.now pairs kept → AreLow kept
+      by (inl k) = subst AreLow (sym k.1) formed.low
+      by (inr k) = λ tree address live is. elim (no_pair k.1 tree address (ap is_some is)) [ ]
+
+  -- no more pairs are marked that writes touch than are not shared
+  touched_few : count_of both.marks.now ≤ length left
+  touched_few = f.few_marks left (by f.fits.keeps)
+    where
+      touched : kept ≡ pairs → AreMarkedTouched image both.cache.now old pairs (marked_by both.marks.now)
+      touched same =
+          subst (λ ps. AreMarkedTouched image both.cache.now old ps (marked_by both.marks.now)) same
+          (at_old (λ sup map n. AreMarked kept (at_address (touches_block (written_in both.cache.now) map sup.nodesize n)) no_mark
+          (marked_by both.marks.now)) f.fits.marked)
+
+      by : KeepsBy both.was.sup.now both.fresh.now pairs kept → AreAmong (marked_by both.marks.now) left
+      by (inl k) = unshared.marked c.narrow (marked_by both.marks.now) (touched k.1)
+      by (inr k) = λ tree address here. one tree address (f.fits.marked.only tree address here)
+        where
+          one : (tree address : ℕ) → (false ≡ true) ⊎ ((from : ℕ)
+              × (at_address (touches_block (written_in both.cache.now) both.was.map.now nodesize both.was.end) tree from ≡ true)
+              × (is_some (kept tree from) ≡ true) × ClimbsTo kept tree address from) → in_lives left tree address ≡ true
+          one tree address (inl was) = absurd (cc)
+          one tree address (inr h) = elim (no_pair k.1 tree h.0 h.2) [ ]
+
+  -- at most eight times as many are marked that move by all chunks
+  rest_moves : fr.marks ≤ 8 * length left
+  rest_moves = fr.moves.few low left (by f.fits.keeps)
+    where
+      by : KeepsBy both.was.sup.now both.fresh.now pairs kept → HaveEach kept (is_moved both.was.map.now chunks nodesize both.was.end) left
+      by (inl k) tree address moves some =
+          unshared.moved tree address (at_old (λ sup map n. is_moved map chunks sup.nodesize n address ≡ true) moves)
+          (kept_some k.1 tree address some)
+      by (inr k) tree address moves some = elim (no_pair k.1 tree address some) [ ]
+
+  module _ (walks : walked judged ≡ Ok new) where
+    abbrev steps : Steps judged new
+    steps = steps_of judged new walks
+
+    has_old : HasArray image old fm.old_array
+    has_old = record {
+      walks = c.based.walks;
+      array_is = ap (λ (s : Super). array_chunks (array_place s) s.array s.array_size) (sym c.based.super_is) ∙ fm.array_is;
+    }
+
+    has_new : HasArray judged new array
+    has_new = record { walks = walks; array_is = f.looks.array_is }
+
+    -- the chunks of the old array, without those that repeat
+    distinct : AreApart fm.olds × ((address n end : ℕ) → place fm.olds address n end ≡ place fm.old_array address n end)
+    distinct = let sound = array_sound image old fm.old_array has_old in fm.olds_are sound.0 sound.1
+
+    -- what is in the chunk tree by these is so of it in the whole table
+    of_chunks : (P : ℕ → ℕ → Type 0) → ((address : ℕ) → is_some (kept 3 address) ≡ true → P 3 address)
+        → (tree address : ℕ) → is_some (of_tree 3 kept tree address) ≡ true → P tree address
+    of_chunks P each tree address some = by (tree == 3) refl some
+      where
+        by : (b : Bool) → (tree == 3) ≡ b → is_some (if b then kept tree address else None) ≡ true → P tree address
+        by true is some =
+            let three = eqb-true tree 3 is in
+            subst (λ t. P t address) (sym three) (each address (subst (λ t. is_some (kept t address) ≡ true) three some))
+        by false is some = absurd (cc)
+
+    map_placed : ArePlaced (of_tree 3 kept) fm.olds nodesize both.was.end
+    map_placed = of_chunks (λ tree address. has_place (place fm.olds address nodesize both.was.end) ≡ true) (λ address some. by address some f.fits.keeps)
+      where
+        stands : (address : ℕ) → is_some (pairs 3 address) ≡ true
+            → place fm.old_array address old.sup.nodesize (length image) ≡ place old.chunks address old.sup.nodesize (length image)
+        stands address some =
+            of_chunk_pair image old fm.old_array
+            (λ a. place fm.old_array a old.sup.nodesize (length image) ≡ place old.chunks a old.sup.nodesize (length image)) has_old
+            (each_map (IsAsByAll image old fm.old_array)
+            (λ v. place fm.old_array v.address old.sup.nodesize (length image) ≡ place old.chunks v.address old.sup.nodesize (length image))
+            (visited old.sup (stored_in image fm.old_array old.sup.nodesize) (chunk_tree_root old.sup)) (λ v h. h.stands)
+            (as_by_all image old fm.old_array has_old)) address
+            (subst (λ (entry : Option Live). is_some entry ≡ true) (c.based.pairs_are 3 address) some)
+
+        by : (address : ℕ) → is_some (kept 3 address) ≡ true → KeepsBy both.was.sup.now both.fresh.now pairs kept
+            → has_place (place fm.olds address nodesize both.was.end) ≡ true
+        by address some (inl k) =
+            let here = kept_some k.1 3 address some in
+            at_both (λ sup map n. has_place (place fm.olds address sup.nodesize n) ≡ true)
+            (ap has_place (distinct.1 address old.sup.nodesize (length image) ∙ stands address here) ∙ formed.placed 3 address here)
+        by address some (inr k) = elim (no_pair k.1 3 address some) [ ]
+
+    -- at most eight times as many of the chunk tree are marked as are not shared
+    map_moves : fm.marks ≤ 8 * length left
+    map_moves = fm.moves.few low left each
+      where
+        three : (address : ℕ) → is_moved fm.olds fm.some nodesize both.was.end address ≡ true → is_some (kept 3 address) ≡ true
+            → KeepsBy both.was.sup.now both.fresh.now pairs kept → in_lives left 3 address ≡ true
+        three address moves some (inl k) =
+            let end = both.was.end in
+            let same : is_moved fm.olds fm.some nodesize end address ≡ is_moved fm.old_array array nodesize end address =
+            ap (λ p. not (same_place p (place fm.some address nodesize end))) (distinct.1 address nodesize end)
+            ∙ ap (λ p. not (same_place (place fm.old_array address nodesize end) p)) (fm.same_place address nodesize end) in
+            unshared.by_array fm.old_array array has_old has_new address
+            (at_old (λ sup map n. is_moved fm.old_array array sup.nodesize n address ≡ true) (sym same ∙ moves))
+            (kept_some k.1 3 address some)
+        three address moves some (inr k) = elim (no_pair k.1 3 address some) [ ]
+
+        each : HaveEach (of_tree 3 kept) (is_moved fm.olds fm.some nodesize both.was.end) left
+        each tree address moves some =
+            of_chunks (λ t a. is_moved fm.olds fm.some nodesize both.was.end a ≡ true → in_lives left t a ≡ true)
+            (λ a some moved. three a moved some f.fits.keeps) tree address some moves
+
+    -- ---- what changes in each tree
+
+    abbrev olds : List RootItem
+    olds = c.based.olds
+
+    abbrev was : Side
+    was = side_of image old
+
+    abbrev side : Side
+    side = side_to both image chunks
+
+    abbrev array_side : Side
+    array_side = side_to both image array
+
+    abbrev trees : List Tree
+    trees = trees_in old.sup old.chunks old.chunks olds image
+
+    has_map : HasNewMap both image chunks
+    has_map = (array, f.looks.chunks_are c)
+
+    old_low : (old.sup.root_level < 8) × (old.sup.chunk_root_level < 8)
+    old_low = supers_low image old.sup (steps_of image old c.based.walks).sup_is
+
+    new_low : (both.fresh.now.root_level < 8) × (both.fresh.now.chunk_root_level < 8)
+    new_low = supers_low judged both.fresh.now c.super_is
+
+    -- the chunk tree
+    chunk_tree : IsTree image both.cache.now old trees pairs array_side fm.known (Some (chunk_tree_root old.sup)) (chunk_tree_root both.fresh.now)
+    chunk_tree = record {
+      has = c.based.has;
+      pairs_are = c.based.pairs_are;
+      over = refl;
+      root = (refl, refl);
+      was = (refl, inl refl);
+      known_is =
+          subst (λ k. KnowsTree image both.cache.now old array_side k (Some (chunk_tree_root old.sup)) ⊎ KnowsNothing old array_side k)
+          (known_same fm.known kept (marked_by both.marks.now) (is_moved both.was.map.now array nodesize both.was.end) fm.by_kept fm.marked_is fm.moved_is)
+          (array_known both array fm.old_array fm.olds fm.some fm.moving fm.known.under both.was.end f.fits image c fm.array_is fm.homes
+          fm.same_place (fm.moves.marked fm.apart sized) fm.moves.listed);
+    }
+
+    abbrev chunk_result : Result Parts Finding
+    chunk_result = tree_parts pairs fm.known was array_side (Some (chunk_tree_root old.sup)) (chunk_tree_root both.fresh.now)
+
+    chunk_made : (parts : Parts) × (chunk_result ≡ Ok parts)
+    chunk_made = value_of chunk_result (λ finding failed.
+        not_both (chunk_map_in both.fresh.now array judged) chunks finding (f.looks.chunks_are c)
+        (chunks_found one_tree image both.cache.now old trees pairs array_side fm.known chunk_tree finding failed))
+
+    -- all other trees
+    over : IsOver image both.cache.now old olds trees pairs side fr.known
+    over =
+        subst (λ k. IsOver image both.cache.now old olds trees pairs side k)
+        (known_same fr.known kept (marked_by both.marks.now) fr.known.moved fr.by_kept fr.marked_is refl)
+        (over_by both image chunks c both.was.end fr.moving fr.known.under fr.known.moved f.fits has_map fr.moves.marked fr.moves.listed fr.moved_is)
+
+    root_is : IsTree image both.cache.now old trees pairs side fr.known (Some (root_tree_root old.sup)) (root_tree_root both.fresh.now)
+    root_is = root_tree both image chunks c fr.known over
+
+    root_made : tree_parts pairs fr.known was side (Some (root_tree_root old.sup)) (root_tree_root both.fresh.now) ≡ Ok fr.parts
+    root_made =
+        subst (λ (s : Side). tree_parts pairs fr.known s side (Some (root_tree_root s.sup)) (root_tree_root both.fresh.now) ≡ Ok fr.parts)
+        (was_is both image chunks c) fr.tree
+
+    record HasRoots : Type 0 where
+      pub news : List RootItem
+      pub roots_are : fr.roots ≡ map root_at news
+      pub items : root_items_in both.fresh.now chunks judged ≡ Ok news
+
+    roots : HasRoots
+    roots =
+        let made =
+        roots_made one_tree image both.cache.now old trees pairs side fr.known fr.parts olds fr.roots c.based.items root_is root_made
+        (subst (λ rs. IsSortedOf named_before (roots_left rs fr.parts.old_items fr.parts.new_items) fr.roots) c.based.roots_are fr.merged) in
+        let step =
+        step_ok (finding_or (roots_fault both.fresh.now.compat_ro made.0) (tt {0})) (λ _. Ok made.0) steps.roots (sym made.2 ∙ steps.items) in
+        record { news = made.0; roots_are = made.1; items = steps.items ∙ sym step.2 }
+
+    named_made : (parts : Parts) × (named_parts pairs fr.known was side (map root_at olds) (map root_at roots.news) ≡ Ok parts)
+    named_made = value_of (named_parts pairs fr.known was side (map root_at olds) (map root_at roots.news)) (λ finding failed.
+        not_both (all_records both.fresh.now steps.array chunks roots.news judged) seen finding
+        (subst (λ rs. all_records both.fresh.now steps.array chunks rs judged ≡ Ok seen)
+        (same_ok steps.roots roots.news (sym steps.items ∙ roots.items)) steps.records)
+        (all_found judged both.fresh.now c.super_is steps.array steps.arrays chunks steps.chunks_are roots.news roots.items finding
+        ((named_law one_tree image both.cache.now old olds trees pairs side fr.known roots.news over).0 finding failed)))
+
+    gone_made : (parts : Parts) × (gone_all pairs fr.known was (map root_at roots.news) (map root_at olds) ≡ Ok parts)
+    gone_made = value_of (gone_all pairs fr.known was (map root_at roots.news) (map root_at olds)) (λ finding failed.
+        gone_law image both.cache.now old olds trees pairs side fr.known (map root_at roots.news) finding over failed)
+
+    abbrev parts : Parts
+    parts = with_parts chunk_made.0 (with_parts fr.parts (with_parts named_made.0 gone_made.0))
+
+    abbrev afters : List Tree
+    afters = trees_in both.fresh.now chunks chunks roots.news judged
+
+    all_is : IsAll image both.cache.now old new olds roots.news trees afters array pairs fm.known fr.known chunk_made.0 fr.parts named_made.0 gone_made.0
+    all_is = record {
+      over = over;
+      has = record { walks = walks; roots = roots.news; items = roots.items; trees_are = refl };
+      afters_are = refl;
+      array_is = has_new;
+      array_known = chunk_tree.known_is;
+      chunk_tree = chunk_made.1;
+      root_tree = root_made;
+      named_trees = named_made.1;
+      gone_trees = gone_made.1;
+    }
+
+    all_parts : AreAllParts old new both.cache.now (length image) parts
+    all_parts =
+        all_trees one_tree image both.cache.now old new olds roots.news trees afters array pairs fm.known fr.known chunk_made.0 fr.parts named_made.0
+        gone_made.0 all_is
+
+    -- ---- what the walks cost
+
+    same_alike : both.is_same ≡ are_read_alike old.sup side.sup
+    same_alike = f.alike ∙ ap (λ s. are_read_alike s both.fresh.now) c.based.super_is
+
+    low_olds : AllByRecursion IsLow olds
+    low_olds = roots_low old.sup old.chunks image olds c.based.items
+
+    chunk_cost : tree_looks fm.known (side_with both.was image) array_side (Some (chunk_tree_root both.was.sup.now)) (chunk_tree_root both.fresh.now)
+        ≤ 7 + tree_cost was array_side chunk_made.0
+    chunk_cost =
+        subst (λ (s : Side). tree_looks fm.known s array_side (Some (chunk_tree_root s.sup)) (chunk_tree_root both.fresh.now)
+        ≤ 7 + tree_cost was array_side chunk_made.0) (sym (was_is both image chunks c))
+        (tree_sum image both.cache.now old trees pairs array_side fm.known (Some (chunk_tree_root old.sup)) (chunk_tree_root both.fresh.now) chunk_made.0
+        chunk_tree new_low.1 old_low.1 chunk_made.1)
+
+    root_cost : tree_looks fr.known (side_with both.was image) side (Some (root_tree_root both.was.sup.now)) (root_tree_root both.fresh.now)
+        ≤ 7 + tree_cost was side fr.parts
+    root_cost =
+        subst (λ (s : Side). tree_looks fr.known s side (Some (root_tree_root s.sup)) (root_tree_root both.fresh.now) ≤ 7 + tree_cost was side fr.parts)
+        (sym (was_is both image chunks c))
+        (tree_sum image both.cache.now old trees pairs side fr.known (Some (root_tree_root old.sup)) (root_tree_root both.fresh.now) fr.parts root_is
+        new_low.0 old_low.0 root_made)
+
+    named_cost : named_looks both.is_same fr.known (side_with both.was image) side both.roots.now fr.roots ≤ all_cost was side named_made.0
+    named_cost =
+        subst (λ s. named_looks both.is_same fr.known s side both.roots.now fr.roots ≤ all_cost was side named_made.0) (sym (was_is both image chunks c))
+        (subst (λ rs. named_looks both.is_same fr.known was side rs fr.roots ≤ all_cost was side named_made.0) (sym c.based.roots_are)
+        (subst (λ rs. named_looks both.is_same fr.known was side (map root_at olds) rs ≤ all_cost was side named_made.0) (sym roots.roots_are)
+        (named_sum image both.cache.now old olds trees pairs side fr.known both.is_same same_alike low_olds roots.news named_made.0
+        (named_trees one_tree image both.cache.now old new olds roots.news trees afters array pairs fm.known fr.known chunk_made.0 fr.parts
+        named_made.0 gone_made.0 all_is) (roots_low both.fresh.now chunks judged roots.news roots.items) named_made.1)))
+
+    gone_cost : gone_all_looks fr.known (side_with both.was image) fr.roots both.roots.now ≤ all_cost was side gone_made.0
+    gone_cost =
+        subst (λ s. gone_all_looks fr.known s fr.roots both.roots.now ≤ all_cost was side gone_made.0) (sym (was_is both image chunks c))
+        (subst (λ rs. gone_all_looks fr.known was fr.roots rs ≤ all_cost was side gone_made.0) (sym c.based.roots_are)
+        (subst (λ rs. gone_all_looks fr.known was rs (map root_at olds) ≤ all_cost was side gone_made.0) (sym roots.roots_are)
+        (gone_all_sum image both.cache.now old olds trees pairs side fr.known both.is_same same_alike low_olds c.based.has c.based.pairs_are
+        (map root_at roots.news) olds gone_made.0
+        (olds_named one_tree image both.cache.now old new olds roots.news trees afters array pairs fm.known fr.known chunk_made.0 fr.parts
+        named_made.0 gone_made.0 all_is) low_olds gone_made.1)))
+
+    -- ---- the blocks of the chunk tree, by all chunks
+
+    array_stored : (address : ℕ)
+        → place array address both.fresh.now.nodesize (length judged) ≡ place chunks address both.fresh.now.nodesize (length judged)
+        → stored_in judged array both.fresh.now.nodesize address ≡ stored_in judged chunks both.fresh.now.nodesize address
+    unfolding stored_in
+    array_stored address same = ap (λ p. if is_multiple address then bytes_at both.fresh.now.nodesize judged p else Err NoPlace) same
+
+    abbrev IsSame : Live → Type 0
+    IsSame live =
+        entries_at (stored_in judged array both.fresh.now.nodesize) live.address ≡ entries_at (stored_in judged chunks both.fresh.now.nodesize) live.address
+
+    chunk_entries : entries_of array_side chunk_made.0.new_blocks ≡ entries_of side chunk_made.0.new_blocks
+    unfolding walk_in
+    chunk_entries =
+        let stored = stored_in judged array both.fresh.now.nodesize in
+        let root = chunk_tree_root both.fresh.now in
+        let gives = (one_tree image both.cache.now old trees pairs array_side fm.known (Some (chunk_tree_root old.sup)) root chunk_tree).parts
+        chunk_made.0 chunk_made.1 in
+        let each : AllByRecursion (λ v. IsSame (live_at both.fresh.now stored v)) (visited both.fresh.now stored root) =
+        each_map (IsAsByAll judged new array) (λ v. IsSame (live_at both.fresh.now stored v)) (visited both.fresh.now stored root)
+        (λ v h. ap entries_in (array_stored v.address h.stands)) (as_by_all judged new array has_new) in
+        let lives : AllByRecursion IsSame (live_in gives.1) =
+        subst (AllByRecursion IsSame) (sym (lives_are both.fresh.now stored root gives.1 gives.3))
+        (all_mapped IsSame (live_at both.fresh.now stored) (visited both.fresh.now stored root) each) in
+        entries_as array_side side chunk_made.0.new_blocks
+        (subst (AllByRecursion IsSame) (sym gives.4.new_blocks)
+        (all_filter IsSame (λ live. not (shares image both.cache.now old array_side gives.1 live)) (live_in gives.1) lives))
+
+    -- ---- all
+
+    abbrev come : List Live
+    come = unshared_in old new (written_in both.cache.now) (length image) new
+
+    trees_cost : tree_looks fm.known (side_with both.was image) array_side (Some (chunk_tree_root both.was.sup.now)) (chunk_tree_root both.fresh.now)
+        + (tree_looks fr.known (side_with both.was image) side (Some (root_tree_root both.was.sup.now)) (root_tree_root both.fresh.now)
+        + named_looks both.is_same fr.known (side_with both.was image) side both.roots.now fr.roots
+        + gone_all_looks fr.known (side_with both.was image) fr.roots both.roots.now)
+        ≤ 14 + all_cost was side parts
+    trees_cost =
+        let p = chunk_made.0 in
+        let q = fr.parts in
+        let first = wide (entries_of array_side p.new_blocks) (entries_of side p.new_blocks) (entries_of was p.old_blocks) (length p.new_blocks)
+        (length p.old_blocks) chunk_entries in
+        let second = wide (entries_of side q.new_blocks) (entries_of side q.new_blocks) (entries_of was q.old_blocks) (length q.new_blocks)
+        (length q.old_blocks) refl in
+        trees_total _ _ _ _ (tree_cost was array_side p) (tree_cost was side q) (all_cost was side p) (all_cost was side q)
+        (all_cost was side named_made.0) (all_cost was side gone_made.0)
+        (all_cost was side (with_parts named_made.0 gone_made.0)) (all_cost was side (with_parts q (with_parts named_made.0 gone_made.0)))
+        (all_cost was side parts) chunk_cost root_cost named_cost gone_cost first second
+        (both_cost was side named_made.0 gone_made.0) (both_cost was side q (with_parts named_made.0 gone_made.0))
+        (both_cost was side p (with_parts q (with_parts named_made.0 gone_made.0)))
+
+    pub few_all : (pieces : List Piece) → ArePiecesOf both.cache.now pieces
+        → after ≤ before + (length pieces + 4 * length old.chunks + length chunks + 77 + 111 * length left + 35 * length come
+        + 3 * entries_of was left + 4 * entries_of side come)
+    few_all pieces are =
+        all_total before f.middle f.looks.middle after (count_of both.marks.now) fm.marks fr.marks (length pieces) (length both.was.map.now)
+        (length old.chunks) (length chunks) (length fm.olds) (length fm.some) _ _
+        (entries_of side parts.new_blocks) (entries_of was parts.old_blocks) (length parts.new_blocks) (length parts.old_blocks)
+        (entries_of side come) (entries_of was left) (length come) (length left)
+        (f.touched pieces are placed apart sized unmet)
+        (fm.looks map_placed distinct.0 fm.apart sized)
+        (fr.looks placed apart (new_apart both image chunks c has_map) sized)
+        (ap length c.based.chunks_are) touched_few map_moves rest_moves
+        (most fm.few_olds (array_few (array_place both.was.sup.now) both.was.sup.now.array both.was.sup.now.array_size fm.old_array f.fits.was_array fm.array_is))
+        (most fm.few_some (array_few (array_place both.fresh.now) both.fresh.now.array both.fresh.now.array_size array
+        (readable judged both.fresh.now c.super_is).array f.looks.array_is))
+        trees_cost
+        (entries_permuted side come parts.new_blocks all_parts.new_blocks) (entries_permuted was left parts.old_blocks all_parts.old_blocks)
+        (length_permutation come parts.new_blocks all_parts.new_blocks) (length_permutation left parts.old_blocks all_parts.old_blocks)
+
+-- What changes is what all parts have, in some order. So the looks are few by it.
+pub few_change : {L : Type 0} (both : Compared L) (image : List ℕ) (c : IsCompared both image) (before after : ℕ) (f : FewFromOld both image before after)
+    (fresh : Walked) (change : Change) → walked (judged_by both image) ≡ Ok fresh
+    → IsChange c.based.old fresh (written_in both.cache.now) (length image) change → (pieces : List Piece) → ArePiecesOf both.cache.now pieces
+    → after ≤ before + few_looks image (judged_by both image) c.based.old fresh pieces change
+few_change both image c before after f fresh change walks is pieces are =
+    subst (λ (n : Walked). walked judged ≡ Ok n → IsChange c.based.old n (written_in both.cache.now) (length image) change
+    → after ≤ before + few_looks image judged c.based.old n pieces change) new_is plain walks is
+  where
+    judged : List ℕ
+    judged = judged_by both image
+
+    s : Steps judged fresh
+    s = steps_of judged fresh walks
+
+    sup_is : both.fresh.now ≡ fresh.sup
+    sup_is = same_ok both.fresh.now fresh.sup (sym c.super_is ∙ s.sup_is)
+
+    array_is : f.looks.array ≡ s.array
+    array_is =
+        same_ok f.looks.array s.array
+        (sym f.looks.array_is ∙ ap (λ (sup : Super). array_chunks (array_place sup) sup.array sup.array_size) sup_is ∙ s.arrays)
+
+    chunks_are : f.looks.chunks ≡ fresh.chunks
+    chunks_are =
+        same_ok f.looks.chunks fresh.chunks
+        (sym (f.looks.chunks_are c) ∙ ap (λ sup. chunk_map_in sup f.looks.array judged) sup_is ∙ ap (λ a. chunk_map_in fresh.sup a judged) array_is
+        ∙ s.chunks_are)
+
+    made : Walked
+    made = record { sup = both.fresh.now; chunks = f.looks.chunks; seen = fresh.seen }
+
+    new_is : made ≡ fresh
+    new_is = λ i. record { sup = sup_is i; chunks = chunks_are i; seen = fresh.seen }
+
+    plain : walked judged ≡ Ok made → IsChange c.based.old made (written_in both.cache.now) (length image) change
+        → after ≤ before + few_looks image judged c.based.old made pieces change
+    plain walks is =
+        let was = side_of image c.based.old in
+        let side = side_of judged made in
+        let left = unshared_in c.based.old made (written_in both.cache.now) (length image) c.based.old in
+        let come = unshared_in c.based.old made (written_in both.cache.now) (length image) made in
+        as_change before after (length pieces + 4 * length c.based.old.chunks + length made.chunks + 77) (length left) (length come)
+        (entries_of was left) (entries_of side come) (length change.old_blocks.items) (length change.new_blocks.items)
+        (entries_of was change.old_blocks.items) (entries_of side change.new_blocks.items)
+        (few_all both image c before after f fresh.seen walks pieces are)
+        (length_permutation left change.old_blocks.items is.old_blocks) (length_permutation come change.new_blocks.items is.new_blocks)
+        (entries_permuted was left change.old_blocks.items is.old_blocks) (entries_permuted side come change.new_blocks.items is.new_blocks)

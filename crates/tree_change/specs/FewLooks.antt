@@ -1,0 +1,37 @@
+-- How few looks into the table of live pairs are counted for all that changes from an accepted image to another.
+use Rattle.std.specs.Prelude.{ℕ, ◌≡◌, ◌+◌, ◌*◌, ◌≤◌, Bool, List, length, Option, Ok, IfSome}
+use Rattle.std.specs.Ordering.{nat_cmp}
+use Rattle.std.specs.FinMap.{FinMap}
+use Rattle.verdict.specs.declared.place.Chunk.{Chunk}
+use Rattle.write_cache.specs.Cache.{overlaid}
+use Rattle.write_cache.specs.Pieces.{ArePiecesOf, Piece}
+use Rattle.live_index.specs.Pairs.{Pairs}
+use Rattle.super_reader.specs.declared.Super.{Super}
+use Rattle.volume_items.specs.declared.root_at.RootAt.{RootAt}
+use Rattle.records.specs.Contents.{superblock_in}
+use Rattle.shared_trees.specs.LivePairs.{Walked, walked}
+use Rattle.tree_change.specs.Change.{BasesStand}
+use Rattle.tree_change.specs.LooksLaw.{entries_of}
+use Rattle.tree_change.specs.OneTree.{side_of}
+use Rattle.tree_change.specs.declared.change.Change.{Change}
+use Rattle.tree_change.specs.declared.change.Diff.{Diff}
+use Rattle.tree_change.specs.declared.change.Diff.TheVariants.{Found, Change as Changed}
+
+-- so many looks are few: by the pieces of the writes, the chunks of both images, the blocks that change and their entries
+abbrev pub few_looks : List ℕ → List ℕ → Walked → Walked → List Piece → Change → ℕ
+few_looks image judged old new pieces change =
+    length pieces + 4 * length old.chunks + length new.chunks + 77
+    + 111 * length change.old_blocks.items + 35 * length change.new_blocks.items
+    + 3 * entries_of (side_of image old) change.old_blocks.items + 4 * entries_of (side_of judged new) change.new_blocks.items
+
+-- where an answer is what changes, no more looks were counted than are few
+abbrev pub CountsFew : List ℕ → List ℕ → List Piece → ℕ → ℕ → Diff → Type 0
+CountsFew image judged pieces before after (Found finding) = Unit {0}
+CountsFew image judged pieces before after (Changed change) =
+    (old new : Walked) → walked image ≡ Ok old → walked judged ≡ Ok new → after ≤ before + few_looks image judged old new pieces change
+
+-- so it is where the disk tells the bytes of an image for which the bases stand, and the fresh superblock is that of the judged image
+abbrev pub LooksFew : Option (List ℕ) → FinMap nat_cmp ℕ → Super → List Chunk → List RootAt → (ℕ → ℕ → Bool) → Pairs → Super → ℕ → ℕ → Diff → Type 0
+LooksFew told pending sup chunks roots sum_free pairs fresh before after diff = IfSome told (λ image.
+    (pieces : List Piece) → ArePiecesOf pending pieces → BasesStand image sup chunks roots sum_free pairs
+    → superblock_in (overlaid pending 0 image) ≡ Ok fresh → CountsFew image (overlaid pending 0 image) pieces before after diff)
