@@ -84,11 +84,13 @@ pub(crate) fn walk_new<D: Disk, L>(
         behind: None,
     };
     walk_changed(alloc, disk, source, &mut keeps, e, room, &mut read)?;
-    Ok(NewTree {
-        read,
-        met: keeps.met,
-        ended: keeps.ended,
-    })
+    let looks = keeps.steps.looks();
+    let (met, ended) = (keeps.met, keeps.ended);
+    // `keeps` owns memory, so no proof here sees that the counter which it was lent ends as it left it. It does, so this never stops.
+    if steps.looks() != looks {
+        return Err(Halt::NoMemory);
+    }
+    Ok(NewTree { read, met, ended })
 }
 
 /// Walks a tree as it was, which stops at these blocks of the tree as it is. It looks at most three times into the table of live pairs
