@@ -1,13 +1,10 @@
 -- The looks for all that changes from an accepted image to another are few, by what changes.
-use Rattle.std.proofs.Common.{◌≡◌, ℕ, suc, ◌+◌, ◌*◌, ◌≤◌, ◌<◌, ◌==◌, ◌⊎◌, inl, inr, not, Bool, true, false, List, [], ◌∷◌, ◌++◌, length, refl, ap, sym, subst, ◌∙◌, arith, if◌then◌else◌}
+use Rattle.std.proofs.Common.{◌≡◌, ℕ, ◌+◌, ◌*◌, ◌≤◌, ◌<◌, ◌==◌, ◌⊎◌, inl, inr, not, Bool, true, false, List, [], ◌∷◌, length, refl, ap, sym, subst, ◌∙◌, arith, if◌then◌else◌}
 use Rattle.std.proofs.lemmas.Bool.{eqb-true}
-use Rattle.std.proofs.lemmas.List.Elements.{All-from_recursion, recursion_from_All}
 use Rattle.std.proofs.lemmas.List.Sorted.{length_permutation, sum_by-IsPermutation}
 use Rattle.std.specs.Prelude.{Option, Some, None, Result, Ok, Err, is_some, map}
-use Rattle.std.specs.List.{AllByRecursion, filter, fold, list_any, sum_by}
+use Rattle.std.specs.List.{AllByRecursion, fold, sum_by}
 use Rattle.std.specs.List.Sorted.{IsPermutation}
-use Rattle.std.specs.Ordering.{nat_cmp}
-use Rattle.std.specs.FinMap.{FinMap}
 use Rattle.verdict.specs.Chunks.{place}
 use Rattle.verdict.specs.Items.{is_multiple}
 use Rattle.verdict.specs.Rules.{finding_or}
@@ -19,13 +16,11 @@ use Rattle.live_index.specs.Table.{pairs_of}
 use Rattle.live_index.specs.declared.live.Live.{Live}
 use Rattle.node_reader.specs.Stored.{bytes_at, stored_in}
 use Rattle.node_reader.specs.Stored.CopyFault.{NoPlace}
-use Rattle.node_reader.specs.declared.expect.Expect.{Expect}
 use Rattle.super_reader.specs.Superblock.{array_place}
 use Rattle.super_reader.specs.declared.Super.{Super}
 use Rattle.volume_items.specs.SystemArray.{array_chunks}
 use Rattle.volume_items.specs.declared.root.RootItem.{RootItem}
-use Rattle.volume_items.specs.declared.root_at.RootAt.{RootAt}
-use Rattle.records.specs.Contents.{all_records, chunk_map_in, chunk_tree_root, root_items_in, root_tree_root, roots_fault, tree_records}
+use Rattle.records.specs.Contents.{all_records, chunk_map_in, chunk_tree_root, root_items_in, root_tree_root, roots_fault}
 use Rattle.records.specs.Seen.{Seen}
 use Rattle.records.specs.Walk.{walk_in}
 use Rattle.records.specs.WalkLaw.{visited}
@@ -38,8 +33,9 @@ use Rattle.touched_pairs.specs.Spots.{at_address}
 use Rattle.touched_pairs.specs.Touched.{same_place, touches_block, written_in}
 use Rattle.shared_trees.specs.ArrayLaw.{HasArray, IsAsByAll}
 use Rattle.shared_trees.specs.Keeping.{live_at}
-use Rattle.shared_trees.specs.LivePairs.{Walked, live_in, table_of, walked}
+use Rattle.shared_trees.specs.LivePairs.{Walked, live_in, walked}
 use Rattle.shared_trees.specs.Shared.{are_read_alike, unshared_in}
+use Rattle.shared_trees.specs.ShiftedLaw.{shifted_in}
 use Rattle.shared_trees.specs.TableLaw.{Tree, trees_in}
 use Rattle.shared_trees.specs.VisitsLaw.{entries_at, entries_in}
 use Rattle.shared_trees.proofs.ArrayPlaces.{as_by_all}
@@ -48,7 +44,7 @@ use Rattle.shared_trees.proofs.Picking.{each_map}
 use Rattle.shared_trees.proofs.Rooted.{step_ok}
 use Rattle.shared_trees.proofs.Treed.{Steps, steps_of}
 use Rattle.tree_change.specs.Accepted.{AreMarkedTouched, AreUnshared, IsWalked, IsWellFormed, unshared_old}
-use Rattle.tree_change.specs.AllLooks.{FewForMap, FewForRest, FewFromOld, FewToCompare}
+use Rattle.tree_change.specs.AllLooks.{FewForMap, FewForRest, FewFromOld}
 use Rattle.tree_change.specs.AllTrees.{AreAllParts, IsAll, IsOver, gone_all, named_parts, with_parts}
 use Rattle.tree_change.specs.Change.{IsChange}
 use Rattle.tree_change.specs.Compared.{HasNewMap, IsCompared, KeepsBy, judged_by, side_to}
@@ -57,26 +53,28 @@ use Rattle.tree_change.specs.Looks.{gone_all_looks, named_looks, tree_looks}
 use Rattle.tree_change.specs.LooksLaw.{entries_of}
 use Rattle.tree_change.specs.Merging.{IsSortedOf, named_before, root_at, roots_left}
 use Rattle.tree_change.specs.OneTree.{IsTree, KnowsNothing, KnowsTree, shares, side_of}
+use Rattle.tree_change.specs.Stays.{RootsStand}
 use Rattle.tree_change.specs.Told.{side_with}
 use Rattle.tree_change.specs.Walks.{Known, Parts, Side, tree_parts}
 use Rattle.tree_change.specs.declared.change.Change.{Change}
 use Rattle.tree_change.specs.declared.sides.Compared.{Compared}
 use Rattle.tree_change.proofs.Accepting.{accepted, of_chunk_pair}
-use Rattle.tree_change.proofs.AllTrees.{all_trees, named_trees, olds_named}
+use Rattle.tree_change.proofs.AllTrees.{all_trees, moved_all, named_trees, olds_named}
 use Rattle.tree_change.proofs.ArrayFew.{array_few}
 use Rattle.tree_change.proofs.ArraySound.{array_sound}
-use Rattle.tree_change.proofs.ByArray.{array_known, known_array, size_some}
-use Rattle.tree_change.proofs.ByMap.{new_apart, over_by, root_tree, was_is}
+use Rattle.tree_change.proofs.ByArray.{array_known, size_some}
+use Rattle.tree_change.proofs.ByMap.{new_apart, over_by, root_tree, roots_stand, was_is}
 use Rattle.tree_change.proofs.Chunks.{chunks_found}
 use Rattle.tree_change.proofs.Contents.{all_found}
 use Rattle.tree_change.proofs.EachTree.{one_tree}
 use Rattle.tree_change.proofs.Gone.{gone as gone_law}
 use Rattle.tree_change.proofs.Levels.{IsLow, roots_low, supers_low}
+use Rattle.tree_change.proofs.MovedSums.{moved_all_joins, moved_cost, moved_gone, moved_named, moved_tree}
 use Rattle.tree_change.proofs.Named.{named as named_law}
 use Rattle.tree_change.proofs.Olds.{same_ok}
 use Rattle.tree_change.proofs.Readable.{readable}
 use Rattle.tree_change.proofs.RootItems.{roots_made}
-use Rattle.tree_change.proofs.TreeSums.{all_cost, entries_append, gone_all_sum, joined_cost, named_sum, tree_cost, tree_sum}
+use Rattle.tree_change.proofs.TreeSums.{all_cost, gone_all_sum, joined_cost, named_sum, tree_cost, tree_sum}
 use Rattle.tree_change.proofs.Unordered.{all_filter}
 
 -- a result is a value, where it is no finding
@@ -163,6 +161,9 @@ all_total before middle later after t m1 m2 p cw co cn oa sa tc tr e o n b e' o'
 as_change : (before after k l m o e l' m' o' e' : ℕ) → after ≤ before + (k + 111 * l + 35 * m + 3 * o + 4 * e) → l' ≡ l → m' ≡ m → o' ≡ o → e' ≡ e
     → after ≤ before + (k + 111 * l' + 35 * m' + 3 * o' + 4 * e')
 as_change before after k l m o e l' m' o' e' x a b c d = omega (arith, x, a, b, c, d)
+
+as_moved : (s e n o m e' n' o' : ℕ) → s ≤ 2 + (e + 8 * n + o) → m ≡ s → e' ≡ e → n' ≡ n → o' ≡ o → m ≤ 2 + (e' + 8 * n' + o')
+as_moved s e n o m e' n' o' x a b c d = omega (arith, x, a, b, c, d)
 
 -- What is known of the image as it was, in the words of what is compared.
 module _ {L : Type 0} (both : Compared L) (image : List ℕ) (c : IsCompared both image) (before after : ℕ) (f : FewFromOld both image before after)
@@ -580,14 +581,56 @@ module _ {L : Type 0} (both : Compared L) (image : List ℕ) (c : IsCompared bot
         (entries_permuted side come parts.new_blocks all_parts.new_blocks) (entries_permuted was left parts.old_blocks all_parts.old_blocks)
         (length_permutation come parts.new_blocks all_parts.new_blocks) (length_permutation left parts.old_blocks all_parts.old_blocks)
 
--- What changes is what all parts have, in some order. So the looks are few by it.
+    -- ---- the shared pairs that are shifted
+
+    by_old : both.is_same ≡ true → fr.known.pairs ≡ pairs
+    by_old same = fr.by_kept ∙ ap pairs_of (both.same same)
+
+    parts_moved : length parts.moved ≤ 2 + moved_cost side parts
+    parts_moved =
+        let p = chunk_made.0 in
+        let stand : RootsStand pairs (map root_at olds) = subst (RootsStand pairs) c.based.roots_are (roots_stand both image chunks c) in
+        let chunk =
+        moved_tree image both.cache.now old trees pairs array_side fm.known (Some (chunk_tree_root old.sup)) (chunk_tree_root both.fresh.now) p chunk_tree
+        new_low.1 old_low.1 chunk_made.1 in
+        moved_all_joins side p fr.parts named_made.0 gone_made.0
+        (subst (λ n. length p.moved ≤ 1 + (n + 7 * length p.new_blocks)) chunk_entries chunk)
+        (moved_tree image both.cache.now old trees pairs side fr.known (Some (root_tree_root old.sup)) (root_tree_root both.fresh.now) fr.parts root_is
+        new_low.0 old_low.0 root_made)
+        (moved_named image both.cache.now old olds trees pairs side fr.known both.is_same same_alike low_olds by_old stand roots.news named_made.0
+        (named_trees one_tree image both.cache.now old new olds roots.news trees afters array pairs fm.known fr.known chunk_made.0 fr.parts
+        named_made.0 gone_made.0 all_is) (roots_low both.fresh.now chunks judged roots.news roots.items) named_made.1)
+        (moved_gone image both.cache.now old olds trees pairs side fr.known both.is_same same_alike low_olds by_old stand (map root_at roots.news) olds
+        gone_made.0 gone_made.1)
+
+    pub moved_few : length (shifted_in old new (written_in both.cache.now) (length image)) ≤ 2 + (entries_of side come + 8 * length come + length left)
+    moved_few =
+        sums (length parts.moved) (length (shifted_in old new (written_in both.cache.now) (length image))) (entries_of side parts.new_blocks)
+        (length parts.new_blocks) (length parts.old_blocks) (entries_of side come) (length come) (length left) parts_moved
+        (length_permutation (shifted_in old new (written_in both.cache.now) (length image)) parts.moved
+        (moved_all one_tree image both.cache.now old new olds roots.news trees afters array pairs fm.known fr.known chunk_made.0 fr.parts
+        named_made.0 gone_made.0 all_is))
+        (entries_permuted side come parts.new_blocks all_parts.new_blocks)
+        (length_permutation come parts.new_blocks all_parts.new_blocks) (length_permutation left parts.old_blocks all_parts.old_blocks)
+      where
+        sums : (m s e n o e' n' o' : ℕ) → m ≤ 2 + (e + 8 * n + o) → m ≡ s → e ≡ e' → n ≡ n' → o ≡ o' → s ≤ 2 + (e' + 8 * n' + o')
+        sums m s e n o e' n' o' x y z w u = omega (arith, x, y, z, w, u)
+
+-- What changes is what all parts have, in some order. So the looks are few by it, and the shared pairs that are shifted.
 pub few_change : {L : Type 0} (both : Compared L) (image : List ℕ) (c : IsCompared both image) (before after : ℕ) (f : FewFromOld both image before after)
     (fresh : Walked) (change : Change) → walked (judged_by both image) ≡ Ok fresh
-    → IsChange c.based.old fresh (written_in both.cache.now) (length image) change → (pieces : List Piece) → ArePiecesOf both.cache.now pieces
-    → after ≤ before + few_looks image (judged_by both image) c.based.old fresh pieces change
-few_change both image c before after f fresh change walks is pieces are =
+    → IsChange c.based.old fresh (written_in both.cache.now) (length image) change
+    → ((pieces : List Piece) → ArePiecesOf both.cache.now pieces
+    → after ≤ before + few_looks image (judged_by both image) c.based.old fresh pieces change)
+    × (length change.moved.items
+    ≤ 2 + (entries_of (side_of (judged_by both image) fresh) change.new_blocks.items + 8 * length change.new_blocks.items
+    + length change.old_blocks.items))
+few_change both image c before after f fresh change walks is =
     subst (λ (n : Walked). walked judged ≡ Ok n → IsChange c.based.old n (written_in both.cache.now) (length image) change
-    → after ≤ before + few_looks image judged c.based.old n pieces change) new_is plain walks is
+    → ((pieces : List Piece) → ArePiecesOf both.cache.now pieces → after ≤ before + few_looks image judged c.based.old n pieces change)
+    × (length change.moved.items
+    ≤ 2 + (entries_of (side_of judged n) change.new_blocks.items + 8 * length change.new_blocks.items + length change.old_blocks.items)))
+    new_is plain walks is
   where
     judged : List ℕ
     judged = judged_by both image
@@ -616,15 +659,25 @@ few_change both image c before after f fresh change walks is pieces are =
     new_is = λ i. record { sup = sup_is i; chunks = chunks_are i; seen = fresh.seen }
 
     plain : walked judged ≡ Ok made → IsChange c.based.old made (written_in both.cache.now) (length image) change
-        → after ≤ before + few_looks image judged c.based.old made pieces change
+        → ((pieces : List Piece) → ArePiecesOf both.cache.now pieces → after ≤ before + few_looks image judged c.based.old made pieces change)
+        × (length change.moved.items
+        ≤ 2 + (entries_of (side_of judged made) change.new_blocks.items + 8 * length change.new_blocks.items + length change.old_blocks.items))
     plain walks is =
         let was = side_of image c.based.old in
         let side = side_of judged made in
         let left = unshared_in c.based.old made (written_in both.cache.now) (length image) c.based.old in
         let come = unshared_in c.based.old made (written_in both.cache.now) (length image) made in
-        as_change before after (length pieces + 4 * length c.based.old.chunks + length made.chunks + 77) (length left) (length come)
-        (entries_of was left) (entries_of side come) (length change.old_blocks.items) (length change.new_blocks.items)
-        (entries_of was change.old_blocks.items) (entries_of side change.new_blocks.items)
-        (few_all both image c before after f fresh.seen walks pieces are)
-        (length_permutation left change.old_blocks.items is.old_blocks) (length_permutation come change.new_blocks.items is.new_blocks)
-        (entries_permuted was left change.old_blocks.items is.old_blocks) (entries_permuted side come change.new_blocks.items is.new_blocks)
+        let old_long = length_permutation left change.old_blocks.items is.old_blocks in
+        let new_long = length_permutation come change.new_blocks.items is.new_blocks in
+        let new_entries = entries_permuted side come change.new_blocks.items is.new_blocks in
+        let shifted = shifted_in c.based.old made (written_in both.cache.now) (length image) in (
+          λ pieces are. as_change before after (length pieces + 4 * length c.based.old.chunks + length made.chunks + 77) (length left) (length come)
+              (entries_of was left) (entries_of side come) (length change.old_blocks.items) (length change.new_blocks.items)
+              (entries_of was change.old_blocks.items) (entries_of side change.new_blocks.items)
+              (few_all both image c before after f fresh.seen walks pieces are) old_long new_long
+              (entries_permuted was left change.old_blocks.items is.old_blocks) new_entries,
+          as_moved (length shifted) (entries_of side come) (length come) (length left) (length change.moved.items)
+              (entries_of side change.new_blocks.items) (length change.new_blocks.items) (length change.old_blocks.items)
+              (moved_few both image c before after f fresh.seen walks) (length_permutation shifted change.moved.items is.moved.all)
+              new_entries new_long old_long,
+        )

@@ -53,7 +53,7 @@ module _ (law : OneTreeLaw) (image : List ℕ) (pending : FinMap nat_cmp ℕ) (o
   abbrev pub side : Side
   side = side_by judged new new.chunks
 
-  abbrev all : Parts
+  abbrev pub all : Parts
   all = changed old new (written_in pending) (length image)
 
   abbrev ids : List ℕ
@@ -239,7 +239,7 @@ module _ (law : OneTreeLaw) (image : List ℕ) (pending : FinMap nat_cmp ℕ) (o
       gone_pieces all pairs known (side_of image old) (map root_at news) (map root_at olds) left
       (gone_each olds (named_each (λ t. IsAmong t trees) was_stored olds olds_among.1.1) old_distinct.0.1 old_distinct.1.0) a.gone_trees
 
-  abbrev parts : Parts
+  abbrev pub parts : Parts
   parts = with_parts chunk_parts (with_parts root_parts (with_parts named left))
 
   -- all parts are those of the different ids, which all pairs and items have
@@ -277,6 +277,12 @@ module _ (law : OneTreeLaw) (image : List ℕ) (pending : FinMap nat_cmp ℕ) (o
       by_ids item_id ids (items_in lives seen) distinct
       (subst (AllByRecursion (λ one. listed (item_id one) ids ≡ true)) (sym (items_filter lives seen))
       (all_filter (λ one. listed (item_id one) ids ≡ true) (stands_in lives) (items seen) each.found))
+
+  -- the shared pairs that are shifted, in some order
+  pub moved_all : IsPermutation all.moved parts.moved
+  moved_all =
+      subst (IsPermutation all.moved) (sym pieces.moved)
+      (lives_listed (λ live. is_shared old new (written_in pending) (length image) live && is_shifted (live_in old.seen) live) new.seen new_listed)
 
   all_parts : AreAllParts old new pending (length image) parts
   all_parts = record {

@@ -123,7 +123,7 @@ module _ {L : Type 0} (both : Compared L) (image : List ℕ) (chunks : List Chun
       side_at sup cs = record { sup = sup; chunks = cs; image = image }
 
   -- the table has the pair of each old root
-  roots_stand : RootsStand pairs both.roots.now
+  pub roots_stand : RootsStand pairs both.roots.now
   roots_stand =
       subst (RootsStand pairs) (sym c.based.roots_are)
       (items_stand pairs old (stored_in image old.chunks old.sup.nodesize) c.based.pairs_are olds (old_stands image old trees c.based.has).1.1)

@@ -1,5 +1,5 @@
 -- The looks that the call counts which finds the difference.
-use Rattle.std.proofs.Common.{◌≡◌, ℕ, ◌+◌, ◌≤◌, Bool, List, length, ap, sym, subst, ◌∙◌, Ok, Err}
+use Rattle.std.proofs.Common.{◌≡◌, ℕ, ◌+◌, ◌*◌, ◌≤◌, Bool, List, length, ap, sym, subst, ◌∙◌, Ok}
 use Rattle.std.specs.Prelude.{Option, Some, None, IfSome, OnOk, Result}
 use Rattle.std.specs.Ordering.{nat_cmp}
 use Rattle.std.specs.FinMap.{FinMap}
@@ -7,7 +7,7 @@ use Rattle.verdict.specs.declared.finding.Finding.{Finding}
 use Rattle.verdict.specs.declared.place.Chunk.{Chunk}
 use Rattle.recon_disk.specs.declared.disk.Disk.{Ghosts}
 use Rattle.write_cache.specs.Cache.{overlaid}
-use Rattle.write_cache.specs.Pieces.{ArePiecesOf}
+use Rattle.write_cache.specs.Pieces.{ArePiecesOf, Piece}
 use Rattle.live_index.specs.Table.{pairs_of}
 use Rattle.live_index.specs.declared.kept.LiveIndex.{LiveIndex}
 use Rattle.live_index.specs.Pairs.{Pairs}
@@ -22,7 +22,9 @@ use Rattle.shared_trees.specs.LivePairs.{Walked, walked}
 use Rattle.tree_change.specs.AllLooks.{FewFromOld, LooksFromOld}
 use Rattle.tree_change.specs.Change.{BasesStand, GivesDifference, IsChange, IsDifference, ReadsFew}
 use Rattle.tree_change.specs.Compared.{IsBased, IsCompared}
-use Rattle.tree_change.specs.FewLooks.{CountsFew, LooksFew, few_looks}
+use Rattle.tree_change.specs.FewLooks.{LooksFew, MovesFew, few_looks}
+use Rattle.tree_change.specs.LooksLaw.{entries_of}
+use Rattle.tree_change.specs.OneTree.{side_of}
 use Rattle.tree_change.specs.declared.change.Change.{Change}
 use Rattle.tree_change.specs.declared.change.Diff.TheVariants.{Found as Refused, Change as Changed}
 use Rattle.tree_change.specs.declared.sides.Compared.{Compared}
@@ -31,12 +33,17 @@ use Rattle.tree_change.proofs.Contents.{bases_are}
 use Rattle.tree_change.proofs.Differing.{change_is}
 use Rattle.tree_change.proofs.Olds.{same_ok}
 
--- a finding costs what it may
+-- a finding costs what it may, and no pair is shifted
 pub found_few : (finding : Finding) (bytes : Option (List ℕ)) (pending : FinMap nat_cmp ℕ) (sup : Super) (chunks : List Chunk) (roots : List RootAt)
     (sum_free : ℕ → ℕ → Bool) (pairs : Pairs) (fresh : Super) (first last : ℕ)
     → LooksFew bytes pending sup chunks roots sum_free pairs fresh first last (Refused finding)
 found_few finding None pending sup chunks roots sum_free pairs fresh first last = tt
 found_few finding (Some image) pending sup chunks roots sum_free pairs fresh first last = λ pieces are stand super_is. tt
+
+pub none_moved : (finding : Finding) (bytes : Option (List ℕ)) (pending : FinMap nat_cmp ℕ) (sup : Super) (chunks : List Chunk) (roots : List RootAt)
+    (sum_free : ℕ → ℕ → Bool) (pairs : Pairs) (fresh : Super) → MovesFew bytes pending sup chunks roots sum_free pairs fresh (Refused finding)
+none_moved finding None pending sup chunks roots sum_free pairs fresh = tt
+none_moved finding (Some image) pending sup chunks roots sum_free pairs fresh = λ stand super_is. tt
 
 module _ {L : Type 0} (was : BlockSource) (pending : FinMap nat_cmp ℕ) (sup : Super) (chunks : List Chunk) (roots : List RootAt)
     (sum_free : ℕ → ℕ → Bool) (table : LiveIndex L) (fresh : Super) (first last size : ℕ) (change : Change) (same_sup : was.sup.now ≡ sup)
@@ -63,8 +70,13 @@ module _ {L : Type 0} (was : BlockSource) (pending : FinMap nat_cmp ℕ) (sup : 
   few_at : (image : List ℕ) → length image ≡ size → LooksFromOld (Some image) first last was pending fresh roots table
       → (BasesStand image sup chunks roots sum_free (pairs_of table) → superblock_in (overlaid pending 0 image) ≡ Ok fresh
       → IsDifference image (overlaid pending 0 image) (written_in pending) (Changed change))
-      → LooksFew (Some image) pending sup chunks roots sum_free (pairs_of table) fresh first last (Changed change)
-  few_at image n looks difference = λ pieces are stand super_is old new old_is new_is.
+      → BasesStand image sup chunks roots sum_free (pairs_of table) → superblock_in (overlaid pending 0 image) ≡ Ok fresh
+      → (old new : Walked) → walked image ≡ Ok old → walked (overlaid pending 0 image) ≡ Ok new
+      → ((pieces : List Piece) → ArePiecesOf pending pieces → last ≤ first + few_looks image (overlaid pending 0 image) old new pieces change)
+      × (length change.moved.items
+      ≤ 2 + (entries_of (side_of (overlaid pending 0 image) new) change.new_blocks.items + 8 * length change.new_blocks.items
+      + length change.old_blocks.items))
+  few_at image n looks difference stand super_is old new old_is new_is =
       let both = looks.0 in
       let cache_is = looks.2 in
       let f = looks.6 in
@@ -77,12 +89,18 @@ module _ {L : Type 0} (was : BlockSource) (pending : FinMap nat_cmp ℕ) (sup : 
       (subst (λ w. IsChange d.0 w (written_in both.cache.now) (length image) change) new_same
       (subst (λ m. IsChange d.0 d.1 (written_in m) (length image) change) (sym cache_is) d.4)) in
       let walks : walked (overlaid both.cache.now 0 image) ≡ Ok new = subst (λ m. walked (overlaid m 0 image) ≡ Ok new) (sym cache_is) new_is in
-      let few = few_change both image c first last f new change walks is pieces (subst (λ m. ArePiecesOf m pieces) (sym cache_is) are) in
-      subst (λ m. last ≤ first + few_looks image (overlaid m 0 image) old new pieces change) cache_is
-      (subst (λ o. last ≤ first + few_looks image (overlaid both.cache.now 0 image) o new pieces change)
-      (same_ok c.based.old old (sym c.based.walks ∙ old_is)) few)
+      subst (λ m. ((pieces : List Piece) → ArePiecesOf m pieces → last ≤ first + few_looks image (overlaid m 0 image) old new pieces change)
+      × (length change.moved.items
+      ≤ 2 + (entries_of (side_of (overlaid m 0 image) new) change.new_blocks.items + 8 * length change.new_blocks.items
+      + length change.old_blocks.items))) cache_is
+      (subst (λ o. ((pieces : List Piece) → ArePiecesOf both.cache.now pieces
+      → last ≤ first + few_looks image (overlaid both.cache.now 0 image) o new pieces change)
+      × (length change.moved.items
+      ≤ 2 + (entries_of (side_of (overlaid both.cache.now 0 image) new) change.new_blocks.items + 8 * length change.new_blocks.items
+      + length change.old_blocks.items))) (same_ok c.based.old old (sym c.based.walks ∙ old_is))
+      (few_change both image c first last f new change walks is))
 
--- so many looks are few where the answer is what changes
+-- so many looks are few where the answer is what changes, and so many pairs are shifted
 pub change_few : {D E L : Type 0} (disk : Ghosts D) (start old new : D) (was : BlockSource) (pending : FinMap nat_cmp ℕ) (sup : Super)
     (chunks : List Chunk) (roots : List RootAt) (sum_free : ℕ → ℕ → Bool) (table : LiveIndex L) (fresh : Super) (first last : ℕ) (change : Change)
     (result : Result Change Halt) → was.sup.now ≡ sup → was.map.now ≡ chunks → was.end ≡ disk.len old → disk.bytes old ≡ disk.bytes start
@@ -90,6 +108,7 @@ pub change_few : {D E L : Type 0} (disk : Ghosts D) (start old new : D) (was : B
     → told result ≡ Ok (Ok change) → OnOk result (LooksFromOld (disk.bytes old) first last was pending fresh roots table)
     → GivesDifference {E = E} disk start new pending sup chunks roots sum_free (pairs_of table) fresh (Ok (Changed change))
     → LooksFew (disk.bytes start) pending sup chunks roots sum_free (pairs_of table) fresh first last (Changed change)
+    × MovesFew (disk.bytes start) pending sup chunks roots sum_free (pairs_of table) fresh (Changed change)
 change_few {D} {E} disk start old new was pending sup chunks roots sum_free table fresh first last change result same_sup same_map end same sized is
     looks gives =
     by (disk.bytes start) (subst (λ told. IfSome told (λ image. length image ≡ disk.len old)) same sized)
@@ -103,7 +122,19 @@ change_few {D} {E} disk start old new was pending sup chunks roots sum_free tabl
         → IsDifference image (overlaid pending 0 image) (written_in pending) (Changed change)
         × ReadsFew (disk.reads start) (disk.reads new) (Changed change))
         → LooksFew bytes pending sup chunks roots sum_free (pairs_of table) fresh first last (Changed change)
-    by None n looks tells = tt
-    by (Some image) n looks tells =
-        few_at was pending sup chunks roots sum_free table fresh first last (disk.len old) change same_sup same_map end image n looks
-        (λ stand super_is. (tells stand super_is).0)
+        × MovesFew bytes pending sup chunks roots sum_free (pairs_of table) fresh (Changed change)
+    by None n looks tells = (tt, tt)
+    by (Some image) n looks tells = (
+      λ pieces are stand super_is old new old_is new_is. (both stand super_is old new old_is new_is).0 pieces are,
+      λ stand super_is old new old_is new_is. (both stand super_is old new old_is new_is).1,
+    )
+      where
+        both : BasesStand image sup chunks roots sum_free (pairs_of table) → superblock_in (overlaid pending 0 image) ≡ Ok fresh
+            → (old new : Walked) → walked image ≡ Ok old → walked (overlaid pending 0 image) ≡ Ok new
+            → ((pieces : List Piece) → ArePiecesOf pending pieces → last ≤ first + few_looks image (overlaid pending 0 image) old new pieces change)
+            × (length change.moved.items
+            ≤ 2 + (entries_of (side_of (overlaid pending 0 image) new) change.new_blocks.items + 8 * length change.new_blocks.items
+            + length change.old_blocks.items))
+        both =
+            few_at was pending sup chunks roots sum_free table fresh first last (disk.len old) change same_sup same_map end image n looks
+            (λ stand super_is. (tells stand super_is).0)

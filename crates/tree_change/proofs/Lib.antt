@@ -68,5 +68,6 @@ pub mod OneRead
 pub mod TreeLooks
 pub mod TreeSums
 pub mod ArrayFew
+pub mod MovedSums
 pub mod AllFew
 pub mod DifferenceFew

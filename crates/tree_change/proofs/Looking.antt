@@ -198,7 +198,7 @@ bound_of_same None (Some b) is = absurd (cc)
 bound_of_same (Some a) None is = absurd (cc)
 bound_of_same (Some a) (Some b) is = ap (λ (key : Key). Some key) (key_of_same a b is)
 
-expect_of_same : (e now : Expect) → is_expected (Some e) now ≡ true → e ≡ now
+pub expect_of_same : (e now : Expect) → is_expected (Some e) now ≡ true → e ≡ now
 expect_of_same e now is =
     let both = and_parts _ _ is in
     let first = and_parts _ _ both.0 in

@@ -185,7 +185,7 @@ stays_none pairs known was is before now stays has low high =
     (subst (λ b. tree_parts known.pairs known was is b now ≡ Ok no_parts) (sym stays.same) none)
 
 -- a root that a list names is one of those of which the table has the pairs
-named_stands : (pairs : Pairs) (roots : List RootAt) (id : ℕ) (e : Expect) → RootsStand pairs roots → root_named roots id ≡ Some e → HasRoot pairs e
+pub named_stands : (pairs : Pairs) (roots : List RootAt) (id : ℕ) (e : Expect) → RootsStand pairs roots → root_named roots id ≡ Some e → HasRoot pairs e
 named_stands pairs [] id e all at = absurd (cc)
 named_stands pairs (root ∷ roots) id e all at = by (has_id id root) at (named_stands pairs roots id e all.1)
   where

@@ -1,5 +1,5 @@
 -- How many looks the walks of trees cost, by the pairs that change in them.
-use Rattle.std.proofs.Common.{◌≡◌, ℕ, suc, ◌+◌, ◌*◌, ◌≤◌, ◌<◌, ◌==◌, ◌&&◌, not, Bool, true, false, List, [], ◌∷◌, ◌++◌, length, refl, ap, sym, subst, ◌∙◌, arith, if◌then◌else◌}
+use Rattle.std.proofs.Common.{◌≡◌, ℕ, ◌+◌, ◌*◌, ◌≤◌, ◌<◌, ◌==◌, ◌&&◌, not, Bool, true, false, List, [], ◌∷◌, ◌++◌, length, refl, ap, subst, ◌∙◌, arith, if◌then◌else◌}
 use Rattle.std.proofs.lemmas.Bool.Decides.{nat_tests}
 use Rattle.std.proofs.lemmas.List.{length-append}
 use Rattle.std.specs.Prelude.{IfSome, Option, Some, None, Result, Ok, Err, map}
@@ -23,7 +23,7 @@ use Rattle.shared_trees.specs.SharedLaw.{HasTrees}
 use Rattle.shared_trees.specs.TableLaw.{Tree}
 use Rattle.shared_trees.specs.VisitsLaw.{entries_at}
 use Rattle.shared_trees.proofs.Rooted.{step_ok}
-use Rattle.tree_change.specs.AllTrees.{gone_all, has_id, named_at, named_parts, no_parts, root_named, with_parts}
+use Rattle.tree_change.specs.AllTrees.{gone_all, has_id, named_parts, root_named, with_parts}
 use Rattle.tree_change.specs.Gathered.{Gathers}
 use Rattle.tree_change.specs.Looks.{gone_all_looks, gone_looks, is_expected, met_by, named_looks, new_visits, old_visits, old_visits_or, read_count, same_bound, stays_by, tree_looks}
 use Rattle.tree_change.specs.LooksLaw.{entries_of}
@@ -133,7 +133,7 @@ expected_itself : (e : Expect) → is_expected (Some e) e ≡ true
 expected_itself e =
     rw (same_nat e.tree, same_nat e.address, same_nat e.generation, same_nat e.level, same_nat e.parent, same_limit e.low, same_limit e.high) refl
 
-stays_false : (is_same : Bool) (pairs : Pairs) (known : Known) (before : Option Expect) (now : Expect) → is_same ≡ true
+pub stays_false : (is_same : Bool) (pairs : Pairs) (known : Known) (before : Option Expect) (now : Expect) → is_same ≡ true
     → stays_by is_same known before now ≡ false → Stays pairs known before now → ⊥
 unfolding stays_by
 stays_false is_same pairs known before now same none stays =
@@ -155,7 +155,7 @@ stays_false is_same pairs known before now same none stays =
 
 -- ---- the trees that are named now
 
-named_low : (some : List RootItem) (id : ℕ) → AllByRecursion IsLow some → IfSome (root_named (map root_at some) id) (λ e. e.level < 8)
+pub named_low : (some : List RootItem) (id : ℕ) → AllByRecursion IsLow some → IfSome (root_named (map root_at some) id) (λ e. e.level < 8)
 named_low [] id all = tt
 named_low (root ∷ some) id all = by (root.key.objectid == id) (named_low some id all.1)
   where
@@ -164,10 +164,10 @@ named_low (root ∷ some) id all = by (root.key.objectid == id) (named_low some 
     by true rest = all.0
     by false rest = rest
 
-same_parts : (a b : Parts) → (x : Result Parts Finding) → x ≡ Ok a → x ≡ Ok b → a ≡ b
+pub same_parts : (a b : Parts) → (x : Result Parts Finding) → x ≡ Ok a → x ≡ Ok b → a ≡ b
 same_parts a b x is other = cc
 
-abbrev fine : Parts → Result Parts Finding
+abbrev pub fine : Parts → Result Parts Finding
 fine parts = Ok parts
 
 paid : (a e p n b : ℕ) → a ≤ 7 + (4 * e + 3 * p + 28 * n + 22 * b) → 1 ≤ b + n → a ≤ 4 * e + 3 * p + 35 * n + 29 * b

@@ -9,7 +9,7 @@ ghost use Rattle.block_source.specs.Gives.{is_disk_fault, is_disk_halt};
 ghost use Rattle.shared_trees.specs.Shared.{are_read_alike};
 ghost use Rattle.tree_change.specs.AllLooks.{LooksFromOld, LooksToCompare};
 ghost use Rattle.tree_change.specs.Change.{GivesDifference};
-ghost use Rattle.tree_change.specs.FewLooks.{LooksFew};
+ghost use Rattle.tree_change.specs.FewLooks.{LooksFew, MovesFew};
 ghost use Rattle.tree_change.specs.Compared.{FitsCompared, IsFinished, TellsChange, TellsOld};
 
 use crate::change::{Change, Diff};
@@ -34,8 +34,9 @@ use write_cache::WriteCache;
 /// bytes reads none. Where the two superblocks do not read blocks alike, nothing is shared. Of the live table it asks for what the pending
 /// writes touch and what the walks meet. Where the answer is a change, it counts at most 111 looks into that table for each old block that
 /// changes and 35 for each new one, three for each pointer or item of the old ones and four for each of the new ones, one for each piece of
-/// the writes (a maximal run of written bytes), four for each old chunk, one for each new one, and 77. The lists take their memory from
-/// this allocator. `Disk` comes only where a call of the disk fails.
+/// the writes (a maximal run of written bytes), four for each old chunk, one for each new one, and 77. A change has at most one shifted
+/// pair for each pointer or item of its new blocks, eight for each new block, one for each old one, and two. The lists take their memory
+/// from this allocator. `Disk` comes only where a call of the disk fails.
 pub fn difference<D: Disk, L, B: Bases<Table = LiveIndex<L>>>(
     alloc: Global,
     disk: &mut D,
@@ -50,6 +51,9 @@ pub fn difference<D: Disk, L, B: Bases<Table = LiveIndex<L>>>(
     ensures looks { let b = bases.now in
         IfOk result (LooksFew (D.bytes disk.old) cache.now (B.superblock b) (B.chunks b)
         (B.root_items b) (B.is_sum_free b) (pairs_of (B.table b)) fresh.now steps.old steps.new) }
+    ensures moved { let b = bases.now in
+        IfOk result (MovesFew (D.bytes disk.old) cache.now (B.superblock b) (B.chunks b)
+        (B.root_items b) (B.is_sum_free b) (pairs_of (B.table b)) fresh.now) }
     ensures kept { Kept D.Disk disk.old disk.new (is_disk_fault result) }
 {
     let end = disk.length()?;
