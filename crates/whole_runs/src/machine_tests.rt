@@ -154,17 +154,30 @@ fn a_failed_call_closes_the_checker(rt: HostRuntime) -> Result<(), Fail> {
     Ok(())
 }
 
-// How often a checker that starts over the disk looks into its index at a settle with nothing pending.
+// How often a checker in which nothing is pending looks into its index at a settle.
+fn looks_of_settle<D: Disk>(
+    alloc: Global,
+    checker: &mut Checker<u8>,
+    disk: &mut D,
+    steps: &mut Steps<u8>,
+) -> Option<u64>
+    requires length { checker.old.length ≡ D.len disk.old }
+    requires empty { checker.old.cache ≡ map.empty }
+{
+    let before = steps.looks();
+    match checker.event(alloc, disk, Event::Settle, steps) {
+        Ok(Answer::Passed { .. }) => steps.looks().checked_sub(before),
+        _ => None,
+    }
+}
+
+// The same of a checker that starts over the disk.
 fn settle_looks<D: Disk>(alloc: Global, disk: &mut D) -> Option<u64> {
     let mut steps = Steps::new(0u8);
     match Checker::start(alloc, disk, &mut steps) {
         Ok(Started::Ready(checker)) => {
             let mut checker = checker;
-            let before = steps.looks();
-            match checker.event(alloc, disk, Event::Settle, &mut steps) {
-                Ok(Answer::Passed { .. }) => steps.looks().checked_sub(before),
-                _ => None,
-            }
+            looks_of_settle(alloc, &mut checker, disk, &mut steps)
         }
         _ => None,
     }
