@@ -19,7 +19,7 @@ use Rattle.touched_pairs.specs.Adding.{AreAdded}
 use Rattle.touched_pairs.specs.Going.{AllPass}
 use Rattle.touched_pairs.specs.Leaving.{IsMoving, both_hold, leaves, leaves_one, lie_alike, ranges_left, same_offset, same_seconds}
 use Rattle.touched_pairs.specs.Looks.{ArePlaced}
-use Rattle.touched_pairs.specs.Marking.{AreLow, AreMarkedFrom, HaveEach}
+use Rattle.touched_pairs.specs.Marking.{AreLow, AreMarkedFrom, HaveEach, marks_for}
 use Rattle.touched_pairs.specs.Marks.{AreAmong, Marked, count_of, no_mark}
 use Rattle.touched_pairs.specs.Moves.{AreApart, LieApart, held_and_moved, is_kept_chunk, is_moved, is_same_in, move_passes, same_chunk, same_second}
 use Rattle.touched_pairs.specs.OneTree.{chosen, in_chosen, is_chosen}
@@ -333,7 +333,8 @@ looks_of_move pairs move old new n end ranges slice none marks before now is_old
 
 -- and how many marks there are at most
 abbrev pub HaveFewMarks : Pairs → Option ℕ → ℕ → List Chunk → List Chunk → ℕ → ℕ → Type 0
-HaveFewMarks pairs only marks old new n end = AreLow pairs → (lives : List Live) → HaveEach (chosen only pairs) (is_moved old new n end) lives → marks ≤ 8 * length lives
+HaveFewMarks pairs only marks old new n end =
+    AreLow pairs → (lives : List Live) → HaveEach (chosen only pairs) (is_moved old new n end) lives → marks ≤ marks_for pairs lives
 
 few_by_move : (pairs : Pairs) (only : Option ℕ) (move : Move) (must none marked : Marked) (count : ℕ) → ((t a : ℕ) → none t a ≡ false)
     → AreMarkedFrom pairs must (in_chosen only (move_passes move)) none marked → ((lives : List Live) → AreAmong marked lives → count ≤ length lives)
@@ -348,3 +349,10 @@ pub few_of_move : (pairs : Pairs) (only : Option ℕ) (move : Move) (old new : L
     → HaveFewMarks pairs only count old new n end
 few_of_move pairs only move old new n end must none marked count is_old is_new is_size is_end unmarked more counted =
     by_lists (HaveFewMarks pairs only count) move old new n end is_old is_new is_size is_end (few_by_move pairs only move must none marked count unmarked more counted)
+
+-- where no pair is marked there is no mark
+pub few_unmarked : (pairs : Pairs) (only : Option ℕ) (old new : List Chunk) (n end : ℕ) (none : Marked) (count : ℕ) → ((t a : ℕ) → none t a ≡ false)
+    → ((lives : List Live) → AreAmong none lives → count ≤ length lives) → HaveFewMarks pairs only count old new n end
+few_unmarked pairs only old new n end none count unmarked counted lows lives each =
+    let least : count ≤ 0 = counted [] (λ t a is. absurd (yes_no (none t a) is (unmarked t a))) in
+    omega (arith, least)

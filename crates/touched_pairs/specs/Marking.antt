@@ -1,5 +1,5 @@
 -- What it is to mark pairs of a table with all that stand above them in their trees.
-use Rattle.std.specs.Prelude.{ℕ, ◌≡◌, ◌<◌, ◌^◌, ◌⊎◌, Bool, true, nat_lt, List, Option, Some, None, is_some, if◌then◌else◌}
+use Rattle.std.specs.Prelude.{ℕ, ◌≡◌, ◌+◌, ◌<◌, ◌^◌, ◌⊎◌, Bool, true, nat_lt, List, [], ◌∷◌, Option, Some, None, is_some, if◌then◌else◌}
 use Rattle.live_index.specs.declared.live.Live.{Live}
 use Rattle.live_index.specs.Pairs.{Pairs}
 use Rattle.touched_pairs.specs.Marks.{Marked, in_lives}
@@ -27,6 +27,21 @@ AreLow pairs = (tree address : ℕ) (live : Live) → pairs tree address ≡ Som
 abbrev pub HaveEach : Pairs → (ℕ → Bool) → List Live → Type 0
 HaveEach pairs test lives =
     (tree address : ℕ) → test address ≡ true → is_some (pairs tree address) ≡ true → in_lives lives tree address ≡ true
+
+-- How many marks are enough for a pair of a tree, by what stands above it: one where nothing does, else eight, as many as there are levels.
+abbrev pub marks_by : Option Live → ℕ
+marks_by None = 1
+marks_by (Some up) = 8
+
+-- the same of what a table has for a pair, one where it has nothing
+abbrev pub marks_at : Pairs → ℕ → Option Live → ℕ
+marks_at pairs tree None = 1
+marks_at pairs tree (Some live) = marks_by (parent_of pairs tree live)
+
+-- how many are enough for live pairs: for each one where the table has no pair above that of its tree and address, eight where it has one
+abbrev pub marks_for : Pairs → List Live → ℕ
+marks_for pairs [] = 0
+marks_for pairs (live ∷ lives) = marks_at pairs live.tree (pairs live.tree live.address) + marks_for pairs lives
 
 -- above each pair that is marked the next one is
 abbrev pub AreClosed : Pairs → Marked → Type 0

@@ -4,7 +4,7 @@ ghost use Rattle.std.specs.Prelude.{◌≡◌, ◌+◌, ◌*◌, ◌<◌, ◌≤
 ghost use Rattle.live_index.specs.declared.live.Live.{Live};
 ghost use Rattle.live_index.specs.Table.{pairs_of};
 ghost use Rattle.touched_pairs.specs.Looks.{ArePlaced};
-ghost use Rattle.touched_pairs.specs.Marking.{AreLow, AreMarkedFrom, HaveEach};
+ghost use Rattle.touched_pairs.specs.Marking.{AreLow, AreMarkedFrom, HaveEach, marks_for};
 ghost use Rattle.touched_pairs.specs.Marks.{count_of, marked_by, no_mark};
 ghost use Rattle.touched_pairs.specs.Moves.{AreApart, held_and_moved, is_moved};
 ghost use Rattle.touched_pairs.specs.OneTree.{chosen, in_chosen, in_tree, of_tree};
@@ -26,8 +26,8 @@ use verdict::NoMemory;
 /// search, and a pass over the new ones where it is not the same among them. Such a chunk gives ranges of addresses: those at which no new
 /// chunk holds a block at the same place. It goes once through the table's pairs in these ranges, and finds none twice. So where each pair
 /// has a place, and no two chunks of a list overlap, it looks at most twice for each mark and for each old chunk, and once for each new
-/// chunk. No two of the new chunks may overlap. Where the pairs are on levels below 8, there are at most eight marks for each pair of
-/// which the block moves.
+/// chunk. No two of the new chunks may overlap. Where the pairs are on levels below 8, there is at most one mark for each pair of which
+/// the block moves and that has no pair above it, and there are at most eight for each other one.
 pub fn moved_pairs<L>(
     alloc: Global,
     table: &LiveIndex<L>,
@@ -47,15 +47,15 @@ pub fn moved_pairs<L>(
         steps.new ≤ steps.old + 2 * count_of marks + 2 * length old.now + length new.now) }
     ensures few_marks { IfOk result (λ marks. AreLow (pairs_of table.now) → (lives : List Live) →
         HaveEach (pairs_of table.now) (is_moved old.now new.now nodesize end) lives →
-        count_of marks ≤ 8 * length lives) }
+        count_of marks ≤ marks_for (pairs_of table.now) lives) }
 {
     marks_of_moves(alloc, table, None, old, new, nodesize, end, steps)
 }
 
 /// Marks as `moved_pairs` does, but of the pairs of one tree alone. Other trees' pairs at the same addresses are not marked, and cost no
 /// look: where each pair of the tree has a place, and no two chunks of a list overlap, it looks at most twice for each mark and for each
-/// old chunk, and once for each new chunk. Where the pairs are on levels below 8, there are at most eight marks for each pair of the tree
-/// of which the block moves.
+/// old chunk, and once for each new chunk. Where the pairs are on levels below 8, there is at most one mark for each pair of the tree of
+/// which the block moves and that has no pair above it, and there are at most eight for each other one.
 pub fn moved_pairs_of<L>(
     alloc: Global,
     table: &LiveIndex<L>,
@@ -78,7 +78,7 @@ pub fn moved_pairs_of<L>(
     ensures few_marks { IfOk result (λ marks. AreLow (pairs_of table.now) → (lives : List Live) →
         HaveEach (of_tree tree (pairs_of table.now))
         (is_moved old.now new.now nodesize end) lives →
-        count_of marks ≤ 8 * length lives) }
+        count_of marks ≤ marks_for (pairs_of table.now) lives) }
 {
     marks_of_moves(alloc, table, Some(tree), old, new, nodesize, end, steps)
 }
@@ -106,7 +106,7 @@ fn marks_of_moves<L>(
     ensures few_marks { IfOk result (λ marks. AreLow (pairs_of table.now) → (lives : List Live) →
         HaveEach (chosen only (pairs_of table.now))
         (is_moved old.now new.now nodesize end) lives →
-        count_of marks ≤ 8 * length lives) }
+        count_of marks ≤ marks_for (pairs_of table.now) lives) }
 {
     let mut marks = Marks::new(alloc);
     let test = Move::new(old, new, nodesize, end);

@@ -25,7 +25,7 @@ use Rattle.records.specs.Seen.{Seen}
 use Rattle.records.specs.Walk.{walk_in}
 use Rattle.records.specs.WalkLaw.{visited}
 use Rattle.touched_pairs.specs.Looks.{ArePlaced, NoneMeet, copies_of, has_place}
-use Rattle.touched_pairs.specs.Marking.{AreLow, AreMarked, ClimbsTo, HaveEach}
+use Rattle.touched_pairs.specs.Marking.{AreLow, AreMarked, ClimbsTo, HaveEach, marks_for}
 use Rattle.touched_pairs.specs.Marks.{AreAmong, count_of, in_lives, marked_by, no_mark}
 use Rattle.touched_pairs.specs.Moves.{AreApart, is_moved}
 use Rattle.touched_pairs.specs.OneTree.{of_tree}
@@ -67,6 +67,7 @@ use Rattle.tree_change.proofs.ByMap.{new_apart, over_by, root_tree, roots_stand,
 use Rattle.tree_change.proofs.Chunks.{chunks_found}
 use Rattle.tree_change.proofs.Contents.{all_found}
 use Rattle.tree_change.proofs.EachTree.{one_tree}
+use Rattle.tree_change.proofs.Entries.{few_for_none, few_marks_for}
 use Rattle.tree_change.proofs.Gone.{gone as gone_law}
 use Rattle.tree_change.proofs.Levels.{IsLow, roots_low, supers_low}
 use Rattle.tree_change.proofs.MovedSums.{moved_all_joins, moved_cost, moved_gone, moved_named, moved_tree}
@@ -108,7 +109,7 @@ folded side start (live ∷ lives) =
     joins : (start here rest all : ℕ) → all ≡ (start + here) + rest → all ≡ start + (here + rest)
     joins start here rest all x = omega (arith, x)
 
-entries_permuted : (side : Side) (some more : List Live) → IsPermutation some more → entries_of side more ≡ entries_of side some
+pub entries_permuted : (side : Side) (some more : List Live) → IsPermutation some more → entries_of side more ≡ entries_of side some
 entries_permuted side some more permuted =
     let each = λ (live : Live). entries_at (stored_in side.image side.chunks side.sup.nodesize) live.address in
     joins (sum_by each more) (sum_by each some) (entries_of side more) (entries_of side some) (folded side 0 more) (folded side 0 some)
@@ -149,17 +150,17 @@ trees_total : (t r n g a b x1 x2 x3 x4 x34 x234 x : ℕ) → t ≤ 7 + a → r �
     → x1 + x234 ≤ x → t + (r + n + g) ≤ 14 + x
 trees_total t r n g a b x1 x2 x3 x4 x34 x234 x i1 i2 i3 i4 i5 i6 i7 i8 i9 = omega (arith, i1, i2, i3, i4, i5, i6, i7, i8, i9)
 
-all_total : (before middle later after t m1 m2 p cw co cn oa sa tc tr e o n b e' o' n' b' : ℕ)
+all_total : (before middle later after t m1 m2 k p cw co cn oa sa tc tr e o n b e' o' n' b' : ℕ)
     → middle ≤ before + 2 * t + p + 2 * cw → later ≤ middle + 5 * m1 + 2 * oa + sa + tc → after ≤ later + 5 * m2 + 2 * cw + cn + tr
-    → cw ≡ co → t ≤ b' → m1 ≤ 8 * b' → m2 ≤ 8 * b' → oa ≤ 21 → sa ≤ 21
+    → cw ≡ co → t ≤ b' → m1 ≤ k → m2 ≤ k → oa ≤ 21 → sa ≤ 21
     → tc + tr ≤ 14 + (4 * e + 3 * o + 35 * n + 29 * b)
-    → e ≡ e' → o ≡ o' → n ≡ n' → b ≡ b'
-    → after ≤ before + (p + 4 * co + cn + 77 + 111 * b' + 35 * n' + 3 * o' + 4 * e')
-all_total before middle later after t m1 m2 p cw co cn oa sa tc tr e o n b e' o' n' b' i1 i2 i3 i4 i5 i6 i7 i8 i9 i10 i11 i12 i13 i14 =
-    omega (arith, i1, i2, i3, i4, i5, i6, i7, i8, i9, i10, i11, i12, i13, i14)
+    → e ≡ e' → o ≡ o' → n ≡ n' → b ≡ b' → 10 * k ≤ 27 * b' + 53 * o'
+    → after ≤ before + (p + 4 * co + cn + 77 + 58 * b' + 35 * n' + 56 * o' + 4 * e')
+all_total before middle later after t m1 m2 k p cw co cn oa sa tc tr e o n b e' o' n' b' i1 i2 i3 i4 i5 i6 i7 i8 i9 i10 i11 i12 i13 i14 i15 =
+    omega (arith, i1, i2, i3, i4, i5, i6, i7, i8, i9, i10, i11, i12, i13, i14, i15)
 
-as_change : (before after k l m o e l' m' o' e' : ℕ) → after ≤ before + (k + 111 * l + 35 * m + 3 * o + 4 * e) → l' ≡ l → m' ≡ m → o' ≡ o → e' ≡ e
-    → after ≤ before + (k + 111 * l' + 35 * m' + 3 * o' + 4 * e')
+as_change : (before after k l m o e l' m' o' e' : ℕ) → after ≤ before + (k + 58 * l + 35 * m + 56 * o + 4 * e) → l' ≡ l → m' ≡ m → o' ≡ o → e' ≡ e
+    → after ≤ before + (k + 58 * l' + 35 * m' + 56 * o' + 4 * e')
 as_change before after k l m o e l' m' o' e' x a b c d = omega (arith, x, a, b, c, d)
 
 as_moved : (s e n o m e' n' o' : ℕ) → s ≤ 2 + (e + 8 * n + o) → m ≡ s → e' ≡ e → n' ≡ n → o' ≡ o → m ≤ 2 + (e' + 8 * n' + o')
@@ -271,8 +272,20 @@ module _ {L : Type 0} (both : Compared L) (image : List ℕ) (c : IsCompared bot
           one tree address (inl was) = absurd (cc)
           one tree address (inr h) = elim (no_pair k.1 tree h.0 h.2) [ ]
 
-  -- at most eight times as many are marked that move by all chunks
-  rest_moves : fr.marks ≤ 8 * length left
+  -- how many marks are enough for these, by their entries
+  marks_few : 10 * marks_for kept left ≤ 27 * length left + 53 * entries_of (side_of image old) left
+  marks_few = by f.fits.keeps
+    where
+      by : KeepsBy both.was.sup.now both.fresh.now pairs kept → 10 * marks_for kept left ≤ 27 * length left + 53 * entries_of (side_of image old) left
+      by (inl k) =
+          subst (λ (ps : Pairs). 10 * marks_for ps left ≤ 27 * length left + 53 * entries_of (side_of image old) left) (sym k.1)
+          (few_marks_for image old pairs walked_is left)
+      by (inr k) =
+          subst (λ (ps : Pairs). 10 * marks_for ps left ≤ 27 * length left + 53 * entries_of (side_of image old) left) (sym k.1)
+          (few_for_none (side_of image old) left)
+
+  -- no more are marked that move by all chunks
+  rest_moves : fr.marks ≤ marks_for kept left
   rest_moves = fr.moves.few low left (by f.fits.keeps)
     where
       by : KeepsBy both.was.sup.now both.fresh.now pairs kept → HaveEach kept (is_moved both.was.map.now chunks nodesize both.was.end) left
@@ -331,8 +344,8 @@ module _ {L : Type 0} (both : Compared L) (image : List ℕ) (c : IsCompared bot
             (ap has_place (distinct.1 address old.sup.nodesize (length image) ∙ stands address here) ∙ formed.placed 3 address here)
         by address some (inr k) = elim (no_pair k.1 3 address some) [ ]
 
-    -- at most eight times as many of the chunk tree are marked as are not shared
-    map_moves : fm.marks ≤ 8 * length left
+    -- nor of the chunk tree that move by the chunks of the system arrays
+    map_moves : fm.marks ≤ marks_for kept left
     map_moves = fm.moves.few low left each
       where
         three : (address : ℕ) → is_moved fm.olds fm.some nodesize both.was.end address ≡ true → is_some (kept 3 address) ≡ true
@@ -563,11 +576,11 @@ module _ {L : Type 0} (both : Compared L) (image : List ℕ) (c : IsCompared bot
         (both_cost was side p (with_parts q (with_parts named_made.0 gone_made.0)))
 
     pub few_all : (pieces : List Piece) → ArePiecesOf both.cache.now pieces
-        → after ≤ before + (length pieces + 4 * length old.chunks + length chunks + 77 + 111 * length left + 35 * length come
-        + 3 * entries_of was left + 4 * entries_of side come)
+        → after ≤ before + (length pieces + 4 * length old.chunks + length chunks + 77 + 58 * length left + 35 * length come
+        + 56 * entries_of was left + 4 * entries_of side come)
     few_all pieces are =
-        all_total before f.middle f.looks.middle after (count_of both.marks.now) fm.marks fr.marks (length pieces) (length both.was.map.now)
-        (length old.chunks) (length chunks) (length fm.olds) (length fm.some) _ _
+        all_total before f.middle f.looks.middle after (count_of both.marks.now) fm.marks fr.marks (marks_for kept left) (length pieces)
+        (length both.was.map.now) (length old.chunks) (length chunks) (length fm.olds) (length fm.some) _ _
         (entries_of side parts.new_blocks) (entries_of was parts.old_blocks) (length parts.new_blocks) (length parts.old_blocks)
         (entries_of side come) (entries_of was left) (length come) (length left)
         (f.touched pieces are placed apart sized unmet)
@@ -579,7 +592,7 @@ module _ {L : Type 0} (both : Compared L) (image : List ℕ) (c : IsCompared bot
         (readable judged both.fresh.now c.super_is).array f.looks.array_is))
         trees_cost
         (entries_permuted side come parts.new_blocks all_parts.new_blocks) (entries_permuted was left parts.old_blocks all_parts.old_blocks)
-        (length_permutation come parts.new_blocks all_parts.new_blocks) (length_permutation left parts.old_blocks all_parts.old_blocks)
+        (length_permutation come parts.new_blocks all_parts.new_blocks) (length_permutation left parts.old_blocks all_parts.old_blocks) marks_few
 
     -- ---- the shared pairs that are shifted
 

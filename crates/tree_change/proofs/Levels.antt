@@ -118,10 +118,10 @@ roots_low sup chunks image roots is =
 
 -- ---- all blocks
 
-abbrev IsUpTo : ℕ → Expect → Type 0
+abbrev pub IsUpTo : ℕ → Expect → Type 0
 IsUpTo level v = v.level ≤ level
 
-append_all : (P : Expect → Type 0) (a b : List Expect) → AllByRecursion P a → AllByRecursion P b → AllByRecursion P (a ++ b)
+pub append_all : (P : Expect → Type 0) (a b : List Expect) → AllByRecursion P a → AllByRecursion P b → AllByRecursion P (a ++ b)
 append_all P [] b x y = y
 append_all P (e ∷ a) b x y = (x.0, append_all P a b x.1 y)
 
@@ -143,7 +143,8 @@ below_all level of each [] all = tt
 below_all level of each (c ∷ cs) all =
     append_all (IsUpTo (suc level)) (of c) (flat_map of cs) (more_all level (of c) (each c all.0)) (below_all level of each cs all.1)
 
-up_to : (level : ℕ) (sup : Super) (stored : Stored) (e : Expect) → e.level ≡ level → AllByRecursion (IsUpTo level) (visited_from level sup stored e)
+pub up_to : (level : ℕ) (sup : Super) (stored : Stored) (e : Expect) → e.level ≡ level
+    → AllByRecursion (IsUpTo level) (visited_from level sup stored e)
 unfolding visited_from
 up_to zero sup stored e is = (omega (arith, is), tt)
 up_to (suc level) sup stored e is = (

@@ -58,6 +58,7 @@ pub mod Differing
 pub mod Copies
 pub mod Levels
 pub mod Accepting
+pub mod Entries
 pub mod MetVisits
 pub mod SomeRead
 pub mod OfTree

@@ -17,7 +17,7 @@ use Rattle.volume_items.specs.declared.root_at.RootAt.{RootAt}
 use Rattle.records.specs.Contents.{chunk_map_in, chunk_tree_root, root_tree_root}
 use Rattle.block_source.specs.declared.read.BlockSource.{BlockSource}
 use Rattle.touched_pairs.specs.Looks.{ArePlaced, NoneMeet, copies_of}
-use Rattle.touched_pairs.specs.Marking.{AreLow, AreMarkedFrom, HaveEach}
+use Rattle.touched_pairs.specs.Marking.{AreLow, AreMarkedFrom, HaveEach, marks_for}
 use Rattle.touched_pairs.specs.Marks.{AreAmong, count_of, marked_by, no_mark}
 use Rattle.touched_pairs.specs.Moves.{AreApart, held_and_moved, is_moved}
 use Rattle.touched_pairs.specs.OneTree.{in_tree, of_tree}
@@ -34,19 +34,19 @@ use Rattle.tree_change.specs.Walks.{Known, Parts, tree_parts}
 use Rattle.tree_change.specs.declared.sides.Compared.{Compared}
 
 -- Of the pairs of a table, those are marked that move from the one list of chunks to the other, and all above them; the marked children are listed;
--- and there are this many marks, at most eight for each pair that moves.
+-- and there are this many marks, at most one for each pair that moves and has none above it, and eight for each other one that moves.
 pub record AreMoves (pairs : Pairs) (old new : List Chunk) (nodesize end : ℕ) (moving : Marks) (under : Under) (marks : ℕ) : Type 0 where
   pub marked : AreApart new → 0 < nodesize
       → AreMarkedFrom pairs (at_address (held_and_moved old new nodesize end)) (at_address (is_moved old new nodesize end)) no_mark moving
   pub listed : AreListedBy pairs moving under
-  pub few : AreLow pairs → (lives : List Live) → HaveEach pairs (is_moved old new nodesize end) lives → marks ≤ 8 * length lives
+  pub few : AreLow pairs → (lives : List Live) → HaveEach pairs (is_moved old new nodesize end) lives → marks ≤ marks_for pairs lives
 
 -- the same of the pairs of one tree alone
 pub record AreTreeMoves (tree : ℕ) (pairs : Pairs) (old new : List Chunk) (nodesize end : ℕ) (moving : Marks) (under : Under) (marks : ℕ) : Type 0 where
   pub marked : AreApart new → 0 < nodesize
       → AreMarkedFrom pairs (in_tree tree (held_and_moved old new nodesize end)) (in_tree tree (is_moved old new nodesize end)) no_mark moving
   pub listed : AreListedBy pairs moving under
-  pub few : AreLow pairs → (lives : List Live) → HaveEach (of_tree tree pairs) (is_moved old new nodesize end) lives → marks ≤ 8 * length lives
+  pub few : AreLow pairs → (lives : List Live) → HaveEach (of_tree tree pairs) (is_moved old new nodesize end) lives → marks ≤ marks_for pairs lives
 
 -- where each pair has a place and no two chunks of a list overlap, at most so many looks were counted: five for each of these marks, two for
 -- each old chunk, one for each new one, and those for trees

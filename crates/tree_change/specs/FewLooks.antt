@@ -17,12 +17,13 @@ use Rattle.tree_change.specs.declared.change.Change.{Change}
 use Rattle.tree_change.specs.declared.change.Diff.{Diff}
 use Rattle.tree_change.specs.declared.change.Diff.TheVariants.{Found, Change as Changed}
 
--- so many looks are few: by the pieces of the writes, the chunks of both images, the blocks that change and their entries
+-- So many looks are few: by the pieces of the writes, the chunks of both images, the blocks that change and their entries. Of the 80 looks for an
+-- old block that moves and stands below a node, 53 are counted by its entries: it has one, since no such block is empty.
 abbrev pub few_looks : List ℕ → List ℕ → Walked → Walked → List Piece → Change → ℕ
 few_looks image judged old new pieces change =
     length pieces + 4 * length old.chunks + length new.chunks + 77
-    + 111 * length change.old_blocks.items + 35 * length change.new_blocks.items
-    + 3 * entries_of (side_of image old) change.old_blocks.items + 4 * entries_of (side_of judged new) change.new_blocks.items
+    + 58 * length change.old_blocks.items + 35 * length change.new_blocks.items
+    + 56 * entries_of (side_of image old) change.old_blocks.items + 4 * entries_of (side_of judged new) change.new_blocks.items
 
 -- where an answer is what changes, no more looks were counted than are few
 abbrev pub CountsFew : List ℕ → List ℕ → List Piece → ℕ → ℕ → Diff → Type 0

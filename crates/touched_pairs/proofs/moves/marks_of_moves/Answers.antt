@@ -1,7 +1,7 @@
 use Rattle.live_index.specs.Table.{pairs_of}
 use Rattle.touched_pairs.specs.Marks.{marked_by}
 use Rattle.touched_pairs.specs.OneTree.{chosen}
-use Rattle.touched_pairs.proofs.Moving.{few_of_move, looks_of_move, moved_told}
+use Rattle.touched_pairs.proofs.Moving.{few_of_move, few_unmarked, looks_of_move, moved_told}
 use Rattle.touched_pairs.proofs.moves.marks_of_moves.Goals as goal
 
 pub returns-clause-ok : goal.returns-clause-ok
@@ -24,3 +24,8 @@ returns-clause-few_marks g c =
     (marked_by c.new-marks.result) (marked_by c.mark_ranges.new.marks) _
     c.new-test.ensures.old c.new-test.ensures.new c.new-test.ensures.nodesize c.new-test.ensures.end c.new-marks.ensures
     c.in_ok-mark_ranges.ensures.ok c.count_law-2.ensures
+
+pub returns-then-test-clause-few_marks : goal.returns-then-test-clause-few_marks
+returns-then-test-clause-few_marks g c =
+    few_unmarked (pairs_of c.args.table.now) c.args.only c.args.old.now c.args.new.now c.args.nodesize c.args.end (marked_by c.new-marks.result) _
+    c.new-marks.ensures c.count_law.ensures
