@@ -40,10 +40,11 @@ impl<L> LedgerIndex<L> {
     ghost use Rattle.ledger_index.specs.Ledger.{IsTidy, entries_of, sums_of};
 
     /// The empty ledger. It takes its memory from this allocator, and none yet.
-    #[tactic(auto, using(crate::proofs::LedgerLaws::is_tidy))]
+    #[tactic(auto, using(crate::proofs::LedgerLaws::is_tidy), unfolding(crate::specs::Ledger::entries_of))]
     pub fn new(alloc: Global) -> LedgerIndex<L>
         ensures sums { sums_of result ≡ no_sums }
         ensures entries { IsTidy result }
+        ensures none { entries_of result ≡ 0 }
     {
         LedgerIndex {
             short: Table::new(alloc),
@@ -89,6 +90,7 @@ impl<L> LedgerIndex<L> {
             (sums_of self.new ≡ changed raise (sums_of self.old) account.now field amount) }
         ensures err { OnErr result (sums_of self.new ≡ sums_of self.old) }
         ensures entries { IsTidy self.new }
+        ensures few { entries_of self.new ≤ entries_of self.old + 1 }
         ensures looks { steps.new ≡ counted steps.old }
     {
         self.add_saturating(account, field, amount, steps)?;
@@ -111,6 +113,7 @@ impl<L> LedgerIndex<L> {
             sums_of self.new account.now field < greatest) }
         ensures err { OnErr result (sums_of self.new ≡ sums_of self.old) }
         ensures entries { IsTidy self.new }
+        ensures few { entries_of self.new ≤ entries_of self.old + 1 }
         ensures looks { steps.new ≡ counted steps.old }
     {
         // A call that changes nothing is a look too.

@@ -1,6 +1,7 @@
 //! Sums by accounts in a few bytes.
 
-ghost use Rattle.std.specs.Prelude.{◌≡◌, ◌<◌, ℕ, IsTrue, false, None, IfSome, IfOk, OnOk, OnErr};
+ghost use Rattle.std.specs.Prelude.{◌≡◌, ◌+◌, ◌<◌, ◌≤◌, ℕ, IsTrue, false, None, IfSome, IfOk, OnOk, OnErr};
+ghost use Rattle.indexmap.specs.IndexMap.{index_map_len};
 ghost use Rattle.accounts.specs.Sums.{sum_in};
 ghost use Rattle.ledger_index.specs.Sums.{greatest, lower, raise};
 ghost use Rattle.ledger_index.specs.Kept.{sums_at};
@@ -48,7 +49,8 @@ pub(crate) struct Table<K: Exact> {
 impl<K: Exact> Table<K> {
     /// No sums. They take their memory from this allocator.
     pub(crate) fn new(alloc: Global) -> Table<K>
-        ensures { (key : K) → by_key K.eq result.entries key ≡ None }
+        ensures none { (key : K) → by_key K.eq result.entries key ≡ None }
+        ensures empty { index_map_len result.entries ≡ 0 }
     {
         Table {
             entries: IndexMap::with_hasher(alloc, Seeded::of(&[0; 16])),
@@ -59,8 +61,9 @@ impl<K: Exact> Table<K> {
 
     /// Finds accounts by a hash with this seed from now on, if there was none before and no entry stands.
     pub(crate) fn seed(&mut self, alloc: Global, seed: &[u8; 16])
-        ensures { (key : K) →
+        ensures same { (key : K) →
             by_key K.eq self.new.entries key ≡ by_key K.eq self.old.entries key }
+        ensures count { index_map_len self.new.entries ≡ index_map_len self.old.entries }
     {
         if !self.is_seeded && self.entries.is_empty() {
             self.entries = IndexMap::with_hasher(alloc, Seeded::of(seed));
@@ -102,6 +105,7 @@ impl<K: Exact> Table<K> {
             sums_at (by_key K.eq self.new.entries key.now) field < greatest) }
         ensures err { OnErr result
             (Stays (by_key K.eq self.old.entries) (by_key K.eq self.new.entries)) }
+        ensures few { index_map_len self.new.entries ≤ index_map_len self.old.entries + 1 }
     {
         if let Some(at) = self.index_of(key) {
             let kept = self.entries.get_index_mut(at).unwrap();

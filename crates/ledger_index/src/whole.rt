@@ -1,6 +1,7 @@
 //! Sums by whole accounts.
 
-ghost use Rattle.std.specs.Prelude.{◌≡◌, ◌<◌, ℕ, false, None, IfOk, OnOk, OnErr};
+ghost use Rattle.std.specs.Prelude.{◌≡◌, ◌+◌, ◌<◌, ◌≤◌, ℕ, false, None, IfOk, OnOk, OnErr};
+ghost use Rattle.std.specs.BTreeMap.{btree_map_len};
 ghost use Rattle.accounts.specs.declared.account.Account.{Account as AnAccount};
 ghost use Rattle.accounts.specs.Sums.{is_same, sum_in};
 ghost use Rattle.ledger_index.specs.Sums.{greatest, lower, raise};
@@ -23,7 +24,8 @@ pub(crate) struct Whole {
 impl Whole {
     /// No sums. They take their memory from this allocator.
     pub(crate) fn new(alloc: Global) -> Whole
-        ensures { (account : AnAccount) → by_account result.entries account ≡ None }
+        ensures none { (account : AnAccount) → by_account result.entries account ≡ None }
+        ensures empty { btree_map_len result.entries ≡ 0 }
     {
         Whole {
             entries: BTreeMap::new(alloc),
@@ -65,6 +67,7 @@ impl Whole {
             sums_at (by_account self.new.entries account.now) field < greatest) }
         ensures err { OnErr result
             (Stays (by_account self.old.entries) (by_account self.new.entries)) }
+        ensures few { btree_map_len self.new.entries ≤ btree_map_len self.old.entries + 1 }
     {
         if let Some(kept) = self.entries.get_mut(account) {
             return kept.raise(alloc, field, amount);

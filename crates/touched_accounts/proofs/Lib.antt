@@ -1,3 +1,4 @@
 pub mod Moved
 pub mod Changed
+pub mod Counted
 pub mod LeastTouched

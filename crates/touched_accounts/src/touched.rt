@@ -1,10 +1,11 @@
 //! A ledger, changed by lists of postings.
 
-ghost use Rattle.std.specs.Prelude.{◌≡◌, ◌+◌, ◌≤◌, ◌++◌, List, length, OnOk};
+ghost use Rattle.std.specs.Prelude.{◌≡◌, ℕ, ◌+◌, ◌≤◌, ◌++◌, List, length, OnOk};
 ghost use Rattle.std.specs.Option.{option_copied};
 ghost use Rattle.accounts.specs.declared.postings.Posting.{Posting};
-ghost use Rattle.ledger_index.specs.Ledger.{IsTidy, sums_of};
+ghost use Rattle.ledger_index.specs.Ledger.{IsTidy, entries_of, sums_of};
 ghost use Rattle.touched_accounts.specs.Least.{IsLeastTouched, stands_before};
+ghost use Rattle.touched_accounts.specs.Looks.{HaveLooks, counted_times};
 ghost use Rattle.touched_accounts.specs.Sums.{less_all, with_all};
 
 use accounts::{Account, Postings, broken};
@@ -13,7 +14,8 @@ use recon_disk::Steps;
 use verdict::NoMemory;
 
 /// Adds each of some postings to a ledger. Out of memory, also where a sum would pass 128 bits, any part of them may be
-/// added. An entry stands for exactly the accounts whose sums are not all zero, if that was so before.
+/// added. An entry stands for exactly the accounts whose sums are not all zero, if that was so before. Each posting looks once, and each
+/// entry more comes by a look.
 pub fn put_all<L>(
     ledger: &mut LedgerIndex<L>,
     postings: &Postings,
@@ -23,6 +25,9 @@ pub fn put_all<L>(
         (sums_of ledger.new ≡ with_all (sums_of ledger.old) postings.now) }
     ensures entries { IsTidy ledger.old → IsTidy ledger.new }
     ensures looks { steps.new ≤ steps.old + length postings.now }
+    ensures counts { OnOk result (steps.new ≡ counted_times (length postings.now) steps.old) }
+    ensures few { (begun : ℕ) → HaveLooks begun (entries_of ledger.old) steps.old →
+        HaveLooks begun (entries_of ledger.new) steps.new }
 {
     for posting in postings.as_slice() {
         let full = ledger.add_saturating(&posting.account, posting.field, posting.amount, steps)?;

@@ -1,5 +1,6 @@
-use Rattle.std.proofs.Common.{◌≡◌, ◌+◌, ◌≤◌, take}
-use Rattle.ledger_index.specs.Ledger.{IsTidy, sums_of}
+use Rattle.std.proofs.Common.{◌≡◌, ℕ, ◌+◌, ◌≤◌, take}
+use Rattle.ledger_index.specs.Ledger.{IsTidy, entries_of, sums_of}
+use Rattle.touched_accounts.specs.Looks.{HaveLooks, counted_times}
 use Rattle.touched_accounts.specs.Sums.{with_all}
 use Rattle.touched_accounts.proofs.touched.put_all.Given as goal
 
@@ -9,4 +10,6 @@ invariant-loop-posting g l = record {
   sums : sums_of l.ledger ≡ with_all (sums_of l.fn.ledger) (take l.posting-index l.posting-items);
   entries : IsTidy l.fn.ledger → IsTidy l.ledger;
   looks : l.steps ≤ l.fn.steps + l.posting-index;
+  counts : l.steps ≡ counted_times l.posting-index l.fn.steps;
+  few : (begun : ℕ) → HaveLooks begun (entries_of l.fn.ledger) l.fn.steps → HaveLooks begun (entries_of l.ledger) l.steps;
 }

@@ -1,6 +1,7 @@
-use Rattle.std.proofs.Common.{refl, sym, ⊎_elim}
+use Rattle.std.proofs.Common.{arith, refl, sym, ⊎_elim}
 use Rattle.ledger_index.specs.Sums.{raise}
 use Rattle.ledger_index.specs.Entries.{by_key}
+use Rattle.ledger_index.specs.Ledger.{entries_of}
 use Rattle.ledger_index.specs.LongPlace.{is_same_long}
 use Rattle.ledger_index.specs.Place.{is_same_place}
 use Rattle.ledger_index.proofs.EntryLaws.{changes_after, full_as, on_err, on_ok, raise_none, stays_after}
@@ -16,26 +17,26 @@ pub returns-in-Some-clause-ok : goal.returns-in-Some-clause-ok
 returns-in-Some-clause-ok g c =
     on_ok c.add.result (λ is. short_changed raise raise_none _ _ _ _ _ _ (sym c.in-Some.ensures)
     (changes_after is_same_place raise (by_key is_same_place c.args.self.now.short.entries) (by_key is_same_place c.seed-in-Some.new.self.entries)
-    (by_key is_same_place c.add.new.self.entries) _ _ _ c.seed-in-Some.ensures is) (λ l. refl) (λ q. refl)) c.add.ensures.ok
+    (by_key is_same_place c.add.new.self.entries) _ _ _ c.seed-in-Some.ensures.same is) (λ l. refl) (λ q. refl)) c.add.ensures.ok
 
 pub returns-in-Some-clause-err : goal.returns-in-Some-clause-err
 returns-in-Some-clause-err g c =
     on_err c.add.result (λ is. all_stay _ _
     (stays_after (by_key is_same_place c.args.self.now.short.entries) (by_key is_same_place c.seed-in-Some.new.self.entries)
-    (by_key is_same_place c.add.new.self.entries) c.seed-in-Some.ensures is)
+    (by_key is_same_place c.add.new.self.entries) c.seed-in-Some.ensures.same is)
     (λ l n. refl) (λ q n. refl)) c.add.ensures.err
 
 pub returns-in-Some-of-clause-ok : goal.returns-in-Some-of-clause-ok
 returns-in-Some-of-clause-ok g c =
     on_ok c.add-in-Some-of.result (λ is. long_changed raise raise_none _ _ _ _ _ _ (sym c.in_default.ensures) (sym c.in-Some-of.ensures)
     (changes_after is_same_long raise (by_key is_same_long c.args.self.now.long.entries) (by_key is_same_long c.seed-in-Some-of-2.new.self.entries)
-    (by_key is_same_long c.add-in-Some-of.new.self.entries) _ _ _ c.seed-in-Some-of-2.ensures is) (λ l. refl) (λ q. refl)) c.add-in-Some-of.ensures.ok
+    (by_key is_same_long c.add-in-Some-of.new.self.entries) _ _ _ c.seed-in-Some-of-2.ensures.same is) (λ l. refl) (λ q. refl)) c.add-in-Some-of.ensures.ok
 
 pub returns-in-Some-of-clause-err : goal.returns-in-Some-of-clause-err
 returns-in-Some-of-clause-err g c =
     on_err c.add-in-Some-of.result (λ is. all_stay _ _ (λ p n. refl)
     (stays_after (by_key is_same_long c.args.self.now.long.entries) (by_key is_same_long c.seed-in-Some-of-2.new.self.entries)
-    (by_key is_same_long c.add-in-Some-of.new.self.entries) c.seed-in-Some-of-2.ensures is)
+    (by_key is_same_long c.add-in-Some-of.new.self.entries) c.seed-in-Some-of-2.ensures.same is)
     (λ q n. refl)) c.add-in-Some-of.ensures.err
 
 pub returns-in-None-clause-ok : goal.returns-in-None-clause-ok
@@ -54,3 +55,16 @@ returns-in-Some-of-clause-full g c =
 
 pub returns-in-None-clause-full : goal.returns-in-None-clause-full
 returns-in-None-clause-full g c = full_as c.add-in-None.result _ _ (at_whole _ _ c.in_default.ensures c.in-None.ensures c.args.field) c.add-in-None.ensures.full
+
+-- there is an entry more at most
+pub returns-in-Some-clause-few : goal.returns-in-Some-clause-few
+unfolding entries_of
+returns-in-Some-clause-few g c = omega (arith, c.add.ensures.few, c.seed-in-Some.ensures.count)
+
+pub returns-in-Some-of-clause-few : goal.returns-in-Some-of-clause-few
+unfolding entries_of
+returns-in-Some-of-clause-few g c = omega (arith, c.add-in-Some-of.ensures.few, c.seed-in-Some-of-2.ensures.count)
+
+pub returns-in-None-clause-few : goal.returns-in-None-clause-few
+unfolding entries_of
+returns-in-None-clause-few g c = omega (arith, c.add-in-None.ensures.few)

@@ -1,7 +1,8 @@
-use Rattle.std.proofs.Common.{◌≡◌, cond, arith, refl, rules, ap, sym, ◌∙◌}
+use Rattle.std.proofs.Common.{◌≡◌, cond, length, arith, refl, rules, ap, sym, ◌∙◌}
 use Rattle.std.specs.Prelude.{Some}
 use Rattle.std.proofs.lemmas.Grind.{common_steps}
 use Rattle.indexmap.specs.IndexMap.{with_value_at}
+use Rattle.indexmap.specs.Layout.{length-set_value_at, set_value_at}
 use Rattle.ledger_index.specs.Entries.{by_key}
 use Rattle.ledger_index.specs.Kept.{sums_at}
 use Rattle.ledger_index.specs.Sums.{amount_at, raise}
@@ -59,6 +60,14 @@ returns-in-Some-clause-err g c =
     (by_key same (with_value_at n c.in-Some.at c.raise.new.self)) c.args.key.now (Some c.raise.new.self)
     (put_after same g.met.K.Eq.laws m n c.in-Some.at c.args.key.now c.raise.new.self c.in-Some.ensures.entries c.get_index_mut.ensures.unique c.in-Some.ensures.found)
     (λ k. stay k ∙ ap (λ o. sums_at o k) (sym had))) c.raise.ensures.err
+
+-- there are as many entries
+pub returns-in-Some-clause-few : goal.returns-in-Some-clause-few
+returns-in-Some-clause-few g c =
+    let n = c.index_of.new.self.entries in
+    let same : length n.entries ≡ length c.args.self.now.entries.entries = ap (λ m. length m.entries) c.in-Some.ensures.entries in
+    let put : length (set_value_at n.entries c.in-Some.at c.raise.new.self) ≡ length n.entries = length-set_value_at n.entries c.in-Some.at c.raise.new.self in
+    omega (arith, same, put)
 
 -- there stood none
 pub invariant_of-self-in-Ok : goal.invariant_of-self-in-Ok
