@@ -72,7 +72,7 @@ in_listed refs at has = any_of (is_ref at) refs at has (ref_itself at)
 
 -- ---- items that stand apart
 
-apart_turns : (a b : Located) → StandApart a b → StandApart b a
+pub apart_turns : (a b : Located) → StandApart a b → StandApart b a
 apart_turns a b apart tree key = apart (sym tree) (sym key)
 
 apart_never : (a : Located) → StandApart a a → ⊥

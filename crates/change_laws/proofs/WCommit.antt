@@ -46,7 +46,7 @@ use Rattle.change_laws.proofs.WStep.{Between, Laws, Stepped, commit_at, context_
 abbrev told : ℕ → Option Finding → Verdict
 told generation fault = verdict_of (and_then (finding_or fault (tt {0})) (λ _. Ok generation))
 
-full_of : (image : List ℕ) (held : Contents) (fault : Option Finding) → contents image ≡ Ok held
+pub full_of : (image : List ℕ) (held : Contents) (fault : Option Finding) → contents image ≡ Ok held
     → account_fault (context_of held) held.records ≡ fault → full_check image ≡ told held.sup.generation fault
 unfolding checked
 full_of image held fault holds is =
@@ -54,11 +54,11 @@ full_of image held fault holds is =
     and_then (finding_or (account_fault (context_of h) h.records) (tt {0})) (λ _. Ok h.sup.generation)))) holds
     ∙ ap (told held.sup.generation) is
 
-no_fault : (generation other : ℕ) (fault : Option Finding) → told generation fault ≡ Accept other → fault ≡ None
+pub no_fault : (generation other : ℕ) (fault : Option Finding) → told generation fault ≡ Accept other → fault ≡ None
 no_fault generation other None is = refl
 no_fault generation other (Some finding) is = absurd (cc)
 
-same_fault : (image : List ℕ) (whole : Walked) (held : Contents) → HoldsWalked image whole held
+pub same_fault : (image : List ℕ) (whole : Walked) (held : Contents) → HoldsWalked image whole held
     → account_fault (context_of held) held.records ≡ account_fault (context_at whole) (records_of whole)
 same_fault image whole held is =
     λ i. account_fault (record { chunks = is.chunks i; nodesize = (is.sup i).nodesize; sum_free = has_sum_free (is.records i) }) (is.records i)
@@ -68,7 +68,7 @@ none_least None is = refl
 none_least (Some account) is = absurd (cc)
 
 -- where the accounts have no finding no account is broken
-none_broken : (postings : List Posting) → option_map broken_finding (least_broken postings) ≡ None → (account : Account) → is_broken_by postings account ≡ false
+pub none_broken : (postings : List Posting) → option_map broken_finding (least_broken postings) ≡ None → (account : Account) → is_broken_by postings account ≡ false
 none_broken postings is account =
     (subst (λ (o : Option Account). IsLeastBroken (is_broken_by postings) o) (none_least (least_broken postings) is) (least_is_least postings)) account
 

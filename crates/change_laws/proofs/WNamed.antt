@@ -88,7 +88,7 @@ sound_of whole stand =
 
 -- ---- members
 
-map_in : {X Y : Type 0} (f : X → Y) (xs : List X) (x : X) → Contains xs x → Contains (map f xs) (f x)
+pub map_in : {X Y : Type 0} (f : X → Y) (xs : List X) (x : X) → Contains xs x → Contains (map f xs) (f x)
 map_in f [] x has = absurd (contains_none x has)
 map_in {X} {Y} f (y ∷ ys) x has = by (contains_cases y ys x has) (map_in f ys x)
   where

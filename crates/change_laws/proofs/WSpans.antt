@@ -88,7 +88,7 @@ take_out f x (y ∷ ys) h = by (is_same x y) refl (take_out f x ys)
 cancelled : (a n m p q : ℕ) → p ≡ a + n → p ≡ q → q ≡ a + m → n ≡ m
 cancelled a n m p q first same second = omega (arith, first, same, second)
 
-same_sums : (f : Span → ℕ) (xs ys : List Span) → ((s : Span) → times_of_span xs s ≡ times_of_span ys s) → sum_by f xs ≡ sum_by f ys
+pub same_sums : (f : Span → ℕ) (xs ys : List Span) → ((s : Span) → times_of_span xs s ≡ times_of_span ys s) → sum_by f xs ≡ sum_by f ys
 same_sums f [] [] same = refl
 same_sums f [] (y ∷ ys) same = absurd (none_there y (subst (λ n. 0 < n) (sym (same y)) (there_first y ys)))
 same_sums f (x ∷ xs) ys same =

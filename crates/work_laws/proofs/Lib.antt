@@ -1,0 +1,17 @@
+pub mod BlocksChanges
+pub mod BlocksEntries
+pub mod BlocksWhole
+pub mod HousedChunks
+pub mod HousedExtents
+pub mod HousedHomes
+pub mod HousedPosts
+pub mod HousedSpans
+pub mod HousedWhole
+pub mod Known
+pub mod NamedItems
+pub mod NamedSectors
+pub mod NamedWhole
+pub mod PiecesMade
+pub mod PostingsApart
+pub mod PostingsCounted
+pub mod PostingsFew
