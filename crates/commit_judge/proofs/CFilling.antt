@@ -1,5 +1,5 @@
 -- What is made of all records, one after the other.
-use Rattle.std.proofs.Common.{◌≡◌, ℕ, ◌+◌, ◌==◌, ◌&&◌, ◌||◌, Bool, true, false, cond, List, [], ◌∷◌, ◌++◌, refl, ap, sym, ◌∙◌, subst, arith}
+use Rattle.std.proofs.Common.{◌≡◌, ℕ, zero, suc, ◌+◌, ◌≤◌, ◌==◌, ◌&&◌, ◌||◌, Bool, true, false, cond, List, [], ◌∷◌, ◌++◌, length, length-append, refl, ap, sym, ◌∙◌, subst, arith}
 use Rattle.std.specs.Prelude.{Option, Some, None}
 use Rattle.std.specs.BTreeSet as set
 use Rattle.std.specs.BTreeMap.{is_at}
@@ -22,6 +22,7 @@ use Rattle.change_records.specs.Affected.{context_with}
 use Rattle.change_records.specs.Listed.{inode_cmp}
 use Rattle.change_records.specs.Spans.{span_of}
 use Rattle.change_records.specs.declared.kept.Inode.{Inode}
+use Rattle.recon_disk.specs.Outside.{counted}
 use Rattle.records.specs.Context.{sum_free_inode}
 use Rattle.records.specs.DirPostings.{dir_postings}
 use Rattle.records.specs.ExtentPostings.{extent_postings}
@@ -33,9 +34,11 @@ use Rattle.span_index.specs.Sectors.{times_of_span}
 use Rattle.span_index.specs.Spans.{Table, no_spans}
 use Rattle.span_index.specs.declared.span.Span.{Span}
 use Rattle.span_index.proofs.TableLaws.{same_is, same_itself}
+use Rattle.touched_accounts.specs.Looks.{HaveLooks, counted_times}
 use Rattle.touched_accounts.specs.Sums.{with_all}
 use Rattle.touched_accounts.proofs.Changed.{with_none}
-use Rattle.commit_judge.specs.Filling.{Filled, of_none, with_located, with_option}
+use Rattle.touched_accounts.proofs.Counted.{counted_both, counted_few, counted_next, counted_none, looks_stay}
+use Rattle.commit_judge.specs.Filling.{Filled, looks_of, of_none, with_located, with_option}
 use Rattle.commit_judge.specs.Flags.{free_in}
 
 -- ---- sums
@@ -139,26 +142,103 @@ inode_put old new tree ino updates = fun_ext (λ t. fun_ext (λ i.
 no_inodes : (free : set.BTreeSet Inode) → free.keys ≡ [] → free_in free ≡ none_free
 no_inodes free none = fun_ext (λ tree. fun_ext (λ ino. ap (list_any (is_at (inode_cmp (record { tree = tree; ino = ino })))) none))
 
+-- ---- looks
+
+-- a span is put by one look, and none by none
+pub span_counted : (found : Option Span) (span : Span) (before after : ℕ) → after ≡ counted before → Some span ≡ found
+    → after ≡ counted_times (looks_of found) before
+span_counted found span before after more is =
+    counted_next 0 before before after (sym (counted_none before)) more ∙ ap (λ (o : Option Span). counted_times (looks_of o) before) is
+
+pub none_counted : (found : Option Span) (now : ℕ) → None ≡ found → now ≡ counted_times (looks_of found) now
+none_counted found now is = sym (counted_none now) ∙ ap (λ (o : Option Span). counted_times (looks_of o) now) is
+
+-- entries have their looks still, some looks later
+pub looks_later : (n begun entries before after : ℕ) → after ≡ counted_times n before → HaveLooks begun entries before → HaveLooks begun entries after
+unfolding counted_times
+looks_later zero begun entries before after is have = subst (HaveLooks begun entries) (sym is) have
+looks_later (suc n) begun entries before after is have =
+    looks_stay begun entries (counted_times n before) after is (looks_later n begun entries before (counted_times n before) refl have)
+
+span_more : (found : Option Span) (spans : List Span) → length (cons_option found spans) ≡ looks_of found + length spans
+span_more None spans = omega arith
+span_more (Some span) spans = omega arith
+
+-- a look for each posting and each span
+pub looks_after : (records : List Located) (held : Filled) (free : Frees)
+    → (fold with_located held records).looks
+    ≤ held.looks + length (all_posts (context_with held.chunks held.nodesize free) records) + length (spans_of held.nodesize records)
+unfolding all_posts spans_of
+looks_after [] held free = omega arith
+looks_after (one ∷ more) held free =
+    let new = posts_of (context_with held.chunks held.nodesize held.free) one in
+    let same = posts_of (context_with held.chunks held.nodesize free) one in
+    let later = all_posts (context_with held.chunks held.nodesize free) more in
+    let found = span_of held.nodesize one in
+    let rest = looks_after more (with_located held one) free in
+    let here : counted_times (looks_of found + length new) held.looks ≤ held.looks + (looks_of found + length new) =
+    counted_few (looks_of found + length new) held.looks in
+    let alike : length new ≡ length same = ap length (posts_alike held.chunks held.nodesize held.free free one) in
+    let both : length (same ++ later) ≡ length same + length later = length-append same later in
+    let spans = span_more found (filter_map (span_of held.nodesize) more) in
+    omega (arith, rest, here, alike, both, spans)
+
+pub began_after : (records : List Located) (held : Filled) → (fold with_located held records).began ≡ held.began
+began_after [] held = refl
+began_after (one ∷ more) held = began_after more (with_located held one)
+
 -- ---- all together
 
 -- nothing is made of no records
-pub none_filled : (chunks : List Chunk) (nodesize : ℕ) (sums : Sums) (posts : List Posting) (spans : Table) (free : set.BTreeSet Inode)
-    → sums ≡ no_sums → posts ≡ [] → spans ≡ no_spans → free.keys ≡ []
-    → ◌≡◌ {A = Filled} (record { chunks = chunks; nodesize = nodesize; sums = with_all sums posts; spans = spans; free = free_in free }) (of_none chunks nodesize)
-none_filled chunks nodesize sums posts spans free no_sum no_post no_span no_inode =
+pub none_filled : (chunks : List Chunk) (nodesize : ℕ) (sums : Sums) (posts : List Posting) (spans : Table) (free : set.BTreeSet Inode) (began steps : ℕ)
+    → sums ≡ no_sums → posts ≡ [] → spans ≡ no_spans → free.keys ≡ [] → began ≡ steps
+    → ◌≡◌ {A = Filled} (record {
+      chunks = chunks;
+      nodesize = nodesize;
+      sums = with_all sums posts;
+      spans = spans;
+      free = free_in free;
+      began = began;
+      looks = counted_times (length posts) steps;
+    }) (of_none chunks nodesize steps)
+none_filled chunks nodesize sums posts spans free began steps no_sum no_post no_span no_inode began_is =
     let sums_are : with_all sums posts ≡ no_sums = ap (with_all sums) no_post ∙ with_none sums ∙ no_sum in
     let free_is = no_inodes free no_inode in
-    λ i. record { chunks = chunks; nodesize = nodesize; sums = sums_are i; spans = no_span i; free = free_is i }
+    let looks_are : counted_times (length posts) steps ≡ steps = ap (λ (ps : List Posting). counted_times (length ps) steps) no_post ∙ counted_none steps in
+    λ i. record { chunks = chunks; nodesize = nodesize; sums = sums_are i; spans = no_span i; free = free_is i; began = began_is i; looks = looks_are i }
+
+-- the looks of a record more: for the postings that waited, for its own, and for its span
+looks_more : (waiting posts new left : List Posting) (span steps between last : ℕ) → posts ≡ waiting ++ new → left ≡ []
+    → between ≡ counted_times (length posts) steps → last ≡ counted_times span between
+    → counted_times (length left) last ≡ counted_times (span + length new) (counted_times (length waiting) steps)
+looks_more waiting posts new left span steps between last posted none first second =
+    let count : length posts ≡ length new + length waiting = let both = length-append waiting new in omega (arith, ap length posted, both) in
+    ap (λ (ps : List Posting). counted_times (length ps) last) none
+    ∙ counted_none last
+    ∙ second
+    ∙ ap (counted_times span) (first ∙ ap (λ (n : ℕ). counted_times n steps) count ∙ sym (counted_both (length new) (length waiting) steps))
+    ∙ counted_both span (length new) (counted_times (length waiting) steps)
 
 -- a record more is taken
 pub one_filled : (held : Filled) (one : Located) (before after : Sums) (waiting posts left : List Posting) (spans : Table) (free : Frees)
+    → (steps between last : ℕ)
     → held.sums ≡ with_all before waiting
     → posts ≡ waiting ++ posts_of (context_with held.chunks held.nodesize held.free) one
     → after ≡ with_all before posts → left ≡ []
     → spans ≡ with_option held.spans (span_of held.nodesize one)
     → free ≡ or_free held.free (sum_free_inode one)
-    → ◌≡◌ {A = Filled} (record { chunks = held.chunks; nodesize = held.nodesize; sums = with_all after left; spans = spans; free = free }) (with_located held one)
-one_filled held one before after waiting posts left spans free begin posted added none spans_are free_is =
+    → held.looks ≡ counted_times (length waiting) steps → between ≡ counted_times (length posts) steps
+    → last ≡ counted_times (looks_of (span_of held.nodesize one)) between
+    → ◌≡◌ {A = Filled} (record {
+      chunks = held.chunks;
+      nodesize = held.nodesize;
+      sums = with_all after left;
+      spans = spans;
+      free = free;
+      began = held.began;
+      looks = counted_times (length left) last;
+    }) (with_located held one)
+one_filled held one before after waiting posts left spans free steps between last begin posted added none spans_are free_is looked first second =
     let new = posts_of (context_with held.chunks held.nodesize held.free) one in
     let sums_are : with_all after left ≡ with_all held.sums new =
     ap (with_all after) none
@@ -167,4 +247,15 @@ one_filled held one before after waiting posts left spans free begin posted adde
     ∙ ap (with_all before) posted
     ∙ sym (with_both before waiting new)
     ∙ ap (λ (sums : Sums). with_all sums new) (sym begin) in
-    λ i. record { chunks = held.chunks; nodesize = held.nodesize; sums = sums_are i; spans = spans_are i; free = free_is i }
+    let span = looks_of (span_of held.nodesize one) in
+    let looks_are : counted_times (length left) last ≡ counted_times (span + length new) held.looks =
+    looks_more waiting posts new left span steps between last posted none first second ∙ ap (counted_times (span + length new)) (sym looked) in
+    λ i. record {
+      chunks = held.chunks;
+      nodesize = held.nodesize;
+      sums = sums_are i;
+      spans = spans_are i;
+      free = free_is i;
+      began = held.began;
+      looks = looks_are i;
+    }

@@ -136,7 +136,7 @@ not_read image o finding is = unread_case o (named_records o image) finding is
 nothing_more : (n : ℕ) → 0 + n ≡ n
 nothing_more n = omega arith
 
-all_alike : (chunks : List Chunk) (nodesize : ℕ) (free other : Frees) (records : List Located)
+pub all_alike : (chunks : List Chunk) (nodesize : ℕ) (free other : Frees) (records : List Located)
     → all_posts (context_with chunks nodesize free) records ≡ all_posts (context_with chunks nodesize other) records
 unfolding all_posts
 all_alike chunks nodesize free other [] = refl
@@ -261,7 +261,7 @@ module _ {L : Type 0} (image : List ℕ) (o : Opened) (tables : Tables L) (index
 -- ---- where the disk tells its bytes
 
 -- nothing waits over the bytes
-plain : (m : FinMap nat_cmp ℕ) (image : List ℕ) → m ≡ empty → overlaid m 0 image ≡ image
+pub plain : (m : FinMap nat_cmp ℕ) (image : List ℕ) → m ≡ empty → overlaid m 0 image ≡ image
 plain m image none = ap (λ (k : FinMap nat_cmp ℕ). overlaid k 0 image) none ∙ overlaid-empty 0 image
 
 told_ready : {L : Type 0} (told : Option (List ℕ)) (m : FinMap nat_cmp ℕ) (o : Opened) (tables : Tables L) (index : Index L)

@@ -1,5 +1,5 @@
 -- What two make of all records of an image: its live pairs, and what fills the other tables of its index.
-use Rattle.std.proofs.Common.{◌≡◌, ℕ, ◌+◌, List, [], ◌∷◌, ◌++◌, Option, Some, None, Ok, Err, IfSome, refl, ap, sym, ◌∙◌, arith}
+use Rattle.std.proofs.Common.{◌≡◌, ℕ, ◌+◌, List, [], ◌∷◌, ◌++◌, ◌≤◌, length, Option, Some, None, Ok, Err, IfOk, IfSome, refl, ap, sym, ◌∙◌, subst, arith}
 use Rattle.std.specs.Ordering.{nat_cmp}
 use Rattle.std.specs.FinMap.{FinMap}
 use Rattle.std.specs.List.{filter_map, fold}
@@ -10,7 +10,7 @@ use Rattle.account_sums.proofs.Taken.{first_free}
 use Rattle.block_source.specs.Gives.{Gives}
 use Rattle.block_source.specs.declared.halt.Halt.{Halt}
 use Rattle.block_source.specs.declared.halt.Halt.TheVariants.{Found, Disk, NoMemory}
-use Rattle.ledger_index.specs.Ledger.{sums_of}
+use Rattle.ledger_index.specs.Ledger.{entries_of, sums_of}
 use Rattle.live_index.specs.Table.{pairs_of}
 use Rattle.live_index.specs.declared.live.Live.{Live}
 use Rattle.live_maker.specs.Opened.{finished, no_lives, with_record as with_live}
@@ -24,14 +24,15 @@ use Rattle.records.specs.Seen.{Seen, accounted}
 use Rattle.records.specs.Seen.Seen.{BlockSeen, PointerSeen, ItemSeen}
 use Rattle.records.specs.Takes.{held_after, with_accounted, with_both}
 use Rattle.records.specs.Walk.{Records, behind}
-use Rattle.shared_trees.specs.LivePairs.{table_of}
+use Rattle.shared_trees.specs.LivePairs.{live_in, table_of}
 use Rattle.span_index.specs.Table.{times_of}
 use Rattle.span_index.specs.declared.span.Span.{Span}
+use Rattle.touched_accounts.specs.Looks.{HaveLooks}
 use Rattle.write_cache.specs.Cache.{overlaid}
-use Rattle.commit_judge.specs.Filling.{AreTablesOf, AreTablesWith, Filled, named_walk, of_none, with_located}
+use Rattle.commit_judge.specs.Filling.{AreFewToMake, AreTablesOf, AreTablesWith, FewToMake, Filled, named_walk, of_none, with_located}
 use Rattle.commit_judge.specs.Flags.{free_in}
 use Rattle.commit_judge.specs.declared.filling.Tables.{Tables}
-use Rattle.commit_judge.proofs.CFilling.{free_after, spans_after, sums_after}
+use Rattle.commit_judge.proofs.CFilling.{began_after, free_after, looks_after, spans_after, sums_after}
 
 -- the live pairs and what fills the other tables
 abbrev pub Made : Type 0
@@ -122,18 +123,18 @@ pub record IsPut {L : Type 0} (lives : List Live) (filled : Filled) (tables : Ta
   pub spans : times_of tables.spans ≡ filled.spans
   pub free : free_in tables.free ≡ filled.free
 
-tables_made : {L : Type 0} (o : Opened) (records : Records) (lives lives' : List Live) (filled filled' : Filled) (tables : Tables L)
-    → lives ≡ no_lives → filled ≡ of_none o.chunks o.sup.nodesize
+tables_made : {L : Type 0} (o : Opened) (records : Records) (lives lives' : List Live) (filled filled' : Filled) (tables : Tables L) (began : ℕ)
+    → lives ≡ no_lives → filled ≡ of_none o.chunks o.sup.nodesize began
     → held_after with_made (lives, filled) (behind (ItemSeen (super_record o.sup) ∷ o.seen) records) ≡ Ok (lives', filled')
     → IsPut lives' filled' tables
     → (more : List Seen) × (records ≡ Ok more) × AreTablesWith o more tables
 unfolding behind
-tables_made o (Err finding) lives lives' filled filled' tables none empty taken put = absurd (cc taken)
-tables_made o (Ok more) lives lives' filled filled' tables none empty taken put =
+tables_made o (Err finding) lives lives' filled filled' tables began none empty taken put = absurd (cc taken)
+tables_made o (Ok more) lives lives' filled filled' tables began none empty taken put =
     let made = each_made o more lives lives' filled filled' (cc (taken)) in
     let all = o.seen ++ more in
     let held = (contents_with o more).records in
-    let nothing = of_none o.chunks o.sup.nodesize in
+    let nothing = of_none o.chunks o.sup.nodesize began in
     let of_lives : fold with_live no_lives all ≡ lives' =
     ap (λ (l : List Live). fold with_live l (ItemSeen (super_record o.sup) ∷ all)) (sym none) ∙ made.0 in
     let of_filled : fold with_located nothing held ≡ filled' =
@@ -149,11 +150,61 @@ tables_made o (Ok more) lives lives' filled filled' tables none empty taken put 
     )
 
 pub tables_told : {L : Type 0} (told : Option (List ℕ)) (m : FinMap nat_cmp ℕ) (o : Opened) (lives lives' : List Live)
-    (filled filled' : Filled) (tables : Tables L)
-    → lives ≡ no_lives → filled ≡ of_none o.chunks o.sup.nodesize
+    (filled filled' : Filled) (tables : Tables L) (began : ℕ)
+    → lives ≡ no_lives → filled ≡ of_none o.chunks o.sup.nodesize began
     → AreTaken told m o (lives, filled) (lives', filled')
     → IsPut lives' filled' tables
     → IfSome told (λ image. AreTablesOf o (overlaid m 0 image) tables)
-tables_told None m o lives lives' filled filled' tables none empty taken put = tt
-tables_told (Some image) m o lives lives' filled filled' tables none empty taken put =
-    tables_made o (named_records o (overlaid m 0 image)) lives lives' filled filled' tables none empty taken put
+tables_told None m o lives lives' filled filled' tables began none empty taken put = tt
+tables_told (Some image) m o lives lives' filled filled' tables began none empty taken put =
+    tables_made o (named_records o (overlaid m 0 image)) lives lives' filled filled' tables began none empty taken put
+
+-- ---- the looks
+
+-- a counter that tells a number counted no more than what that number is below
+pub left_as : (now told made most : ℕ) → told ≡ now → told ≡ made → made ≤ most → now ≤ most
+left_as now told made most is same less = omega (arith, is, same, less)
+
+as_many : (lives : List Live) → length (finished lives) ≡ length lives
+unfolding finished
+as_many [] = refl
+as_many (live ∷ more) = let rest = as_many more in omega (arith, rest)
+
+few_made : {L : Type 0} (o : Opened) (records : Records) (lives lives' : List Live) (filled filled' : Filled) (tables : Tables L) (began after : ℕ)
+    → lives ≡ no_lives → filled ≡ of_none o.chunks o.sup.nodesize began
+    → held_after with_made (lives, filled) (behind (ItemSeen (super_record o.sup) ∷ o.seen) records) ≡ Ok (lives', filled')
+    → HaveLooks filled'.began (entries_of tables.totals) filled'.looks
+    → after ≤ filled'.looks + length lives'
+    → IfOk records (λ more. AreFewToMake o more tables began after)
+unfolding behind
+few_made o (Err finding) lives lives' filled filled' tables began after none empty taken entries looks = absurd (cc taken)
+few_made o (Ok more) lives lives' filled filled' tables began after none empty taken entries looks =
+    let made = each_made o more lives lives' filled filled' (cc (taken)) in
+    let all = o.seen ++ more in
+    let held = (contents_with o more).records in
+    let nothing = of_none o.chunks o.sup.nodesize began in
+    let of_lives : fold with_live no_lives all ≡ lives' =
+    ap (λ (l : List Live). fold with_live l (ItemSeen (super_record o.sup) ∷ all)) (sym none) ∙ made.0 in
+    let of_filled : fold with_located nothing held ≡ filled' =
+    ap (λ (f : Filled). fold with_located f held) (sym empty) ∙ made.1 in
+    let filled_few = looks_after held nothing none_free in
+    let looks_are : (fold with_located nothing held).looks ≡ filled'.looks = ap (λ (f : Filled). f.looks) of_filled in
+    let began_is : filled'.began ≡ began = ap (λ (f : Filled). f.began) (sym of_filled) ∙ began_after held nothing in
+    let pairs : length lives' ≡ length (live_in all) = ap length (sym of_lives) ∙ sym (as_many (fold with_live no_lives all)) ∙ ap length (lives_made all) in
+    record {
+      between = filled'.looks;
+      filled = omega (arith, filled_few, looks_are);
+      entries = subst (λ (n : ℕ). HaveLooks n (entries_of tables.totals) filled'.looks) began_is entries;
+      pairs = omega (arith, looks, pairs);
+    }
+
+pub few_told : {L : Type 0} (told : Option (List ℕ)) (m : FinMap nat_cmp ℕ) (o : Opened) (lives lives' : List Live)
+    (filled filled' : Filled) (tables : Tables L) (began after : ℕ)
+    → lives ≡ no_lives → filled ≡ of_none o.chunks o.sup.nodesize began
+    → AreTaken told m o (lives, filled) (lives', filled')
+    → HaveLooks filled'.began (entries_of tables.totals) filled'.looks
+    → after ≤ filled'.looks + length lives'
+    → IfSome told (λ image. FewToMake o (overlaid m 0 image) tables began after)
+few_told None m o lives lives' filled filled' tables began after none empty taken entries looks = tt
+few_told (Some image) m o lives lives' filled filled' tables began after none empty taken entries looks =
+    few_made o (named_records o (overlaid m 0 image)) lives lives' filled filled' tables began after none empty taken entries looks

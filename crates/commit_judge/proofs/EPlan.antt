@@ -15,6 +15,7 @@ use Rattle.records.proofs.Accepted.{accepted_superblock}
 use Rattle.shared_trees.specs.Shared.{are_read_alike}
 use Rattle.touched_pairs.specs.Touched.{written_in}
 use Rattle.tree_change.specs.Change.{BasesStand, IsDifference, ReadsFew}
+use Rattle.tree_change.specs.FewLooks.{LooksFew, MovesFew}
 use Rattle.tree_change.specs.declared.change.Change.{Change}
 use Rattle.tree_change.specs.declared.change.Diff.{Diff}
 use Rattle.tree_change.specs.declared.change.Diff.TheVariants.{Found, Change as Changed}
@@ -35,6 +36,7 @@ use Rattle.commit_judge.specs.Flags.{free_in}
 use Rattle.commit_judge.specs.Fresh.{IsFresh}
 use Rattle.commit_judge.specs.Index.{IndexStands, known}
 use Rattle.commit_judge.specs.Plan.{IsPlanOf, IsPlanned, commit_in}
+use Rattle.commit_judge.specs.Work.{FindsByFew, PlansByFew}
 use Rattle.commit_judge.specs.declared.fresh.Fresh.{Fresh}
 use Rattle.commit_judge.specs.declared.index.Index.{Index}
 use Rattle.commit_judge.specs.declared.plan.Plan.{Plan}
@@ -151,4 +153,28 @@ module _ {L : Type 0} (index : Index L) (pending : FinMap nat_cmp ℕ) where
           refs_are = affected;
         };
         reads = subst (λ c. after ≤ before + 2 * (length c.old_blocks.items + length c.new_blocks.items)) (sym change_is) both.1;
+      }
+
+  -- the looks to make a plan, by those to find what changes and those to find the kept items
+  pub few_planned : (told : Option (List ℕ)) (fresh : Fresh) (first middle last : ℕ) (diff : Diff) (change : Change) (plan : Plan) → FreshBy (Ok fresh)
+      → diff ≡ Changed change
+      → LooksFew told pending index.sup index.map index.roots.items (free_in index.sum_free) (pairs_of index.live) fresh.sup first middle diff
+      → MovesFew told pending index.sup index.map index.roots.items (free_in index.sum_free) (pairs_of index.live) fresh.sup diff
+      → plan.change ≡ change → FindsByFew (known index) (commit_in plan) middle last
+      → IfSome told (λ image. IndexStands image index → PlansByFew image pending (known index) (commit_in plan) first last)
+  few_planned None fresh first middle last diff change plan super what looks moves change_is finds = tt
+  few_planned (Some image) fresh first middle last diff change plan super what looks moves change_is finds = λ stands.
+      let judged = overlaid pending 0 image in
+      let is = super image (room image stands) stands.raw in
+      let same : diff ≡ Changed plan.change = what ∙ ap Changed (sym change_is) in
+      let few =
+      subst (λ d. LooksFew (Some image) pending index.sup index.map index.roots.items (free_in index.sum_free) (pairs_of index.live) fresh.sup first middle d)
+      same looks in
+      let few_moves =
+      subst (λ d. MovesFew (Some image) pending index.sup index.map index.roots.items (free_in index.sum_free) (pairs_of index.live) fresh.sup d) same moves in
+      record {
+        middle = middle;
+        differs = λ old new was now pieces are. few pieces are stands.known.bases is.1 old new was now;
+        moved = λ old new was now. few_moves stands.known.bases is.1 old new was now;
+        finds = finds;
       }

@@ -16,11 +16,16 @@ use Rattle.span_index.specs.Spans.{Table}
 use Rattle.write_cache.specs.Cache.{overlaid}
 use Rattle.change_laws.specs.Commit.{Commit, Known}
 use Rattle.commit_judge.specs.Decided.{IsDecided}
-use Rattle.commit_judge.specs.Index.{IndexStands}
+use Rattle.commit_judge.specs.Index.{IndexStands, known}
 use Rattle.commit_judge.specs.Judged.{IsRejected}
 use Rattle.commit_judge.specs.Judging.{is_hot_by}
 use Rattle.commit_judge.specs.declared.index.Index.{Index}
+use Rattle.commit_judge.specs.Looks.{FewWherePassed}
+use Rattle.commit_judge.specs.Plan.{IsPlanOf, commit_in}
+use Rattle.commit_judge.specs.Work.{LeadsOn, LooksByWork, PlansByFew, WorkLaw}
 use Rattle.commit_judge.specs.declared.judge.Judged.{Judged}
+use Rattle.commit_judge.specs.declared.judge.Judged.TheVariants.{Passed, Rejected}
+use Rattle.commit_judge.specs.declared.plan.Plan.{Plan}
 
 -- what is known with these sums and spans is what was known where these are as they were
 pub same_known : (k : Known) (sums : Sums) (spans : Table) → sums ≡ k.sums → spans ≡ k.spans
@@ -75,3 +80,25 @@ refused (Some image) pending old new before after (Err (Found other)) finding is
     }
 refused (Some image) pending old new before after (Err Disk) finding is decided = absurd (cc)
 refused (Some image) pending old new before after (Err NoMemory) finding is decided = absurd (cc)
+
+-- a judgement that passes costs what its work allows, by the looks to make the plan and to judge it
+pub looks_of : {L : Type 0} → WorkLaw → (bytes : Option (List ℕ)) (len end : ℕ) (pending : FinMap nat_cmp ℕ) (index : Index L) (plan : Plan)
+    (judged : Judged) (reads now first middle last : ℕ) → IfSome bytes (λ image. length image ≡ len) → end ≡ len
+    → IfSome bytes (λ image. IndexStands image index → IsPlanOf image pending (known index) reads now plan)
+    → IfSome bytes (λ image. IndexStands image index → PlansByFew image pending (known index) (commit_in plan) first middle)
+    → ((image : List ℕ) (before after : ℕ) → IndexStands image index → length image ≡ end → IsPlanOf image pending (known index) before after plan
+    → LeadsOn (overlaid pending 0 image) (known index) (commit_in plan) judged)
+    → FewWherePassed (known index) (commit_in plan) middle last judged
+    → IfSome bytes (λ image. IndexStands image index → LooksByWork image pending first last judged)
+looks_of work None len end pending index plan judged reads now first middle last size same is plans leads few = tt
+looks_of work (Some image) len end pending index plan (Passed generation blocks hot) reads now first middle last size same is plans leads few = λ stands.
+    let planned = is stands in
+    work image pending (known index) (commit_in plan) first middle last stands.known planned.commit
+    (leads image reads now stands (size ∙ sym same) planned) (plans stands) few
+looks_of work (Some image) len end pending index plan (Rejected finding) reads now first middle last size same is plans leads few = λ stands. tt
+
+-- of a rejected commit nothing is said
+pub none_said : {L : Type 0} (bytes : Option (List ℕ)) (pending : FinMap nat_cmp ℕ) (index : Index L) (first last : ℕ) (finding : Finding)
+    → IfSome bytes (λ image. IndexStands image index → LooksByWork image pending first last (Rejected finding))
+none_said None pending index first last finding = tt
+none_said (Some image) pending index first last finding = λ stands. tt

@@ -25,7 +25,7 @@ use Rattle.commit_judge.proofs.JMoves.{spans_whole}
 -- ---- counts and tests of spans
 
 -- where each span of a list that passes one test passes another, no more pass the one
-count_le : (f g : Span → Bool) (xs : List Span) → ((x : Span) → Contains xs x → f x ≡ true → g x ≡ true) → count_by f xs ≤ count_by g xs
+pub count_le : (f g : Span → Bool) (xs : List Span) → ((x : Span) → Contains xs x → f x ≡ true → g x ≡ true) → count_by f xs ≤ count_by g xs
 count_le f g [] h = omega arith
 count_le f g (y ∷ ys) h =
     let a : count_by f (y ∷ ys) ≡ cond (f y) 1 0 + count_by f ys = sum_by-cons (λ x. cond (f x) 1 0) y ys in
@@ -64,7 +64,7 @@ changed_more before after gone came found f g more is =
     ]
 
 -- a span that stands in a list is one of it
-found_in : (xs : List Span) (x : Span) → 0 < times_of_span xs x → Contains xs x
+pub found_in : (xs : List Span) (x : Span) → 0 < times_of_span xs x → Contains xs x
 unfolding times_of_span
 found_in [] x less = absurd (omega (arith, less))
 found_in (y ∷ ys) x less = by (is_same x y) refl (found_in ys x)
@@ -79,7 +79,7 @@ found_in (y ∷ ys) x less = by (is_same x y) refl (found_in ys x)
 -- ---- sectors
 
 -- a span has the sector at an address where it begins at a sector
-has_from : (span : Span) (address : ℕ) → span.first % 4096 ≡ 0 → address % 4096 ≡ 0 → span.first ≤ address → address < end_of span
+pub has_from : (span : Span) (address : ℕ) → span.first % 4096 ≡ 0 → address % 4096 ≡ 0 → span.first ≤ address → address < end_of span
     → has_sector span address ≡ true
 has_from span address first whole low high =
     and_from (nat_le span.first address) (nat_lt address (end_of span) && span.first % 4096 == address % 4096) (le-leb span.first address low)
@@ -159,7 +159,7 @@ module _ (k : Known) (c : Commit) (before now : ℕ) (stand : SpansStand k) (sou
   table_is = judge.table_is ∙ (λ i. with_spans (without_spans k.spans (shown.gone_is i)) (shown.came_is i))
 
   -- the spans behind the moves are whole
-  whole : (span : Span) → 0 < table_after k c span → IsWhole span
+  pub whole : (span : Span) → 0 < table_after k c span → IsWhole span
   unfolding with_spans without_spans
   whole span stands = elim (cases_lt 0 (k.spans span)) [
     | inl old ↦ stand.whole span old

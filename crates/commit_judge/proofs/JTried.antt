@@ -126,7 +126,7 @@ module _ (laws : Laws) (image : List ℕ) (pending : FinMap nat_cmp ℕ) (k : Kn
 
   by : (chosen : Option Account) → Decides (overlaid pending 0 image) c next chosen
       → TriedSays (overlaid pending 0 image) k c roots moves sums table (option_map broken_finding chosen)
-  by None is = (is.0, is.1, known_ascend laws (overlaid pending 0 image) next is.1)
+  by None is = (is.0, is.1, known_ascend laws (overlaid pending 0 image) next is.1, moved)
   by (Some account) is = (is, sums_back, spans_back)
 
   says : TriedSays (overlaid pending 0 image) k c roots moves sums table finding

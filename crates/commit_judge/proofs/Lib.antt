@@ -5,6 +5,7 @@ pub mod BRuns
 pub mod BTables
 pub mod CFilling
 pub mod CFound
+pub mod CLooks
 pub mod COpened
 pub mod CReady
 pub mod CTables
@@ -19,3 +20,4 @@ pub mod JPassed
 pub mod JShort
 pub mod JStops
 pub mod JTried
+pub mod JWork

@@ -24,7 +24,7 @@ use Rattle.tree_change.specs.Gathered.{located_item}
 use Rattle.tree_change.specs.Merging.{IsSortedOf, named_before, roots_left}
 use Rattle.volume_items.specs.declared.root_at.RootAt.{RootAt}
 use Rattle.write_cache.specs.Cache.{overlaid}
-use Rattle.change_laws.specs.Commit.{Commit, IsCommit, IsKnown, Known}
+use Rattle.change_laws.specs.Commit.{Commit, IsCommit, IsKnown, IsMoved, Known}
 use Rattle.account_sums.specs.Kept.{chosen}
 use Rattle.commit_judge.specs.Counts.{blocks_between, hot_between}
 use Rattle.commit_judge.specs.Moves.{AreMovesOf, context_after}
@@ -67,6 +67,7 @@ TriedSays judged k c roots moves sums table (Some finding) =
     × (with_spans (without_spans table moves.came_spans.items) moves.gone_spans.items ≡ k.spans)
 TriedSays judged k c roots moves sums table None =
     (full_check judged ≡ Accept c.fresh.generation) × IsKnown judged (next_of k c roots sums table) × KeysAscend roots
+    × IsMoved k c (next_of k c roots sums table)
 
 -- a commit that is tried is decided
 abbrev pub TriedLaw : Type 0

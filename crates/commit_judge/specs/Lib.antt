@@ -10,6 +10,7 @@ pub mod Posting
 pub mod Moves
 pub mod Judging
 pub mod Tables
+pub mod Work
 pub mod Start
 pub mod Filling
 pub mod Stops

@@ -4,6 +4,7 @@ use Rattle.verdict.specs.declared.finding.Verdict.TheVariants.{Accept, Found}
 use Rattle.records.specs.FullCheck.{full_check}
 use Rattle.shared_trees.specs.LivePairs.{Walked, live_in, walked}
 use Rattle.std.specs.Prelude.{Ok}
+use Rattle.work_laws.specs.Work.{starting_work}
 use Rattle.commit_judge.specs.Index.{IndexStands}
 use Rattle.commit_judge.specs.declared.index.Index.{Index}
 use Rattle.commit_judge.specs.declared.build.Built.{Built}
@@ -20,6 +21,11 @@ pub record IsReady {L : Type 0} (image : List ℕ) (before after : ℕ) (index :
 abbrev pub IsBuilt : {L : Type 0} → List ℕ → ℕ → ℕ → Built L → Type 0
 IsBuilt image before after (Ready index) = IsReady image before after index
 IsBuilt image before after (Refused finding) = full_check image ≡ Found finding
+
+-- a start that is ready costs no more looks than 64 for each unit of the work of a start; of a refused one nothing is said
+abbrev pub LooksToBuild : {L : Type 0} → List ℕ → ℕ → ℕ → Built L → Type 0
+LooksToBuild image before after (Ready index) = after ≤ before + 64 * starting_work image
+LooksToBuild image before after (Refused finding) = Unit {0}
 
 -- an index stands only where the superblock lies on the device
 abbrev pub HasRoom : {L : Type 0} → ℕ → Built L → Type 0

@@ -5,8 +5,8 @@ ghost use Rattle.recon_disk.specs.Keeping.{Kept};
 ghost use Rattle.block_source.specs.Gives.{is_disk_fault, is_disk_halt};
 ghost use Rattle.chunk_map.specs.Roots.{KeysAscend};
 ghost use Rattle.tree_change.specs.Merging.{root_at};
-ghost use Rattle.commit_judge.specs.Filling.{IsIndexed};
-ghost use Rattle.commit_judge.specs.Start.{HasRoom, IsBuilt};
+ghost use Rattle.commit_judge.specs.Filling.{IsIndexed, LooksToIndex};
+ghost use Rattle.commit_judge.specs.Start.{HasRoom, IsBuilt, LooksToBuild};
 
 use crate::filling::tables_of;
 use crate::finding::finding_of;
@@ -32,7 +32,7 @@ pub enum Built<L> {
 impl<L> Index<L> {
     /// The index of the disk's image, where the full check accepts it, or the full check's finding. The superblock is one read of the disk, and
     /// each block of the trees at most two, one for each of its copies. The disk's bytes stay. The tables take their memory from this
-    /// allocator.
+    /// allocator. Where the image is accepted there are no more looks into them than 64 for each unit of the work of a start.
     pub fn build<D: Disk>(
         alloc: Global,
         disk: &mut D,
@@ -41,6 +41,8 @@ impl<L> Index<L> {
         ensures told { IfOk result (λ built. IfSome (D.bytes disk.old)
             (λ image. IsBuilt image (D.reads disk.old) (D.reads disk.new) built)) }
         ensures room { IfOk result (HasRoom (D.len disk.old)) }
+        ensures looks { IfOk result (λ built. IfSome (D.bytes disk.old)
+            (λ image. LooksToBuild image steps.old steps.new built)) }
         ensures kept { Kept D.Disk disk.old disk.new (is_disk_fault result) }
     {
         let end = disk.length()?;
@@ -58,6 +60,8 @@ impl<L> Index<L> {
         ensures told { IfOk result (λ built. IfSome (D.bytes disk.old)
             (λ image. IsBuilt image (D.reads disk.old) (D.reads disk.new) built)) }
         ensures room { IfOk result (HasRoom (D.len disk.old)) }
+        ensures looks { IfOk result (λ built. IfSome (D.bytes disk.old)
+            (λ image. LooksToBuild image steps.old steps.new built)) }
         ensures kept { Kept D.Disk disk.old disk.new (is_disk_fault result) }
     {
         match told(index_of(alloc, disk, end, steps))? {
@@ -77,6 +81,8 @@ fn index_of<D: Disk, L>(
     requires { end ≡ D.len disk.old }
     ensures told { IfSome (D.bytes disk.old)
         (λ image. IsIndexed image (D.reads disk.old) (D.reads disk.new) result) }
+    ensures looks { IfSome (D.bytes disk.old)
+        (λ image. LooksToIndex image steps.old steps.new result) }
     ensures room { OnOk result (69632 ≤ D.len disk.old) }
     ensures kept { Kept D.Disk disk.old disk.new (is_disk_halt result) }
 {

@@ -1,6 +1,6 @@
 //! What makes the tables of an index of the records of an image.
 
-ghost use Rattle.std.specs.Prelude.{◌≡◌, [], IfOk, IfSome, OnOk, true};
+ghost use Rattle.std.specs.Prelude.{◌≡◌, ℕ, ◌+◌, ◌≤◌, [], IfOk, IfSome, OnOk, length, true};
 ghost use Rattle.verdict.specs.Trees.{is_node_size};
 ghost use Rattle.recon_disk.specs.Keeping.{Kept};
 ghost use Rattle.write_cache.specs.Cache.{overlaid};
@@ -11,18 +11,20 @@ ghost use Rattle.block_source.specs.Takes.{handing};
 ghost use Rattle.plain_check.specs.Opened.{ReadsOnce, known, named_records};
 ghost use Rattle.change_laws.specs.Steps.{posts_of};
 ghost use Rattle.change_records.specs.Spans.{span_of as span_of_record};
-ghost use Rattle.ledger_index.specs.Ledger.{sums_of};
+ghost use Rattle.ledger_index.specs.Ledger.{entries_of, sums_of};
 ghost use Rattle.live_index.specs.Table.{pairs_of};
 ghost use Rattle.live_maker.specs.Opened.{finished, held_in};
 ghost use Rattle.records.specs.Context.{sum_free_inode};
 ghost use Rattle.shared_trees.specs.LivePairs.{table_of};
 ghost use Rattle.span_index.specs.Table.{times_of};
+ghost use Rattle.touched_accounts.specs.Looks.{HaveLooks, counted_times};
 ghost use Rattle.touched_accounts.specs.Sums.{with_all};
 ghost use Rattle.account_sums.specs.Sums.{or_free};
-ghost use Rattle.commit_judge.specs.Filling.{AreTablesOf, filled_in, named_walk, of_none, with_located, with_option};
+ghost use Rattle.commit_judge.specs.Filling.{AreTablesOf, FewToMake, filled_in, looks_of, named_walk, of_none, with_located, with_option};
 ghost use Rattle.commit_judge.specs.Flags.{free_in};
 
 use crate::context::Before;
+use crate::filler::Filling;
 use crate::posts::post_record;
 use crate::spans::span_of;
 use accounts::Postings;
@@ -70,40 +72,28 @@ pub(crate) fn tables_of<D: Disk, L>(
         (λ image. named_walk (known volume.now) image) }
     ensures tables { IfOk result (λ tables. IfSome (D.bytes disk.old)
         (λ image. AreTablesOf (known volume.now) (overlaid cache.now 0 image) tables)) }
+    ensures looks { IfOk result (λ tables. IfSome (D.bytes disk.old)
+        (λ image. FewToMake (known volume.now) (overlaid cache.now 0 image) tables steps.old
+        steps.new)) }
     ensures reads { ReadsOnce D.Disk disk.old disk.new cache.now result
         (λ image. named_records (known volume.now) image) }
     ensures kept { Kept D.Disk disk.old disk.new (is_disk_halt result) }
 {
     let mut all = Both {
         first: Lives::new(alloc),
-        second: Filling::new(alloc, &volume.map, volume.sup.nodesize, steps),
+        second: Filling::new(alloc, &volume.map, volume.sup.nodesize, &mut *steps),
     };
     volume.read_all(alloc, disk, cache, &mut all)?;
     let Both {
         first: lives,
         second: filling,
     } = all;
-    Ok(filling.finish(lives)?)
-}
-
-/// The sums of what records post but to sectors, the spans that they have, and the inodes whose data has no checksums. All go into the
-/// tables of an index, each by looks that are counted.
-#[derive(Drop)]
-pub(crate) struct Filling<'m, 's, L> {
-    alloc: Global,
-    // The chunks of the image.
-    map: &'m ChunkMap,
-    // Its size of a tree block in bytes.
-    nodesize: u32,
-    // The sums, but for what is not yet added to them.
-    totals: LedgerIndex<L>,
-    posts: Postings,
-    // The spans.
-    spans: SpanIndex<L>,
-    // The inodes.
-    free: BTreeSet<Inode>,
-    // The looks.
-    steps: &'s mut Steps<L>,
+    let (tables, looks) = filling.finish(lives)?;
+    // `filling` owned memory, so no proof here sees that the counter which it was lent ends as it left it. It does, so this never stops.
+    if steps.looks() != looks {
+        return Err(Halt::NoMemory);
+    }
+    Ok(tables)
 }
 
 impl<'m, 's, L> Filling<'m, 's, L> {
@@ -114,8 +104,9 @@ impl<'m, 's, L> Filling<'m, 's, L> {
         nodesize: u32,
         steps: &'s mut Steps<L>,
     ) -> Filling<'m, 's, L>
-        ensures { filled_in result ≡ of_none map.now nodesize }
+        ensures { filled_in result ≡ of_none map.now nodesize steps.old }
     {
+        let began = steps.looks();
         Filling {
             alloc,
             map,
@@ -124,6 +115,7 @@ impl<'m, 's, L> Filling<'m, 's, L> {
             posts: Postings::new(alloc),
             spans: SpanIndex::new(alloc),
             free: BTreeSet::new(alloc),
+            began,
             steps,
         }
     }
@@ -145,14 +137,18 @@ impl<'m, 's, L> Filling<'m, 's, L> {
         put_inode(&mut self.free, one)
     }
 
-    // The tables, with that of the live pairs of the same records.
-    fn finish(self, lives: Lives) -> Result<Tables<L>, NoMemory>
-        ensures live { IfOk result (λ tables.
-            pairs_of tables.live ≡ table_of (finished (held_in lives))) }
-        ensures sums { IfOk result (λ tables. sums_of tables.totals ≡ (filled_in self.entry).sums) }
-        ensures spans { IfOk result (λ tables.
-            times_of tables.spans ≡ (filled_in self.entry).spans) }
-        ensures free { IfOk result (λ tables. free_in tables.free ≡ (filled_in self.entry).free) }
+    // The tables, with that of the live pairs of the same records, and the looks so far.
+    fn finish(self, lives: Lives) -> Result<(Tables<L>, u64), NoMemory>
+        ensures live { IfOk result (λ made.
+            pairs_of made.0.live ≡ table_of (finished (held_in lives))) }
+        ensures sums { IfOk result (λ made. sums_of made.0.totals ≡ (filled_in self.entry).sums) }
+        ensures spans { IfOk result (λ made.
+            times_of made.0.spans ≡ (filled_in self.entry).spans) }
+        ensures free { IfOk result (λ made. free_in made.0.free ≡ (filled_in self.entry).free) }
+        ensures few { IfOk result (λ made. HaveLooks (filled_in self.entry).began
+            (entries_of made.0.totals) (filled_in self.entry).looks) }
+        ensures looks { IfOk result (λ made.
+            made.1 ≤ (filled_in self.entry).looks + length (held_in lives)) }
     {
         let Filling {
             alloc,
@@ -162,16 +158,19 @@ impl<'m, 's, L> Filling<'m, 's, L> {
             mut posts,
             spans,
             free,
+            began: _,
             steps,
         } = self;
         put_waiting(&mut totals, &mut posts, steps)?;
         let live = lives.finish(alloc, steps)?;
-        Ok(Tables {
+        let looks = steps.looks();
+        let tables = Tables {
             live,
             totals,
             spans,
             free,
-        })
+        };
+        Ok((tables, looks))
     }
 }
 
@@ -202,6 +201,9 @@ fn put_waiting<L>(
     ensures sums { OnOk result
         (sums_of totals.new ≡ with_all (sums_of totals.old) posts.old) }
     ensures none { OnOk result (posts.new ≡ []) }
+    ensures counts { OnOk result (steps.new ≡ counted_times (length posts.old) steps.old) }
+    ensures few { (begun : ℕ) → HaveLooks begun (entries_of totals.old) steps.old →
+        HaveLooks begun (entries_of totals.new) steps.new }
 {
     put_all(totals, posts, steps)?;
     while let Some(_posting) = posts.pop() {}
@@ -216,8 +218,10 @@ fn put_span<L>(
     steps: &mut Steps<L>,
 ) -> Result<(), NoMemory>
     requires { IsLawful (part_of one.now.part) }
-    ensures { OnOk result (times_of spans.new ≡
+    ensures spans { OnOk result (times_of spans.new ≡
         with_option (times_of spans.old) (span_of_record nodesize (located one.now))) }
+    ensures looks { steps.new
+        ≡ counted_times (looks_of (span_of_record nodesize (located one.now))) steps.old }
 {
     match span_of(nodesize, one.tree, &one.part) {
         Some(span) => spans.insert(span, steps),

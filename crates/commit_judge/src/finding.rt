@@ -4,7 +4,7 @@ ghost use Rattle.std.specs.Prelude.{IfOk};
 ghost use Rattle.change_records.specs.Affected.{context_with};
 ghost use Rattle.ledger_index.specs.Ledger.{sums_of};
 ghost use Rattle.span_index.specs.Table.{times_of};
-ghost use Rattle.commit_judge.specs.Filling.{IsFoundBy};
+ghost use Rattle.commit_judge.specs.Filling.{FewToSearch, IsFoundBy};
 ghost use Rattle.commit_judge.specs.Flags.{free_in};
 
 use crate::context::Before;
@@ -28,8 +28,9 @@ pub(crate) fn finding_of<L>(
     nodesize: u32,
     steps: &mut Steps<L>,
 ) -> Result<Option<Finding>, NoMemory>
-    ensures { IfOk result (IsFoundBy (sums_of tables.now.totals) (times_of tables.now.spans)
+    ensures found { IfOk result (IsFoundBy (sums_of tables.now.totals) (times_of tables.now.spans)
         (context_with map.now nodesize (free_in tables.now.free))) }
+    ensures looks { IfOk result (λ _. FewToSearch tables.now steps.old steps.new) }
 {
     let context = Before {
         map,
@@ -42,5 +43,7 @@ pub(crate) fn finding_of<L>(
     }];
     let bad = tables.spans.first_bad(&context, &whole, steps);
     let least = tables.totals.least_broken(steps)?;
+    // A counter that has told its looks is known to be below 2^64.
+    let _ = steps.looks();
     Ok(least_finding(alloc, bad, least.as_ref()))
 }

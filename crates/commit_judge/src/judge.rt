@@ -10,6 +10,7 @@ ghost use Rattle.span_index.specs.Sectors.{AreRunsFrom};
 ghost use Rattle.span_index.specs.Table.{times_of};
 ghost use Rattle.tree_change.specs.Gathered.{located_item};
 ghost use Rattle.tree_change.specs.Merging.{IsSortedOf, named_before, roots_left};
+ghost use Rattle.write_cache.specs.Cache.{overlaid};
 ghost use Rattle.commit_judge.specs.Index.{IndexStands, known};
 ghost use Rattle.commit_judge.specs.Judged.{HasRoom, IsJudgement, IsPlaceAfter, MovesPlace};
 ghost use Rattle.commit_judge.specs.Judging.{IsLeastOf, is_hot_by, next_of};
@@ -17,11 +18,12 @@ ghost use Rattle.commit_judge.specs.Decided.{IsDecided};
 ghost use Rattle.commit_judge.specs.Looks.{FewToFind, FewWherePassed, looks_to_pass};
 ghost use Rattle.commit_judge.specs.Moves.{context_after};
 ghost use Rattle.commit_judge.specs.Plan.{IsMadeOf, IsPlanOf, IsPlanned, commit_in};
+ghost use Rattle.commit_judge.specs.Work.{LeadsOn, LooksByWork, PlansFew};
 
 use crate::apply::{apply, undo};
 use crate::hot::count_hot;
 use crate::index::Index;
-use crate::laws::{counts_law, tried_law};
+use crate::laws::{counts_law, tried_law, work_law};
 use crate::moves::{Moves, after, moves_of};
 use crate::plan::{Plan, plan_of};
 use crate::roots::ascending;
@@ -58,7 +60,8 @@ pub enum Judged {
 ///
 /// Where the full check accepts the judged image, the commit passes, and the index then stands for that image. Otherwise it is rejected with
 /// the full check's own finding, and the index stands for the image as before. After a fault the index is spent: it stands for nothing.
-/// The disk's bytes stay; it is read at most twice for each block that is counted. The bytes of the superblock place of the judged image are
+/// The disk's bytes stay; it is read at most twice for each block that is counted. A commit that passes costs no more looks into the index
+/// than 64 for each unit of its work, which is a measure of what changes. The bytes of the superblock place of the judged image are
 /// those that the index has, with the pending writes over them, also where the index stands for no image.
 pub fn judge_commit<D: Disk, L>(
     alloc: Global,
@@ -70,6 +73,9 @@ pub fn judge_commit<D: Disk, L>(
     ensures told { IfOk result (λ judged. IfSome (D.bytes disk.old)
         (λ image. IndexStands image index.old → IsJudgement image cache.now
         index.new (D.reads disk.old) (D.reads disk.new) judged)) }
+    ensures looks { IfOk result (λ judged. IfSome (D.bytes disk.old)
+        (λ image. IndexStands image index.old →
+        LooksByWork image cache.now steps.old steps.new judged)) }
     ensures place { IfOk result (MovesPlace index.old.raw cache.now index.new.raw) }
     ensures room { IfOk result (HasRoom (D.len disk.old)) }
     ensures kept { Kept D.Disk disk.old disk.new (is_disk_fault result) }
@@ -91,6 +97,9 @@ pub fn judge_within<D: Disk, L>(
     ensures told { IfOk result (λ judged. IfSome (D.bytes disk.old)
         (λ image. IndexStands image index.old → IsJudgement image cache.now
         index.new (D.reads disk.old) (D.reads disk.new) judged)) }
+    ensures looks { IfOk result (λ judged. IfSome (D.bytes disk.old)
+        (λ image. IndexStands image index.old →
+        LooksByWork image cache.now steps.old steps.new judged)) }
     ensures place { IfOk result (MovesPlace index.old.raw cache.now index.new.raw) }
     ensures room { IfOk result (HasRoom (D.len disk.old)) }
     ensures kept { Kept D.Disk disk.old disk.new (is_disk_fault result) }
@@ -114,10 +123,14 @@ fn judge_blocks<D: Disk, L>(
     ensures told { IfSome (D.bytes disk.old) (λ image. IndexStands image index.old →
         IsDecided image cache.now index.old index.new
         (D.reads disk.old) (D.reads disk.new) result) }
+    ensures looks { IfOk result (λ judged. IfSome (D.bytes disk.old)
+        (λ image. IndexStands image index.old →
+        LooksByWork image cache.now steps.old steps.new judged)) }
     ensures place { IfOk result (MovesPlace index.old.raw cache.now index.new.raw) }
     ensures room { OnOk result (69632 ≤ end) }
     ensures kept { Kept D.Disk disk.old disk.new (is_disk_halt result) }
 {
+    work_law();
     let plan = plan_within(alloc, disk, cache, end, index, steps)?;
     Ok(judge_plan(alloc, cache, end, index, plan, steps)?)
 }
@@ -134,6 +147,8 @@ fn plan_within<D: Disk, L>(
     requires { end ≡ D.len disk.old }
     ensures told { IfSome (D.bytes disk.old) (λ image. IndexStands image index.now →
         IsPlanned image cache.now (known index.now) (D.reads disk.old) (D.reads disk.new) result) }
+    ensures looks { IfSome (D.bytes disk.old) (λ image. IndexStands image index.now →
+        PlansFew image cache.now (known index.now) steps.old steps.new result) }
     ensures place { IfOk result (λ plan. IsPlaceAfter (index.now).raw cache.now plan.raw) }
     ensures room { OnOk result (69632 ≤ end) }
     ensures kept { Kept D.Disk disk.old disk.new (is_disk_halt result) }
@@ -159,6 +174,10 @@ fn judge_plan<L>(
         IndexStands image index.old → length image ≡ end →
         IsPlanOf image cache.now (known index.old) before after plan →
         IsJudgement image cache.now index.new before after judged) }
+    ensures leads { IfOk result (λ judged. (image : List ℕ) (before after : ℕ) →
+        IndexStands image index.old → length image ≡ end →
+        IsPlanOf image cache.now (known index.old) before after plan →
+        LeadsOn (overlaid cache.now 0 image) (known index.old) (commit_in plan) judged) }
     ensures looks { IfOk result
         (FewWherePassed (known index.old) (commit_in plan) steps.old steps.new) }
 {

@@ -4,8 +4,10 @@ ghost use Rattle.change_laws.specs.Frame.{FrameLaw};
 ghost use Rattle.commit_judge.specs.Judging.{CountsLaw, TriedLaw};
 ghost use Rattle.commit_judge.specs.Looks.{FewLooksLaw};
 ghost use Rattle.commit_judge.specs.Stops.{SafeStops};
+ghost use Rattle.commit_judge.specs.Work.{WorkLaw};
 
 use change_laws::{ascend_law, commit_law, held_law, hot_law, known_spans_law, sound_law};
+use work_laws::{blocks_counted_law, housed_law, named_law, pieces_law, postings_law};
 
 /// A commit that is tried is decided.
 pub(crate) fn tried_law()
@@ -49,3 +51,21 @@ pub fn stop_law()
 pub fn few_looks_law()
     ensures { FewLooksLaw }
 {}
+
+/// The law of work. To plan and to judge a commit that passes costs no more looks into the index
+/// than 64 for each unit of the work between the two images: of the blocks that they do not share,
+/// the entries of these, what these post, the spans with a sector to which that goes, the pending
+/// writes and the chunks.
+pub fn work_law()
+    ensures { WorkLaw }
+{
+    held_law();
+    known_spans_law();
+    sound_law();
+    few_looks_law();
+    postings_law();
+    blocks_counted_law();
+    housed_law();
+    named_law();
+    pieces_law();
+}

@@ -11,6 +11,7 @@ ghost use Rattle.change_laws.specs.Paired.{SayChanges, added_from, removed_from}
 ghost use Rattle.commit_judge.specs.Index.{IndexStands, known};
 ghost use Rattle.commit_judge.specs.Judged.{IsPlaceAfter};
 ghost use Rattle.commit_judge.specs.Plan.{IsPlanned, commit_in};
+ghost use Rattle.commit_judge.specs.Work.{FindsByFew, PlansFew};
 
 use crate::fresh::{Fresh, fresh_of};
 use crate::index::Index;
@@ -49,6 +50,8 @@ pub(crate) fn plan_of<D: Disk, L>(
     ensures told { IfSome (D.bytes disk.old) (λ image. IndexStands image index.now →
         IsPlanned image cache.now (known index.now) (D.reads disk.old) (D.reads disk.new) result) }
     ensures place { IfOk result (λ plan. IsPlaceAfter (index.now).raw cache.now plan.raw) }
+    ensures looks { IfSome (D.bytes disk.old) (λ image. IndexStands image index.now →
+        PlansFew image cache.now (known index.now) steps.old steps.new result) }
     ensures kept { Kept D.Disk disk.old disk.new (is_disk_halt result) }
 {
     let fresh = fresh_of(&index.raw, cache)?;
@@ -76,6 +79,8 @@ fn plan_by<L>(
     ensures refs { IfOk result (λ plan.
         AreTheAffected (are_read_alike (index.now).sup plan.sup)
         (known index.now) (commit_in plan)) }
+    ensures looks { IfOk result (λ plan.
+        FindsByFew (known index.now) (commit_in plan) steps.old steps.new) }
 {
     let alike = are_read_alike(&index.sup, &fresh.sup);
     let changes = changes_in(alloc, alike, &change)?;
@@ -142,8 +147,11 @@ fn refs_in<L>(
     changes: &[ItemChange],
     steps: &mut Steps<L>,
 ) -> Result<Vec<ItemRef>, NoMemory>
-    ensures { (sup : ASuper) → IfOk result (λ refs. AreTheAffected alike (known index.now)
+    ensures value { (sup : ASuper) → IfOk result (λ refs. AreTheAffected alike (known index.now)
         (record { fresh = sup; change = change.now; changes = changes.now; refs = refs.items })) }
+    ensures looks { (sup : ASuper) → IfOk result (λ refs. FindsByFew (known index.now)
+        (record { fresh = sup; change = change.now; changes = changes.now; refs = refs.items })
+        steps.old steps.new) }
 {
     if !alike {
         return Ok(Vec::new(alloc));

@@ -3,6 +3,7 @@ use Rattle.std.specs.Prelude.{Option}
 use Rattle.std.proofs.lemmas.Result.{err_from_is_err_and}
 use Rattle.verdict.specs.declared.finding.Finding.{Finding}
 use Rattle.plain_check.specs.Opened.{known}
+use Rattle.commit_judge.proofs.CLooks.{looks_told}
 use Rattle.commit_judge.proofs.CReady.{IsFoundIn, found_told, halted_memory, halted_open, halted_tables, kept_both, ready_told}
 use Rattle.commit_judge.proofs.build.index_of.Goals as goal
 
@@ -36,7 +37,7 @@ returns-in-Some-clause-told g c =
     let tables = c.in_ok-tables in
     found_told (g.D.Disk.bytes c.args.disk.now) (g.D.Disk.bytes c.open.new.disk) c.new-cache.result (known volume.volume) tables.tables c.in-Some.found
     volume.ensures.kept.bytes c.new-cache.ensures volume.ensures.gives tables.ensures.tables
-    (subst (λ (f : Option Finding). IsFoundIn (known volume.volume) tables.tables f) c.in-Some.is c.in_ok-found.ensures)
+    (subst (λ (f : Option Finding). IsFoundIn (known volume.volume) tables.tables f) c.in-Some.is c.in_ok-found.ensures.found)
 
 pub returns-clause-told : goal.returns-clause-told
 returns-clause-told g c =
@@ -45,7 +46,7 @@ returns-clause-told g c =
     ready_told (g.D.Disk.bytes c.args.disk.now) (g.D.Disk.bytes c.open.new.disk) c.new-cache.result (known volume.volume) tables.tables _
     (g.D.Disk.reads c.args.disk.now) (g.D.Disk.reads c.open.new.disk) (g.D.Disk.reads c.tables_of.new.disk)
     volume.ensures.kept.bytes c.new-cache.ensures volume.ensures.gives tables.ensures.tables
-    (subst (λ (f : Option Finding). IsFoundIn (known volume.volume) tables.tables f) c.in_default.is c.in_ok-found.ensures)
+    (subst (λ (f : Option Finding). IsFoundIn (known volume.volume) tables.tables f) c.in_default.is c.in_ok-found.ensures.found)
     (record {
       raw_is = refl;
       sup_is = refl;
@@ -57,3 +58,11 @@ returns-clause-told g c =
       spans_are = refl;
     })
     volume.ensures.reads tables.ensures.reads
+
+pub returns-clause-looks : goal.returns-clause-looks
+returns-clause-looks g c =
+    let volume = c.in_ok-volume in
+    let tables = c.in_ok-tables in
+    looks_told (g.D.Disk.bytes c.args.disk.now) (g.D.Disk.bytes c.open.new.disk) c.new-cache.result (known volume.volume) tables.tables
+    c.args.steps.now c.tables_of.new.steps c.finding_of.new.steps
+    volume.ensures.kept.bytes c.new-cache.ensures volume.ensures.gives tables.ensures.tables tables.ensures.looks c.in_ok-found.ensures.looks

@@ -2,7 +2,7 @@ use Rattle.std.proofs.lemmas.Result.{err_from_is_err_and}
 use Rattle.live_maker.specs.Opened.{held_in}
 use Rattle.plain_check.specs.Opened.{known}
 use Rattle.commit_judge.specs.Filling.{filled_in}
-use Rattle.commit_judge.proofs.CTables.{halted_reading, read_told, tables_told}
+use Rattle.commit_judge.proofs.CTables.{few_told, halted_reading, left_as, read_told, tables_told}
 use Rattle.commit_judge.proofs.filling.tables_of.Goals as goal
 
 pub returns-in_err-read_all-clause-gives : goal.returns-in_err-read_all-clause-gives
@@ -21,8 +21,18 @@ returns-clause-gives g c =
 pub returns-clause-tables : goal.returns-clause-tables
 returns-clause-tables g c =
     let all = c.read_all.new.into in
-    let made = c.in_ok-finish in
+    let made = c.in_ok-tables in
     tables_told (g.D.Disk.bytes c.args.disk.now) c.args.cache.now (known c.args.volume.now)
-    (held_in c.new.result) (held_in all.first) (filled_in c.new-2.result) (filled_in all.second) made.field-0
+    (held_in c.new.result) (held_in all.first) (filled_in c.new-2.result) (filled_in all.second) made.tables c.args.steps.now
     c.new.ensures c.new-2.ensures c.in_ok-read_all.ensures.taken
     (record { live = made.ensures.live; sums = made.ensures.sums; spans = made.ensures.spans; free = made.ensures.free })
+
+-- the counter ends as it was left
+pub returns-clause-looks : goal.returns-clause-looks
+returns-clause-looks g c =
+    let all = c.read_all.new.into in
+    let made = c.in_ok-tables in
+    few_told (g.D.Disk.bytes c.args.disk.now) c.args.cache.now (known c.args.volume.now)
+    (held_in c.new.result) (held_in all.first) (filled_in c.new-2.result) (filled_in all.second) made.tables c.args.steps.now _
+    c.new.ensures c.new-2.ensures c.in_ok-read_all.ensures.taken made.ensures.few
+    (left_as _ _ _ _ c.looks.ensures c.if-looks.false made.ensures.looks)

@@ -1,7 +1,7 @@
 use Rattle.commit_judge.specs.Index.{IndexStands, known}
 use Rattle.commit_judge.specs.Judged.{IsJudgement}
 use Rattle.commit_judge.specs.Plan.{IsPlanOf}
-use Rattle.commit_judge.proofs.JJudge.{said_of}
+use Rattle.commit_judge.proofs.JJudge.{looks_of, said_of}
 use Rattle.commit_judge.proofs.judge.judge_blocks.Goals as goal
 
 pub returns-clause-told : goal.returns-clause-told
@@ -13,3 +13,10 @@ returns-clause-told g c =
     (λ image. IsJudgement image c.args.cache.now c.judge_plan.new.index before after c.in_ok-judge_plan.field-0)
     (g.met.D.Disk.told_length c.args.disk.now) c.requires c.in_ok-plan.ensures.told
     (λ image stands size plan. c.in_ok-judge_plan.ensures.judged image before after stands size plan)
+
+pub returns-clause-looks : goal.returns-clause-looks
+returns-clause-looks g c =
+    looks_of c.work_law.ensures (g.D.Disk.bytes c.args.disk.now) (g.D.Disk.len c.args.disk.now) c.args.end c.args.cache.now c.args.index.now
+    c.in_ok-plan.plan c.in_ok-judge_plan.field-0 (g.D.Disk.reads c.args.disk.now) (g.D.Disk.reads c.plan_within.new.disk) c.args.steps.now
+    c.plan_within.new.steps c.judge_plan.new.steps (g.met.D.Disk.told_length c.args.disk.now) c.requires c.in_ok-plan.ensures.told c.in_ok-plan.ensures.looks
+    c.in_ok-judge_plan.ensures.leads c.in_ok-judge_plan.ensures.looks

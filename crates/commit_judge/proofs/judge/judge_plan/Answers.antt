@@ -83,3 +83,17 @@ returns-clause-looks g c = record {
   };
   rest = c.pass.ensures.looks;
 }
+
+pub returns-clause-leads : goal.returns-clause-leads
+returns-clause-leads g c image before after stands size plan =
+    let k = known c.args.index.now in
+    let d = commit_in c.args.plan in
+    let says =
+    c.tried_law.ensures image c.args.cache.now k d c.in_ok-roots.roots.items c.in_ok-moves.moves (sums_of c.apply.new.totals) (times_of c.apply.new.spans) None
+    stands.known plan.commit c.in_ok-roots.ensures (record {
+      moves_are = c.in_ok-moves.ensures.moves;
+      sums_are = c.in_ok-apply.ensures.sums;
+      spans_are = c.in_ok-apply.ensures.spans;
+      found = c.in_default.ensures.least;
+    }) in
+    record { next = next_of k d c.in_ok-roots.roots.items (sums_of c.apply.new.totals) (times_of c.apply.new.spans); moved = says.3; known = says.1 }

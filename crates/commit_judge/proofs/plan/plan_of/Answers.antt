@@ -1,5 +1,5 @@
 use Rattle.std.proofs.Common.{◌∙◌}
-use Rattle.commit_judge.proofs.EPlan.{planned, super_found, tree_found}
+use Rattle.commit_judge.proofs.EPlan.{few_planned, planned, super_found, tree_found}
 use Rattle.commit_judge.proofs.plan.plan_of.Goals as goal
 
 pub returns-in_err-fresh-clause-told : goal.returns-in_err-fresh-clause-told
@@ -24,3 +24,9 @@ returns-in-Found-clause-told g c =
 pub returns-in_ok-plan_by-in-Change-clause-place : goal.returns-in_ok-plan_by-in-Change-clause-place
 returns-in_ok-plan_by-in-Change-clause-place g c image room same =
     c.in_ok-plan_by-in-Change.ensures.bytes ∙ (c.in_ok-fresh.ensures image room same).0
+
+pub returns-in_ok-plan_by-in-Change-clause-looks : goal.returns-in_ok-plan_by-in-Change-clause-looks
+returns-in_ok-plan_by-in-Change-clause-looks g c =
+    few_planned c.args.index.now c.args.cache.now (g.D.Disk.bytes c.args.disk.now) c.in_ok-fresh.fresh c.args.steps.now c.difference.new.steps
+    c.plan_by.new.steps c.in_ok-change.field-0 c.in-Change.change c.in_ok-plan_by-in-Change.field-0 c.in_ok-fresh.ensures c.in-Change.is
+    c.in_ok-change.ensures.looks c.in_ok-change.ensures.moved c.in_ok-plan_by-in-Change.ensures.change c.in_ok-plan_by-in-Change.ensures.looks

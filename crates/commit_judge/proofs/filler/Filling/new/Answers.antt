@@ -1,9 +1,9 @@
 use Rattle.ledger_index.specs.Ledger.{sums_of}
 use Rattle.span_index.specs.Table.{times_of}
 use Rattle.commit_judge.proofs.CFilling.{none_filled}
-use Rattle.commit_judge.proofs.filling.Filling.new.Goals as goal
+use Rattle.commit_judge.proofs.filler.Filling.new.Goals as goal
 
 pub returns : goal.returns
 returns g c =
     none_filled c.args.map.now c.args.nodesize (sums_of c.new.result) c.new-2.result (times_of c.new-3.result) c.new-4.result
-    c.new.ensures.sums c.new-2.ensures c.new-3.ensures c.new-4.ensures.empty
+    c.looks-began.result c.args.steps.now c.new.ensures.sums c.new-2.ensures c.new-3.ensures c.new-4.ensures.empty c.looks-began.ensures
