@@ -2,6 +2,7 @@ pub mod Words
 pub mod Outcome
 pub mod Run
 pub mod Reads
+pub mod Looks
 pub mod Stopped
 pub mod Stopping
 pub mod Making

@@ -4,6 +4,7 @@ use Rattle.verdict.specs.declared.machine.Event.{Event}
 use Rattle.verdict.specs.Events.{begin_of, end_of}
 use Rattle.recon_core.specs.declared.checker.Checker.{Checker}
 use Rattle.recon_core.specs.Machine.{MachineState, machine_step}
+use Rattle.recon_core.specs.Looks.{HasLooks, work_at}
 use Rattle.recon_core.specs.Reads.{HasReads}
 use Rattle.recon_core.specs.Standing.{StandsFor}
 use Rattle.recon_cli.specs.Outcome.{answer_text, counts_after, is_settle, past_end}
@@ -40,8 +41,9 @@ Turns style s place t event kept None checker new disk sink =
 Turns style s place t event kept (Some status) checker new disk sink =
     EndsPast style s place event kept status disk sink
 
--- what one event did that goes on, and the reads before and after it
-abbrev pub MayStep : {L : Type 0} → MachineState → Counts → Event → Option ℕ → Checker L → Counts → Option (List ℕ) → ℕ → ℕ → Type 0
-MayStep s t event None checker new disk before after =
+-- what one event did that goes on, and the reads and the looks before and after it
+abbrev pub MayStep : {L : Type 0} → MachineState → Counts → Event → Option ℕ → Checker L → Counts → Option (List ℕ) → ℕ → ℕ → ℕ → ℕ → Type 0
+MayStep s t event None checker new disk before after first last =
     StepsOn s t event checker new disk × HasReads (machine_step s event).answer before after
-MayStep s t event (Some status) checker new disk before after = Unit {0}
+    × HasLooks (machine_step s event).answer (work_at s event) first last
+MayStep s t event (Some status) checker new disk before after first last = Unit {0}

@@ -9,6 +9,7 @@ ghost use Rattle.recon_cli.specs.Words.{AsksToMake, IsForm, IsNoForm};
 ghost use Rattle.recon_cli.specs.Making.{IsUnwritten, MakesAs};
 ghost use Rattle.recon_cli.specs.Outcome.{replay_outcome};
 ghost use Rattle.recon_cli.specs.Status.{fault_status};
+ghost use Rattle.recon_cli.specs.Looks.{LooksAtMost};
 ghost use Rattle.recon_cli.specs.Reads.{ReadsAtMost};
 ghost use Rattle.recon_cli.specs.Stopped.{CheckStops, StopsAs};
 ghost use Rattle.recon_cli.specs.Run.{ChecksAs, ComesOut, HadNoFault, HasStatusCause, IsCheckStatus, IsOutcomeStatus, TookLines, faults_of, record_limit};
@@ -31,7 +32,9 @@ use std::alloc::Global;
 ///
 /// A replay that ends with 0 reads the superblock of the disk's image once and each block of its trees at most
 /// twice, and then for each judged event at most twice each block that the images before and after it do not
-/// share, for each fetch once, and for a write that waits not at all.
+/// share, for each fetch once, and for a write that waits not at all. It looks into the index at most 64 times for each
+/// block, entry, posting, span and chunk of the disk's image, and at each judged event at most 64 times for each unit of
+/// its work, which counts the same of what changes.
 ///
 /// `make SEED COMMITS IMAGE` writes the base image over the disk's first 33,554,432 bytes, flushes, and writes
 /// to the place for lines the trace of a workload on it, of COMMITS commits, that is drawn from SEED. SEED and
@@ -85,6 +88,12 @@ pub fn recon_run<D: Disk, S: Source, K: Sink, L>(
         result ≡ 0 → (image bytes : List ℕ) → D.bytes disk.old ≡ Some image →
         S.left trace.old ≡ Some bytes → IsBytes bytes →
         ReadsAtMost image bytes (D.reads disk.old) (D.reads disk.new) }
+
+    // It has looked into the index at most 64 times for each unit of the work of the start, and of the work of its events.
+    ensures looks { (style : Style) → IsForm (Form.Replay style) (map string_bytes words.now) →
+        result ≡ 0 → (image bytes : List ℕ) → D.bytes disk.old ≡ Some image →
+        S.left trace.old ≡ Some bytes → IsBytes bytes →
+        LooksAtMost image bytes steps.old steps.new }
 
     // A check of the image prints what the full check says of it. It writes nothing to the disk, and leaves the trace.
     ensures check { IsForm Form.Check (map string_bytes words.now) → IsOutcomeStatus result →

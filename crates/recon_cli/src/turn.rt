@@ -125,7 +125,7 @@ impl<L> Replay<L> {
             StandsFor self.old.checker state → D.bytes disk.old ≡ Some state.image →
             IfOk result (λ status. MayStep state self.old.counts event status
             self.new.checker self.new.counts
-            (D.bytes disk.new) (D.reads disk.old) (D.reads disk.new)) }
+            (D.bytes disk.new) (D.reads disk.old) (D.reads disk.new) steps.old steps.new) }
         ensures status { IfOk result (λ status. IfSome status (λ n. n ≡ 3)) }
         ensures style { self.new.style ≡ self.old.style }
         ensures open { OnOk result (self.new.checker.closed ≡ false) }

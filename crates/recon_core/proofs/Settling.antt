@@ -23,6 +23,9 @@ use Rattle.commit_judge.specs.declared.judge.Judged.TheVariants.{Passed as passe
 use Rattle.recon_core.specs.Judged.{IsLeftOf, IsSettled, Judges}
 use Rattle.recon_core.specs.Machine.{answer_to, image_by}
 use Rattle.recon_core.specs.Order.{HasSentBy, HasSentOut, HasSentPart}
+use Rattle.commit_judge.specs.Work.{LooksByWork}
+use Rattle.work_laws.specs.Work.{work_between}
+use Rattle.recon_core.specs.Looks.{HasLooks}
 use Rattle.recon_core.specs.Reads.{HasReads}
 use Rattle.recon_core.specs.Moments.{IsFlushedAs, LeavesAfter}
 use Rattle.recon_core.specs.Sent.{IsAllOrPart, IsPlaceOf, LeavesBy}
@@ -169,6 +172,20 @@ pub reads_rejected : {L : Type 0} (old : Option (List ℕ)) (before : Index L) (
     → IfSome old (λ image. IndexStands image before → HasReads (Rejected finding) first last)
 reads_rejected None before first last finding = tt
 reads_rejected (Some image) before first last finding = λ stands. tt
+
+-- how often the index was looked into
+pub looks_passed : {L : Type 0} (old : Option (List ℕ)) (m : FinMap nat_cmp ℕ) (before : Index L) (judged : Judged)
+    (first last generation blocks hot : ℕ) → judged ≡ passes generation blocks hot
+    → IfSome old (λ image. IndexStands image before → LooksByWork image m first last judged)
+    → IfSome old (λ image. IndexStands image before → HasLooks (Passed generation blocks hot) (work_between image m) first last)
+looks_passed None m before judged first last generation blocks hot is says = tt
+looks_passed (Some image) m before judged first last generation blocks hot is says = λ stands.
+    subst (LooksByWork image m first last) is (says stands)
+
+pub looks_rejected : {L : Type 0} (old : Option (List ℕ)) (m : FinMap nat_cmp ℕ) (before : Index L) (first last : ℕ) (finding : Finding)
+    → IfSome old (λ image. IndexStands image before → HasLooks (Rejected finding) (work_between image m) first last)
+looks_rejected None m before first last finding = tt
+looks_rejected (Some image) m before first last finding = λ stands. tt
 
 -- an image that nothing reached is left by any judgement
 left_as_it_was : (v : Verdict) (m : FinMap nat_cmp ℕ) (judged image : List ℕ) → IsLeftBy v m judged image image

@@ -1,5 +1,5 @@
 -- What the machine's steps come to, by the cache of what waits.
-use Rattle.std.proofs.Common.{◌≡◌, ℕ, ◌+◌, ◌≤◌, inl, inr, Bool, true, false, List, [], ◌∷◌, ◌++◌, length, take, drop, Option, Some, None, IfSome, IsSome, Result, Ok, Err, OnOk, OnErr, IfOk, IfErr, IsErrOf, refl, sym, ap, ◌∙◌, arith, subst, cond, if◌then◌else◌, nat_lt}
+use Rattle.std.proofs.Common.{◌≡◌, ℕ, ◌+◌, ◌*◌, ◌≤◌, inl, inr, Bool, true, false, List, [], ◌∷◌, ◌++◌, length, take, drop, Option, Some, None, IfSome, IsSome, Result, Ok, Err, OnOk, OnErr, IfOk, IfErr, IsErrOf, refl, sym, ap, ◌∙◌, arith, subst, cond, if◌then◌else◌, nat_lt}
 use Rattle.std.specs.Ordering.{nat_cmp}
 use Rattle.std.specs.FinMap.{FinMap, get, empty, get-empty}
 use Rattle.std.proofs.lemmas.List.{take_at}
@@ -9,7 +9,7 @@ use Rattle.verdict.specs.declared.machine.Event.TheVariants.{Write, Settle, Fetc
 use Rattle.verdict.specs.declared.machine.Stop.{Stop}
 use Rattle.verdict.specs.declared.machine.Stop.TheVariants.{Closed, PastEnd}
 use Rattle.verdict.specs.declared.machine.Answer.{Answer}
-use Rattle.verdict.specs.declared.machine.Answer.TheVariants.{Held, Fetched}
+use Rattle.verdict.specs.declared.machine.Answer.TheVariants.{Held, Fetched, Passed, Rejected}
 use Rattle.std.specs.Bool.{MatchBool}
 use Rattle.std.specs.Option.{IsSomeAnd}
 use Rattle.verdict.specs.Events.{begin_of, end_of, length_of, meets_superblock}
@@ -25,10 +25,12 @@ use Rattle.verdict.specs.declared.finding.Verdict.TheVariants.{Accept, Found}
 use Rattle.recon_core.specs.declared.checker.Checker.{Checker}
 use Rattle.commit_judge.specs.Counts.{blocks_between, hot_between}
 use Rattle.commit_judge.specs.Index.{IndexStands, known}
-use Rattle.commit_judge.specs.Start.{IsBuilt, IsReady}
+use Rattle.commit_judge.specs.Start.{IsBuilt, IsReady, LooksToBuild}
 use Rattle.commit_judge.specs.declared.build.Built.{Built}
 use Rattle.commit_judge.specs.declared.build.Built.TheVariants.{Ready, Refused}
 use Rattle.commit_judge.specs.declared.index.Index.{Index}
+use Rattle.work_laws.specs.Work.{starting_work, work_between}
+use Rattle.recon_core.specs.Looks.{HasLooks, work_at}
 use Rattle.recon_core.specs.Reads.{HasReadTrees, HasReads}
 use Rattle.recon_core.specs.Machine.{MachineState, answer_to, image_by, judged_image, settle_step, machine_step, with_pending}
 use Rattle.recon_core.specs.Standing.{BeginsWith, StandsFor, IsAccepted, IsBelow, AllMissPlace, Takes, refusal_of}
@@ -86,6 +88,14 @@ begins_reads None before after built index is says = tt
 begins_reads (Some image) before after built index is says =
     let ready : IsReady image before after index = subst (IsBuilt image before after) is says in
     record { trees = ready.trees; walks = ready.walks; reads = ready.reads }
+
+-- how often the index was looked into
+pub begins_looks : {L : Type 0} (told now : Option (List ℕ)) (before after : ℕ) (built : Built L) (index : Index L) → built ≡ Ready index → now ≡ told
+    → IfSome now (λ image. LooksToBuild image before after built)
+    → IfSome told (λ image. after ≤ before + 64 * starting_work image)
+begins_looks None now before after built index is same looks = tt
+begins_looks (Some image) now before after built index is same looks =
+    subst (LooksToBuild image before after) is (subst (λ o. IfSome o (λ i. LooksToBuild i before after built)) same looks)
 
 is_none_some : (o : Option ℕ) → o ≡ None → IsSome o → ⊥
 is_none_some None e h = cc
@@ -225,6 +235,35 @@ pub reads_judged : {L : Type 0} (checker : Checker L) (s : MachineState) (said :
     → IfSome before (λ image. IndexStands image checker.index → HasReads said first last) → HasReads said first last
 reads_judged checker s said before first last stands told reads =
     at_image (λ image. IndexStands image checker.index) (λ image. HasReads said first last) before s.image told stands.index reads
+
+-- how often a judged event looks into the index
+abbrev LooksOn : {L : Type 0} → Checker L → FinMap nat_cmp ℕ → Answer → Option (List ℕ) → ℕ → ℕ → Type 0
+LooksOn checker pending said before first last =
+    IfSome before (λ image. IndexStands image checker.index → HasLooks said (work_between image pending) first last)
+
+pub looks_settle : {L : Type 0} (checker : Checker L) (s : MachineState) (said : Answer) (before : Option (List ℕ)) (first last : ℕ) → StandsFor checker s
+    → before ≡ Some s.image → LooksOn checker checker.cache said before first last → HasLooks said (work_at s Settle) first last
+looks_settle checker s said before first last stands told looks =
+    subst (λ m. HasLooks said (work_between s.image m) first last) stands.cache
+    (at_image (λ image. IndexStands image checker.index) (λ image. HasLooks said (work_between image checker.cache) first last) before s.image told
+    stands.index looks)
+
+pub looks_commit : {L : Type 0} (checker : Checker L) (s : MachineState) (submitter at : ℕ) (data_ : List ℕ) (said : Answer) (before : Option (List ℕ))
+    (first last : ℕ) → StandsFor checker s → before ≡ Some s.image → meets_superblock at (length data_) ≡ true
+    → LooksOn checker (with_bytes checker.cache at data_) said before first last → HasLooks said (work_at s (Write submitter at data_)) first last
+looks_commit checker s submitter at data_ said before first last stands told meets looks =
+    let m : FinMap nat_cmp ℕ = with_bytes checker.cache at data_ in
+    let all : FinMap nat_cmp ℕ = cache_of (with_pending s (record { at = at; bytes = data_ })).pending in
+    subst (λ n. HasLooks said n first last) (sym (ap (λ b. cond b (work_between s.image all) 0) meets))
+    (subst (λ k. HasLooks said (work_between s.image k) first last) (waits_more checker s at data_ stands)
+    (at_image (λ image. IndexStands image checker.index) (λ image. HasLooks said (work_between image m) first last) before s.image told stands.index looks))
+
+-- an event without a look
+pub looks_none : (said : Answer) (work looks : ℕ) → HasLooks said work looks looks
+looks_none Held work looks = omega arith
+looks_none (Fetched bytes) work looks = omega arith
+looks_none (Passed generation blocks hot) work looks = omega arith
+looks_none (Rejected finding) work looks = tt
 
 AllMissPlace-push : (ws : List HeldWrite) (w : HeldWrite) → AllMissPlace ws → meets_superblock w.at (length w.bytes) ≡ false → AllMissPlace (ws ++ w ∷ [])
 AllMissPlace-push [] w h g = (g, tt)

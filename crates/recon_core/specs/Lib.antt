@@ -1,6 +1,7 @@
 pub mod Machine
 pub mod Standing
 pub mod Reads
+pub mod Looks
 pub mod Stops
 pub mod Safe
 pub mod Moments

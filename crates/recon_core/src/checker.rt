@@ -55,10 +55,12 @@ impl<L> Checker<L> {
     ghost use Rattle.recon_core.specs.Judged.{IsLeftOf, Judges};
     ghost use Rattle.recon_core.specs.Order.{HasSentBy, HasSentPart, judged_with};
     ghost use Rattle.recon_core.specs.Reads.{HasBegun, HasReads, HasStarted};
+    ghost use Rattle.recon_core.specs.Looks.{BeginsByWork, HasLooks, JudgesByWork, StartsByWork, work_at};
     ghost use Rattle.commit_judge.specs.Index.{HasPlaceOf, IndexStands};
 
     /// A checker over the disk, where the full check accepts its image. The disk's bytes stay. The superblock is one
-    /// read of the disk, and each block of the trees at most two. Its stops are `DiskFault` and `NoMemory`.
+    /// read of the disk, and each block of the trees at most two. The looks into the index are at most 64 for each block,
+    /// entry, posting, span and chunk of the image. Its stops are `DiskFault` and `NoMemory`.
     pub fn start<D: Disk>(
         alloc: Global,
         disk: &mut D,
@@ -68,6 +70,8 @@ impl<L> Checker<L> {
             IfSome (D.bytes disk.old) (λ image. BeginsOver image started)) }
         ensures reads { IfOk result (λ started. IfSome (D.bytes disk.old)
             (λ image. HasStarted image (D.reads disk.old) (D.reads disk.new) started)) }
+        ensures looks { IfOk result (λ started. IfSome (D.bytes disk.old)
+            (λ image. StartsByWork image steps.old steps.new started)) }
         ensures ready { IfOk result (BeginsAt (D.len disk.old)) }
         ensures stops { IsNoRefusal result }
         ensures kept { Kept D.Disk disk.old disk.new (is_disk_fault result) }
@@ -89,6 +93,8 @@ impl<L> Checker<L> {
             IfSome (D.bytes disk.old) (λ image. BeginsWith image begun)) }
         ensures reads { IfOk result (λ begun. IfSome (D.bytes disk.old)
             (λ image. HasBegun image (D.reads disk.old) (D.reads disk.new) begun)) }
+        ensures looks { IfOk result (λ begun. IfSome (D.bytes disk.old)
+            (λ image. BeginsByWork image steps.old steps.new begun)) }
         ensures ready { IfOk result (BeginsOpen (D.len disk.old)) }
         ensures stops { IsNoRefusal result }
         ensures kept { Kept D.Disk disk.old disk.new (is_disk_fault result) }
@@ -127,7 +133,9 @@ impl<L> Checker<L> {
     /// Where a call fails, those before it were sent. Any other answer, and `NoMemory`, sends nothing.
     ///
     /// A write that waits reads nothing, and a fetch once. A judged event that passes reads at most twice each block
-    /// that the image before it and the judged one do not share.
+    /// that the image before it and the judged one do not share. It looks into the index at most 64 times for each unit of
+    /// its work: of these blocks, their entries, what these post, the spans that share a sector with what changes, the runs
+    /// of the pending writes, and the chunks.
     #[tactic(auto, unfolding(crate::specs::Order::HasSentBy, crate::specs::Order::HasSentPart))]
     pub fn event<D: Disk>(
         &mut self,
@@ -160,6 +168,11 @@ impl<L> Checker<L> {
         ensures reads { (state : MachineState) → StandsFor self.old state →
             D.bytes disk.old ≡ Some state.image → IfOk result
             (λ answer. HasReads answer (D.reads disk.old) (D.reads disk.new)) }
+
+        // How often the index is looked into: at most 64 times for each unit of the work of the event.
+        ensures looks { (state : MachineState) → StandsFor self.old state →
+            D.bytes disk.old ≡ Some state.image → IfOk result
+            (λ answer. HasLooks answer (work_at state ev) steps.old steps.new) }
 
         // What a passed event sends to the disk, call by call, that no other answer sends anything, and
         // what an event sends that has no answer. The calls are said where the index has the bytes of the
@@ -252,6 +265,8 @@ impl<L> Checker<L> {
         ensures sort { IfOk result IsJudgement }
         ensures judged { Judges D.Disk disk.old disk.new
             self.old.cache self.old.index self.new.index result (is_disk_fault result) }
+        ensures looks { JudgesByWork (D.bytes disk.old) self.old.cache self.old.index
+            result steps.old steps.new }
         ensures order { IfOk result (λ answer.
             HasSentBy (HasPlaceOf self.old.index) answer
             self.old.cache (D.bytes disk.old) (D.sent disk.old) (D.sent disk.new)) }
@@ -306,6 +321,9 @@ impl<L> Checker<L> {
         ensures judged { Judges D.Disk disk.old disk.new
             (with_bytes self.old.cache write.at write.bytes)
             self.old.index self.new.index result (is_disk_fault result) }
+        ensures looks { JudgesByWork (D.bytes disk.old)
+            (with_bytes self.old.cache write.at write.bytes)
+            self.old.index result steps.old steps.new }
         ensures order { IfOk result (λ answer.
             HasSentBy (HasPlaceOf self.old.index) answer
             (with_bytes self.old.cache write.at write.bytes)

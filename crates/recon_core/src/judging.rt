@@ -6,6 +6,7 @@ ghost use Rattle.block_source.specs.Gives.{is_disk_fault};
 ghost use Rattle.commit_judge.specs.Index.{HasPlaceOf, IndexStands};
 ghost use Rattle.recon_core.specs.Standing.{IsBelow, IsJudgement};
 ghost use Rattle.recon_core.specs.Judged.{IsLeftOf, Judges};
+ghost use Rattle.recon_core.specs.Looks.{JudgesByWork};
 ghost use Rattle.recon_core.specs.Moments.{IsAtRest};
 ghost use Rattle.recon_core.specs.Order.{HasSentBy, HasSentPart};
 ghost use Rattle.recon_core.specs.Sent.{LeavesBy};
@@ -36,6 +37,7 @@ pub fn judge_waiting<D: Disk, L>(
     ensures sort { IfOk result IsJudgement }
     ensures judged { Judges D.Disk disk.old disk.new
         cache.old index.old index.new result (is_disk_fault result) }
+    ensures looks { JudgesByWork (D.bytes disk.old) cache.old index.old result steps.old steps.new }
     ensures order { IfOk result (λ answer.
         HasSentBy (HasPlaceOf index.old) answer
         cache.old (D.bytes disk.old) (D.sent disk.old) (D.sent disk.new)) }

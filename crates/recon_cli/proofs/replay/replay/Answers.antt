@@ -1,6 +1,6 @@
 use Rattle.std.proofs.Common.{◌∙◌}
 use Rattle.recon_cli.proofs.Going.{each_ok}
-use Rattle.recon_cli.proofs.HowOften.{begun_reads, reads_whole}
+use Rattle.recon_cli.proofs.HowOften.{begun_looks, begun_reads, looks_whole, reads_whole}
 use Rattle.recon_cli.proofs.Start.{begun_over}
 use Rattle.recon_cli.proofs.replay.replay.Goals as goal
 
@@ -21,3 +21,11 @@ returns-in-Ok-Ok-clause-reads g c image bytes told lawful left =
     told c.in-Ok-Ok.field-0-is c.in-Ok-Ok.ensures.reads in
     each_ok c.replay_over.result (λ status rest none. reads_whole image bytes _ _ _ trees (rest none))
     (c.replay_over.ensures.reads image bytes start.0 (c.in-Ok-Ok.ensures.kept.bytes ∙ told) lawful left)
+
+pub returns-in-Ok-Ok-clause-looks : goal.returns-in-Ok-Ok-clause-looks
+returns-in-Ok-Ok-clause-looks g c image bytes told lawful left =
+    let start = begun_over (g.D.Disk.bytes c.args.lent.now.disk.now) image c.in-Ok-Ok.field-0 c.in-Ok-Ok.checker c.in-Ok-Ok.generation told c.in-Ok-Ok.field-0-is c.in-Ok-Ok.ensures.told in
+    let few = begun_looks (g.D.Disk.bytes c.args.lent.now.disk.now) image c.args.lent.now.steps.now c.begin.new.steps c.in-Ok-Ok.field-0 c.in-Ok-Ok.checker c.in-Ok-Ok.generation
+    told c.in-Ok-Ok.field-0-is c.in-Ok-Ok.ensures.looks in
+    each_ok c.replay_over.result (λ status rest none. looks_whole image bytes _ _ _ few (rest none))
+    (c.replay_over.ensures.looks image bytes start.0 (c.in-Ok-Ok.ensures.kept.bytes ∙ told) lawful left)

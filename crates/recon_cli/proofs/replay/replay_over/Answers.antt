@@ -39,3 +39,6 @@ returns-clause-stopped g c image bytes kept accepted stands told left printed =
 
 pub returns-clause-reads : goal.returns-clause-reads
 returns-clause-reads g c image bytes stands told lawful left = c.take_records.ensures.reads (first_state image) bytes stands told lawful left
+
+pub returns-clause-looks : goal.returns-clause-looks
+returns-clause-looks g c image bytes stands told lawful left = c.take_records.ensures.looks (first_state image) bytes stands told lawful left

@@ -53,9 +53,10 @@ records-init g c =
           (far_start c.args.replay.now.style first bytes kept c.args.replay.now.checker (g.D.Disk.bytes c.args.lent.now.disk.now) (g.S.Source.left c.args.lent.now.trace.now) (g.K.Sink.kept c.args.lent.now.out.now) stands image left printed));
       read = λ first bytes stands image left.
           let reads = g.D.Disk.reads c.args.lent.now.disk.now in
-          subst (λ t. ReadSoFar first bytes c.new-reader.result t c.args.replay.now.checker (g.D.Disk.bytes c.args.lent.now.disk.now) (g.S.Source.left c.args.lent.now.trace.now) reads reads) (sym c.requires.first)
-          (subst (λ r. ReadSoFar first bytes r no_counts c.args.replay.now.checker (g.D.Disk.bytes c.args.lent.now.disk.now) (g.S.Source.left c.args.lent.now.trace.now) reads reads) (sym c.new-reader.ensures)
-          (read_start first bytes c.args.replay.now.checker (g.D.Disk.bytes c.args.lent.now.disk.now) (g.S.Source.left c.args.lent.now.trace.now) reads stands image left));
+          let looks = c.args.lent.now.steps.now in
+          subst (λ t. ReadSoFar first bytes c.new-reader.result t c.args.replay.now.checker (g.D.Disk.bytes c.args.lent.now.disk.now) (g.S.Source.left c.args.lent.now.trace.now) reads reads looks looks) (sym c.requires.first)
+          (subst (λ r. ReadSoFar first bytes r no_counts c.args.replay.now.checker (g.D.Disk.bytes c.args.lent.now.disk.now) (g.S.Source.left c.args.lent.now.trace.now) reads reads looks looks) (sym c.new-reader.ensures)
+          (read_start first bytes c.args.replay.now.checker (g.D.Disk.bytes c.args.lent.now.disk.now) (g.S.Source.left c.args.lent.now.trace.now) reads looks stands image left));
     }
 
 pub returns-in-Some-clause-outcome : goal.returns-in-Some-clause-outcome
@@ -99,11 +100,30 @@ returns-in-Some-clause-reads g c first bytes stands image lawful left none =
 
 pub returns-in-Ok-End-clause-reads : goal.returns-in-Ok-End-clause-reads
 returns-in-Ok-End-clause-reads g c first bytes stands image lawful left =
-    each_ok c.print_summary.result (λ status is. read_end first bytes c.records.reader c.next.new.self c.records.replay.counts c.records.replay.checker (g.D.Disk.bytes c.records.lent.disk.now)
-    (g.S.Source.left c.records.lent.trace.now) (g.S.Source.left c.next.new.source) (g.D.Disk.reads c.args.lent.now.disk.now) (g.D.Disk.reads c.records.lent.disk.now) status
+    each_ok c.print_summary.result (λ status is none events ending spelled. (read_end first bytes c.records.reader c.next.new.self c.records.replay.counts c.records.replay.checker (g.D.Disk.bytes c.records.lent.disk.now)
+    (g.S.Source.left c.records.lent.trace.now) (g.S.Source.left c.next.new.source) (g.D.Disk.reads c.args.lent.now.disk.now) (g.D.Disk.reads c.records.lent.disk.now)
+    c.args.lent.now.steps.now c.records.lent.steps.now status
     (c.records.invariant.read first bytes stands image left) lawful
     (at_end c.records.reader c.next.new.self (g.S.Source.left c.records.lent.trace.now) (g.S.Source.left c.next.new.source) c.in-Ok-End.field-0 c.in-Ok-End.field-0-is c.in-Ok-End.ensures.told)
-    is) c.print_summary.ensures.status
+    is none events ending spelled).0) c.print_summary.ensures.status
+
+pub returns-in-Ok-End-clause-looks : goal.returns-in-Ok-End-clause-looks
+returns-in-Ok-End-clause-looks g c first bytes stands image lawful left =
+    each_ok c.print_summary.result (λ status is none events ending spelled. (read_end first bytes c.records.reader c.next.new.self c.records.replay.counts c.records.replay.checker (g.D.Disk.bytes c.records.lent.disk.now)
+    (g.S.Source.left c.records.lent.trace.now) (g.S.Source.left c.next.new.source) (g.D.Disk.reads c.args.lent.now.disk.now) (g.D.Disk.reads c.records.lent.disk.now)
+    c.args.lent.now.steps.now c.records.lent.steps.now status
+    (c.records.invariant.read first bytes stands image left) lawful
+    (at_end c.records.reader c.next.new.self (g.S.Source.left c.records.lent.trace.now) (g.S.Source.left c.next.new.source) c.in-Ok-End.field-0 c.in-Ok-End.field-0-is c.in-Ok-End.ensures.told)
+    is none events ending spelled).1) c.print_summary.ensures.status
+
+pub returns-in-Some-clause-looks : goal.returns-in-Some-clause-looks
+returns-in-Some-clause-looks g c first bytes stands image lawful left none =
+    let three : c.in-Some.status ≡ 3 = subst (λ t. IfSome t (λ n. n ≡ 3)) c.in-Some.is c.in_ok-turn-in-Ok-Event.ensures.status in
+    absurd (omega (arith, three, none))
+
+pub returns-in-Err-clause-looks : goal.returns-in-Err-clause-looks
+returns-in-Err-clause-looks g c first bytes stands image lawful left =
+    each_ok c.print_fault.result (λ status p none. absurd (omega (arith, p.0, none))) c.print_fault.ensures.printed
 
 pub returns-in-Err-clause-reads : goal.returns-in-Err-clause-reads
 returns-in-Err-clause-reads g c first bytes stands image lawful left =
@@ -163,9 +183,11 @@ records-preserved g c =
           let so = c.records.invariant.read first bytes stands image left in
           let s = state_after first so.took.done in
           read_event first bytes c.records.reader c.next.new.self c.records.replay.counts c.take_event.new.self.counts c.records.replay.checker c.take_event.new.self.checker (g.D.Disk.bytes c.records.lent.disk.now) (g.D.Disk.bytes c.take_event.new.disk)
-          (g.S.Source.left c.records.lent.trace.now) (g.S.Source.left c.next.new.source) (g.D.Disk.reads c.args.lent.now.disk.now) (g.D.Disk.reads c.records.lent.disk.now) (g.D.Disk.reads c.take_event.new.disk) c.in-Ok-Event.event
+          (g.S.Source.left c.records.lent.trace.now) (g.S.Source.left c.next.new.source) (g.D.Disk.reads c.args.lent.now.disk.now) (g.D.Disk.reads c.records.lent.disk.now) (g.D.Disk.reads c.take_event.new.disk)
+          c.args.lent.now.steps.now c.records.lent.steps.now c.take_event.new.steps c.in-Ok-Event.event
           so (at_event c.records.reader c.next.new.self (g.S.Source.left c.records.lent.trace.now) (g.S.Source.left c.next.new.source) c.in-Ok-Event.field-0 c.in-Ok-Event.event c.in-Ok-Event.field-0-is c.in-Ok-Event.ensures.told) next
-          (subst (λ t. MayStep s c.records.replay.counts c.in-Ok-Event.event t c.take_event.new.self.checker c.take_event.new.self.counts (g.D.Disk.bytes c.take_event.new.disk) (g.D.Disk.reads c.records.lent.disk.now) (g.D.Disk.reads c.take_event.new.disk))
+          (subst (λ t. MayStep s c.records.replay.counts c.in-Ok-Event.event t c.take_event.new.self.checker c.take_event.new.self.counts (g.D.Disk.bytes c.take_event.new.disk) (g.D.Disk.reads c.records.lent.disk.now) (g.D.Disk.reads c.take_event.new.disk)
+          c.records.lent.steps.now c.take_event.new.steps)
           c.in_default.is (turn.reads s so.took.stands so.took.image));
     }
 

@@ -36,7 +36,8 @@ invariant-records g l =
           Far l.fn.replay.style first bytes kept l.reader l.replay.counts l.replay.checker (disk.bytes l.lent.disk.now) (source.left l.lent.trace.now) (sink.kept l.lent.out.now);
       read : (first : MachineState) (bytes : List ℕ) → StandsFor l.fn.replay.checker first → disk.bytes l.fn.lent.disk.now ≡ Some first.image →
           source.left l.fn.lent.trace.now ≡ Some bytes →
-          ReadSoFar first bytes l.reader l.replay.counts l.replay.checker (disk.bytes l.lent.disk.now) (source.left l.lent.trace.now) (disk.reads l.fn.lent.disk.now) (disk.reads l.lent.disk.now);
+          ReadSoFar first bytes l.reader l.replay.counts l.replay.checker (disk.bytes l.lent.disk.now) (source.left l.lent.trace.now) (disk.reads l.fn.lent.disk.now) (disk.reads l.lent.disk.now)
+          l.fn.lent.steps.now l.lent.steps.now;
     }
 
 abbrev pub decreases-records : goal.decreases-records

@@ -19,6 +19,12 @@ returns-in-Ok-replay-clause-reads g c style form none image bytes told left lawf
     let same = c.in-Ok-replay.ensures.same in
     search rules
 
+pub returns-in-Ok-replay-clause-looks : goal.returns-in-Ok-replay-clause-looks
+returns-in-Ok-replay-clause-looks g c style form none image bytes told left lawful events ending spelled =
+    let run = c.in-Ok-replay.ensures.looks image bytes told lawful left none events ending spelled in
+    let same = c.in-Ok-replay.ensures.same in
+    search rules
+
 pub returns-in-None-clause-checked : goal.returns-in-None-clause-checked
 returns-in-None-clause-checked g c form = absurd (c.in-None.ensures Check form)
 

@@ -7,7 +7,7 @@ use Rattle.commit_judge.specs.Index.{IndexStands}
 use Rattle.recon_core.specs.Judged.{IsLeftOf}
 use Rattle.recon_core.specs.Moments.{IsFlushedAs, LeavesAfter}
 use Rattle.recon_core.specs.Sent.{IsAllOrPart, IsPlaceOf, LeavesBy}
-use Rattle.recon_core.proofs.Settling.{judges_err, left_passed, left_unsent, part_passed, passed_and, placed, reads_passed, reads_rejected, sent_passed, settled_passed, settled_rejected, stops_passed}
+use Rattle.recon_core.proofs.Settling.{judges_err, left_passed, left_unsent, looks_passed, looks_rejected, part_passed, passed_and, placed, reads_passed, reads_rejected, sent_passed, settled_passed, settled_rejected, stops_passed}
 use Rattle.recon_core.proofs.Moments.{leaves_none, still_at_rest}
 use Rattle.recon_core.proofs.judging.judge_waiting.Goals as goal
 
@@ -143,3 +143,12 @@ returns-in_ok-let_through-in-Passed-clause-stops g c =
 
 pub returns-in_ok-let_through-in-Passed-clause-rest : goal.returns-in_ok-let_through-in-Passed-clause-rest
 returns-in_ok-let_through-in-Passed-clause-rest g c = λ rest. c.in_ok-let_through-in-Passed.ensures.rest
+
+pub returns-in-Rejected-clause-looks : goal.returns-in-Rejected-clause-looks
+returns-in-Rejected-clause-looks g c =
+    looks_rejected (g.D.Disk.bytes c.args.disk.now) c.args.cache.now c.args.index.now c.args.steps.now c.judge_within.new.steps c.in-Rejected.finding
+
+pub returns-in_ok-let_through-in-Passed-clause-looks : goal.returns-in_ok-let_through-in-Passed-clause-looks
+returns-in_ok-let_through-in-Passed-clause-looks g c =
+    looks_passed (g.D.Disk.bytes c.args.disk.now) c.args.cache.now c.args.index.now c.in_ok-judged.judged c.args.steps.now c.judge_within.new.steps
+    c.in-Passed.generation c.in-Passed.blocks c.in-Passed.hot c.in-Passed.is c.in_ok-judged.ensures.looks

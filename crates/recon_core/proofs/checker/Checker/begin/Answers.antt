@@ -1,5 +1,5 @@
 use Rattle.std.proofs.Common.{ap, refl}
-use Rattle.recon_core.proofs.Steps.{begins_reads, begins_ready, begins_refused, built_from}
+use Rattle.recon_core.proofs.Steps.{begins_looks, begins_reads, begins_ready, begins_refused, built_from}
 use Rattle.recon_core.proofs.checker.Checker.begin.Goals as goal
 
 pub returns-in-Ok-Refused-clause-told : goal.returns-in-Ok-Refused-clause-told
@@ -27,3 +27,8 @@ returns-in-Ok-Ready-clause-reads g c =
     (built_from (g.D.Disk.bytes c.args.disk.now) (g.D.Disk.bytes c.length.new.self) (g.D.Disk.reads c.args.disk.now)
     (g.D.Disk.reads c.length.new.self) (g.D.Disk.reads c.build_within.new.disk) c.in-Ok-Ready.field-0
     c.length.ensures.bytes c.length.ensures.reads c.in-Ok-Ready.ensures.told)
+
+pub returns-in-Ok-Ready-clause-looks : goal.returns-in-Ok-Ready-clause-looks
+returns-in-Ok-Ready-clause-looks g c =
+    begins_looks (g.D.Disk.bytes c.args.disk.now) (g.D.Disk.bytes c.length.new.self) c.args.steps.now c.build_within.new.steps c.in-Ok-Ready.field-0
+    c.in-Ok-Ready.index c.in-Ok-Ready.field-0-is c.length.ensures.bytes c.in-Ok-Ready.ensures.looks

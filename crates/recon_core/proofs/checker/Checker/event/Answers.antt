@@ -3,11 +3,12 @@ use Rattle.std.proofs.Common.{IsSomeAnd}
 use Rattle.std.proofs.lemmas.Result.{on_err_weaker, on_ok_weaker}
 use Rattle.verdict.specs.Events.{begin_of, length_of, meets_superblock}
 use Rattle.verdict.specs.declared.machine.Stop.TheVariants.{DiskFault}
+use Rattle.recon_core.specs.Looks.{HasLooks, work_at}
 use Rattle.recon_core.specs.Machine.{machine_step}
 use Rattle.recon_core.specs.Moments.{IsFlushedAs, LeavesAfter}
 use Rattle.recon_core.specs.Standing.{Takes}
 use Rattle.recon_core.specs.Stops.{IsStopImage}
-use Rattle.recon_core.proofs.Steps.{at_err, below_after, below_held, takes_commit, stop_commit, takes_settle, stop_settle, takes_held, takes_fetch, with_ok, weaker, each_ok, reads_held, reads_judged, safe_by, stops_commit, stops_none, stops_settle}
+use Rattle.recon_core.proofs.Steps.{at_err, below_after, below_held, takes_commit, stop_commit, takes_settle, stop_settle, takes_held, takes_fetch, with_ok, weaker, each_ok, looks_commit, looks_none, looks_settle, reads_held, reads_judged, safe_by, stops_commit, stops_none, stops_settle}
 use Rattle.recon_core.proofs.checker.Checker.event.Goals as goal
 
 pub returns-then-meets_superblock-clause-step : goal.returns-then-meets_superblock-clause-step
@@ -95,6 +96,31 @@ returns-in-Settle-clause-reads g c state stands told =
 
 pub returns-in-Fetch-clause-reads : goal.returns-in-Fetch-clause-reads
 returns-in-Fetch-clause-reads g c state stands told = c.fetch.ensures.reads
+
+pub returns-then-meets_superblock-clause-looks : goal.returns-then-meets_superblock-clause-looks
+returns-then-meets_superblock-clause-looks g c state stands told =
+    let n : c.range-at.result.1 ≡ length c.in-Write.bytes = c.range-at.ensures.len ∙ ap length_of c.in-Write.is in
+    let meets : meets_superblock c.in-Write.at (length c.in-Write.bytes) ≡ true =
+    ap (meets_superblock c.in-Write.at) (sym n) ∙ sym c.meets_superblock.ensures ∙ c.if-meets_superblock.true in
+    each_ok c.commit.result (λ answer looks.
+    subst (λ e. HasLooks answer (work_at state e) c.args.steps.now c.commit.new.steps) (sym c.in-Write.is)
+    (looks_commit c.args.self.now state c.in-Write.submitter c.in-Write.at c.in-Write.bytes answer (g.D.Disk.bytes c.args.disk.now) c.args.steps.now
+    c.commit.new.steps stands told meets looks)) c.commit.ensures.looks
+
+pub returns-else-meets_superblock-clause-looks : goal.returns-else-meets_superblock-clause-looks
+returns-else-meets_superblock-clause-looks g c state stands told =
+    each_ok c.hold.result (λ answer is. looks_none answer _ c.args.steps.now) c.hold.ensures.answer
+
+pub returns-in-Settle-clause-looks : goal.returns-in-Settle-clause-looks
+returns-in-Settle-clause-looks g c state stands told =
+    each_ok c.settle.result (λ answer looks.
+    subst (λ e. HasLooks answer (work_at state e) c.args.steps.now c.settle.new.steps) (sym c.in-Settle.is)
+    (looks_settle c.args.self.now state answer (g.D.Disk.bytes c.args.disk.now) c.args.steps.now c.settle.new.steps stands told looks))
+    c.settle.ensures.looks
+
+pub returns-in-Fetch-clause-looks : goal.returns-in-Fetch-clause-looks
+returns-in-Fetch-clause-looks g c state stands told =
+    each_ok c.fetch.result (λ answer reads. looks_none answer _ c.args.steps.now) c.fetch.ensures.reads
 
 pub returns-then-meets_superblock-clause-stops : goal.returns-then-meets_superblock-clause-stops
 returns-then-meets_superblock-clause-stops g c state stands told none =
