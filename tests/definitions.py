@@ -8,14 +8,15 @@ Usage: definitions.py            prints the list
 It begins at the imports of crates/recon_cli/src/run.rt, where `recon_run` and its contract stand, and follows each
 `use Rattle.CRATE.specs.FILE` into crates/CRATE/specs/FILE.antt, whose imports it follows too. A type of the code, which
 is imported as `specs.declared.FILE.TYPE`, is listed by its name. What no crate of the repository has, as `std`, comes
-with the toolchain. What only `make` needs is listed apart."""
+with the toolchain. What only `make` needs is listed apart, and so is what only the clause `looks` of a replay needs."""
 import collections
 import os
 import re
 import sys
 import textwrap
 
-DOCUMENT, ROOT_FILE, MAKE = 'docs/proof.md', 'crates/recon_cli/src/run.rt', ('recon_cli', ('Making',))
+DOCUMENT, ROOT_FILE = 'docs/proof.md', 'crates/recon_cli/src/run.rt'
+APART = [('For `make` besides', ('recon_cli', ('Making',))), ('For the clause `looks` of a replay besides', ('recon_cli', ('Looks',)))]
 BEGIN, END = '<!-- made by tests/definitions.py --write -->', '<!-- end of what is made -->'
 IMPORT = re.compile(r'use Rattle\.(\w+)\.specs\.(\w+(?:\.\w+)*)')
 
@@ -87,13 +88,18 @@ def made():
         order = [line.split(':')[0] for line in crates if not line.startswith('#')]
     with open(ROOT_FILE) as source:
         begin = imports(source.read())
-    if MAKE not in begin:
-        raise SystemExit(f'tests/definitions.py: {ROOT_FILE} no longer imports {MAKE[0]}.specs.{MAKE[1][0]}')
-    files, types, _ = reached(one for one in begin if one != MAKE)
-    all_files, all_types, others = reached(begin)
-    more = {name: lines for name, lines in all_files.items() if name not in files}
+    for _, one in APART:
+        if one not in begin:
+            raise SystemExit(f'tests/definitions.py: {ROOT_FILE} no longer imports {one[0]}.specs.{one[1][0]}')
+    begin = [one for one in begin if one not in {one for _, one in APART}]
+    files, types, others = reached(begin)
     lines = listed('For `check` and `replay`', files, types, order)
-    lines += listed('For `make` besides', more, all_types - types, order)
+    for title, one in APART:
+        begin.append(one)
+        all_files, all_types, others = reached(begin)
+        more = {name: lines for name, lines in all_files.items() if name not in files}
+        lines += listed(title, more, all_types - types, order)
+        files, types = all_files, all_types
     lines += ['', *wrapped(f'Of the toolchain: {", ".join(f"`{crate}`" for crate in sorted(others))}.'), '']
     return '\n'.join(lines)
 
