@@ -274,9 +274,9 @@ module _ (laws : Laws) (image : List ℕ) (pending : FinMap nat_cmp ℕ) (k : Kn
       by span has is = elim (cases_lt 0 span.sectors) [
         | inl some ↦ inl (named_left (old_postings image pending old new) (new_postings image pending old new) span (housed.reached span has is some))
         | inr none ↦ inr (and_from (span.sectors == 0) (is_reached old.chunks new.chunks span)
-        (eq-eqb span.sectors 0 (omega (arith, none)))
-        (subst (λ (m : List Chunk). is_reached old.chunks m span ≡ true) map_is
-        (subst (λ (m : List Chunk). is_reached m c.change.map span ≡ true) was_is.chunks is)))
+            (eq-eqb span.sectors 0 (omega (arith, none)))
+            (subst (λ (m : List Chunk). is_reached old.chunks m span ≡ true) map_is
+            (subst (λ (m : List Chunk). is_reached m c.change.map span ≡ true) was_is.chunks is)))
       ]
 
   turned : count_by (is_turned k.free (flags_after c.change.old_items.items c.change.new_items.items c.changes k.free)) (spans_in old)
