@@ -12,8 +12,9 @@ line, else with 0.
 import argparse
 import json
 import os
+import signal
 import sys
-import time
+import threading
 from datetime import datetime, timedelta
 from html import escape
 
@@ -171,7 +172,19 @@ def draw(name, watch):
         out.write(picture(watch.minutes, watch.rejections))
 
 
-def follow(events, watch, words):
+def interrupted():
+    """What an interrupt sets. A row that is being printed is finished first; a second interrupt ends the program at once."""
+    stop = threading.Event()
+
+    def at_once(number, frame):
+        signal.signal(signal.SIGINT, signal.SIG_DFL)
+        stop.set()
+
+    signal.signal(signal.SIGINT, at_once)
+    return stop
+
+
+def follow(events, watch, words, stop):
     """Shows and draws the events that are there, and until an interrupt those that come."""
     drawn = None
     while True:
@@ -182,9 +195,8 @@ def follow(events, watch, words):
         if words.plot and now != drawn:
             draw(words.plot, watch)
             drawn = now
-        if words.once:
+        if words.once or stop.wait(1):
             return
-        time.sleep(1)
 
 
 def main():
@@ -197,9 +209,9 @@ def main():
         events, watch = Events(words.file), Watch()
         if words.plot and os.path.exists(words.plot) and os.path.samefile(words.file, words.plot):
             sys.exit(f'watch: {words.plot} is the file of the events itself')
-        try:
-            follow(events, watch, words)
-        except KeyboardInterrupt:
+        stop = interrupted()
+        follow(events, watch, words, stop)
+        if stop.is_set():
             print()
         watch.close(events, words.file)
         sys.stdout.flush()
