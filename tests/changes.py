@@ -248,13 +248,17 @@ def place_above(live):
     return live.parent, live.last
 
 
-class Difference:
-    """What changes from an accepted image to a new one, whose first finding it raises."""
+def differing(old, new):
+    """Of each sector, whether an image has it otherwise than one before."""
+    return [old[at:at + SECTOR] != new[at:at + SECTOR] for at in range(0, len(old), SECTOR)]
 
-    def __init__(self, old, new):
-        self.old, self.new = Image(old), Image(new)
-        self.end, size = len(old), self.old.sup.nodesize
-        self.written = [old[at:at + SECTOR] != new[at:at + SECTOR] for at in range(0, self.end, SECTOR)]
+
+class Difference:
+    """What changes from an accepted image to a new one, by the sectors that are written between them."""
+
+    def __init__(self, old, new, written):
+        self.old, self.new, self.written = old, new, written
+        self.end, size = len(new.data), old.sup.nodesize
         a, b = self.old.sup, self.new.sup
         alike = (a.fsid, size, a.incompat, a.compat_ro, a.devid) == (b.fsid, b.nodesize, b.incompat, b.compat_ro, b.devid)
         self.shared = set()
@@ -550,7 +554,7 @@ class Runs:
         if not first.startswith(says):
             self.fail(row, f'the program says {first!r}, not {says!r}')
         try:
-            difference = Difference(old, new)
+            difference = Difference(Image(old), Image(new), differing(old, new))
         except Found as found:
             self.found[first.split()[1]] += 1
             if (first, got) != (str(found), []):
@@ -1142,26 +1146,31 @@ def randoms(runs, count, first=0):
 
 # Recorded commits.
 
-def writes_of(trace):
-    """The writes of a trace: their places on the device and their bytes."""
+def records_of(trace):
+    """The records of a trace: their tags, and the places on the device and the bytes of writes."""
     at = len(made.HEADER)
     while trace[at] != 255:
-        tag, size = trace[at], 0
+        tag, place, data = trace[at], 0, b''
         if tag == 1:
             place, size = struct.unpack_from('<QI', trace, at + 3)
-            yield place, trace[at + 15:at + 15 + size]
-        at += {1: 15, 2: 1, 3: 13}[tag] + size
+            data = trace[at + 15:at + 15 + size]
+        yield tag, place, data
+        at += {1: 15, 2: 1, 3: 13}[tag] + len(data)
+
+
+def recorded(directory):
+    """The names, images and traces of a directory: NAME.img.xz with NAME.trace.xz."""
+    for path in sorted(glob.glob(os.path.join(glob.escape(directory), '*.trace.xz'))):
+        with lzma.open(path) as trace, lzma.open(path[:-len('.trace.xz')] + '.img.xz') as image:
+            yield os.path.basename(path)[:-len('.trace.xz')], image.read(), trace.read()
 
 
 def real(runs, directory):
-    for path in sorted(glob.glob(os.path.join(glob.escape(directory), '*.trace.xz'))):
-        name = os.path.basename(path)[:-len('.trace.xz')]
-        with lzma.open(path) as trace, lzma.open(path[:-len('.trace.xz')] + '.img.xz') as image:
-            trace, old = trace.read(), image.read()
+    for name, old, trace in recorded(directory):
         new, commits = bytearray(old), 0
-        for place, data in writes_of(trace):
+        for tag, place, data in records_of(trace):
             new[place:place + len(data)] = data
-            if place < SUPERBLOCK + 4096 and place + len(data) > SUPERBLOCK:
+            if tag == 1 and place < SUPERBLOCK + 4096 and place + len(data) > SUPERBLOCK:
                 commits += 1
                 runs.check(f'commit {commits} of {name}', old, new)
                 old = bytes(new)
