@@ -164,8 +164,8 @@ class Side:
         self.image = changes.Image(data)
         self.items = [(pair[0], key, item, pair) for pair, one in self.image.blocks.items() for key, item in one.items]
         self.context = Context(self.image, self.items)
-        found = [(span(tree, key, item, self.context), tree) for tree, key, item, _ in self.items]
-        self.spans = [(*one, tree) for one, tree in found if one]
+        found = [span(tree, key, item, self.context) for tree, key, item, _ in self.items]
+        self.spans = [one for one in found if one]
 
     def start(self):
         """The work of a start."""
@@ -176,14 +176,6 @@ class Side:
 def entries(blocks):
     """How many pointers and items are in blocks."""
     return sum(len(one.items) + len(one.below) for one in blocks)
-
-
-def is_empty_and_reached(one, olds, news):
-    """Whether a span has no sector, and the old chunk where it lies is not kept."""
-    at, found, _, tree = one
-    old = home(olds, at, 0) if len(found) == 0 and tree != 7 else None
-    new = old and home(news, old.start, old.length)
-    return old is not None and (new is None or old[:3] != new[:3])
 
 
 def maximal_runs(ranges):
@@ -209,8 +201,8 @@ def work(old, new, difference, pending):
                 met.update(found)
     turned = before.free ^ after.free
     for side in old, new:
-        total += sum(not met.isdisjoint(found) for _, found, _, _ in side.spans) + sum(ino in turned for _, _, ino, _ in side.spans)
-    return total + sum(is_empty_and_reached(one, before.chunks, after.chunks) for one in old.spans)
+        total += sum(not met.isdisjoint(found) for _, found, _ in side.spans) + sum(ino in turned for _, _, ino in side.spans)
+    return total
 
 
 # The runs.

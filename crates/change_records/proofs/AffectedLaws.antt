@@ -76,23 +76,23 @@ range_ref one range lawful =
     let e2 = lawful.kind in
     (λ i. record { tree = one.tree; key = e1 i }) ∙ (λ i. record { tree = one.tree; key = record { objectid = range.key.objectid; kind = e2 i; offset = range.key.offset } })
 
-extent_to : (n : ℕ) (pairs : Pairs) (one : Located) (item : ExtentFields) (at : ItemRef) (d : Bool) → is_data item ≡ d → IsLawfulExtent n one item
+pub extent_to : (n : ℕ) (pairs : Pairs) (one : Located) (item : ExtentFields) (at : ItemRef) (d : Bool) → is_data item ≡ d → IsLawfulExtent n one item
     → NamesIn pairs one (ExtentPart item) at → SortNames pairs item.key.objectid (cond (is_data item) item.key.offset n / 4096) (Owned d) at
 extent_to n pairs one item at true e lawful names = names.0 e ∙ data_ref n one item lawful e
 extent_to n pairs one item at false e lawful names = names.1 e
 
-extent_back : (n : ℕ) (pairs : Pairs) (one : Located) (item : ExtentFields) (at : ItemRef) (d : Bool) → is_data item ≡ d → IsLawfulExtent n one item
+pub extent_back : (n : ℕ) (pairs : Pairs) (one : Located) (item : ExtentFields) (at : ItemRef) (d : Bool) → is_data item ≡ d → IsLawfulExtent n one item
     → SortNames pairs item.key.objectid (cond (is_data item) item.key.offset n / 4096) (Owned d) at → NamesIn pairs one (ExtentPart item) at
 extent_back n pairs one item at true e lawful names = (λ of_data. names ∙ sym (data_ref n one item lawful e), λ unlike. absurd (let both : true ≡ false = sym e ∙ unlike in cc))
 extent_back n pairs one item at false e lawful names = (λ of_data. absurd (let both : true ≡ false = sym of_data ∙ e in cc), λ unlike. names)
 
-written_to : (pairs : Pairs) (one : Located) (range : FileExtent) (at : ItemRef) (span : Span) (b : Bool) → is_written range ≡ b
+pub written_to : (pairs : Pairs) (one : Located) (range : FileExtent) (at : ItemRef) (span : Span) (b : Bool) → is_written range ≡ b
     → cond b (Some (shown_span one.tree range)) None ≡ Some span → (is_written range ≡ true → IsLawfulRange one range) → at ≡ ref_to one.tree one.key → SpanNames pairs span at
 written_to pairs one range at span false written is lawful name = absurd (cc)
 written_to pairs one range at span true written is lawful name =
     subst (λ s. SpanNames pairs s at) (one_span (shown_span one.tree range) span is) (name ∙ range_ref one range (lawful written))
 
-written_back : (pairs : Pairs) (one : Located) (range : FileExtent) (at : ItemRef) (span : Span) (b : Bool) → is_written range ≡ b
+pub written_back : (pairs : Pairs) (one : Located) (range : FileExtent) (at : ItemRef) (span : Span) (b : Bool) → is_written range ≡ b
     → cond b (Some (shown_span one.tree range)) None ≡ Some span → (is_written range ≡ true → IsLawfulRange one range) → SpanNames pairs span at → at ≡ ref_to one.tree one.key
 written_back pairs one range at span false written is lawful name = absurd (cc)
 written_back pairs one range at span true written is lawful name =

@@ -58,7 +58,8 @@ apart_holder chunks a n k m d apart some small within first second =
     let between : (get_or chunks k d).start + (get_or chunks k d).length ≤ (get_or chunks m d).start = apart k m d small within in
     omega (arith, high, low, between, some)
 
-one_holder : (chunks : List Chunk) (a n : ℕ) (c d : Chunk) → StandApart chunks → 0 < n → IsHolder chunks a n c → IsHolder chunks a n d → c ≡ d
+-- and of a range that is not empty there is one such chunk
+pub one_holder : (chunks : List Chunk) (a n : ℕ) (c d : Chunk) → StandApart chunks → 0 < n → IsHolder chunks a n c → IsHolder chunks a n d → c ≡ d
 one_holder chunks a n c d apart some first second = elim (cases_order first.among.0 second.among.0) [
   | inl same ↦
       sym first.among.2 ∙ get_or_default chunks first.among.0 c d first.among.1 ∙ ap (λ i. get_or chunks i d) same ∙ second.among.2

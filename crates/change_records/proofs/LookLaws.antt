@@ -1,12 +1,12 @@
 -- How often a search of spans looks, pass by pass.
-use Rattle.std.proofs.Common.{◌≡◌, ℕ, ◌+◌, ◌<◌, ◌≤◌, Bool, true, false, cond, not, ◌&&◌, List, [], ◌∷◌, get_or, length, take, refl, ap, subst, arith}
-use Rattle.std.specs.Prelude.{Option, Some, None, nat_lt}
-use Rattle.std.specs.List.{count_by, sum_by}
+use Rattle.std.proofs.Common.{◌≡◌, ℕ, ◌+◌, ◌<◌, ◌≤◌, Bool, true, false, cond, not, ◌&&◌, ◌||◌, List, [], ◌∷◌, get_or, length, take, max, refl, ap, subst, arith, inl, inr}
+use Rattle.std.specs.Prelude.{◌==◌, Option, Some, None, nat_lt}
+use Rattle.std.specs.List.{count_by, list_any, sum_by}
 use Rattle.std.specs.Ordering.{is_eq, is_lt}
 use Rattle.std.specs.declared.cmp.Ordering.{Ordering}
 use Rattle.std.specs.declared.cmp.Ordering.TheVariants.{Less, Equal, Greater}
 use Rattle.std.specs.Cmp.{tied_itself}
-use Rattle.std.proofs.lemmas.Bool.{and_from, and_parts, both_ways}
+use Rattle.std.proofs.lemmas.Bool.{and_from, and_parts, both_ways, eqb-true, lt-ltb, ltb-true, or_cases}
 use Rattle.std.proofs.lemmas.Bool.Decides.{nat_tests}
 use Rattle.std.proofs.lemmas.List.Sums.{sum_by-cons, sum_by-le-sum_by, sum_by-take-le, sum_by_more, sum_by_more_le}
 use Rattle.verdict.specs.declared.place.Chunk.{Chunk}
@@ -15,13 +15,13 @@ use Rattle.span_index.specs.OrderLaws.{span_exact, span_total}
 use Rattle.span_index.specs.Spans.{IsMeeting, IsNextShown, Table, end_of, is_above, is_behind, is_met, is_sort, offset_of}
 use Rattle.span_index.specs.declared.span.Span.{Span}
 use Rattle.span_index.specs.declared.span.SortName.{SortName}
-use Rattle.span_index.specs.declared.span.SortName.TheVariants.{Owned as OwnedName, Shown as ShownName}
+use Rattle.span_index.specs.declared.span.SortName.TheVariants.{Owned as OwnedName, Summed as SummedName, Shown as ShownName}
 use Rattle.span_index.specs.declared.span.SpanSort.{SpanSort}
 use Rattle.span_index.specs.declared.span.SpanSort.TheVariants.{Owned, Summed, Shown}
 use Rattle.change_records.specs.declared.kept.Inode.{Inode}
-use Rattle.change_records.specs.Looks.{is_of_extent}
-use Rattle.change_records.specs.Passes.{AreSpansOf, chunk_looks, chunks_looks, inode_looks, inodes_looks, is_other, is_shown, meets, overlaps}
-use Rattle.change_records.proofs.SearchLaws.{shown_too}
+use Rattle.change_records.specs.Looks.{is_empty_shown, is_of_extent, stands_for}
+use Rattle.change_records.specs.Passes.{AreSpansOf, AreStopsOf, chunk_looks, chunks_looks, inode_looks, inodes_looks, is_other, is_shown, meets, overlaps}
+use Rattle.change_records.proofs.SearchLaws.{BeginsBy, below_first, is_ahead, shown_too}
 
 -- ---- sums
 
@@ -69,7 +69,7 @@ less_by Less e = refl
 less_by Equal e = absurd (cc)
 less_by Greater e = absurd (cc)
 
-same_is : (x y : Span) → is_same x y ≡ true → x ≡ y
+pub same_is : (x y : Span) → is_same x y ≡ true → x ≡ y
 unfolding is_same
 same_is x y e = span_exact x y (equal_by (span_cmp x y) e)
 
@@ -84,8 +84,8 @@ below_trans x y z a b = ap is_lt (span_total.trans x y z (less_by (span_cmp x y)
 -- ---- a pass over the spans that a range meets
 
 -- whether a pass has come by a span
-unfoldable pub is_passed : SortName → ℕ → ℕ → Option Span → Span → Bool
-is_passed sort from until after span = overlaps sort from until span && not (is_above after span)
+unfoldable pub is_passed : SortName → ℕ → ℕ → ℕ → Option Span → Span → Bool
+is_passed sort from until now after span = overlaps sort from until span && not (is_ahead now after span)
 
 -- one that comes after a passed one is passed too
 two_tests : (p s q : Bool) → (p ≡ true → s ≡ true → ⊥) → (p ≡ true → q ≡ true) → (s ≡ true → q ≡ true) → cond {A = ℕ} p 1 0 + cond s 1 0 ≤ cond q 1 0
@@ -98,48 +98,142 @@ not_true : (b : Bool) → not b ≡ true → b ≡ false
 not_true true e = absurd (cc)
 not_true false e = refl
 
-still_past : (after : Option Span) (next x : Span) → is_above after next ≡ true → is_above after x ≡ false → is_below next x ≡ false
-still_past None next x above past = absurd (cc)
-still_past (Some a) next x above past = by (is_below next x) refl
+some_here : {X : Type 0} (f : X → Bool) (x : X) (xs : List X) (b : Bool) → f x ≡ b → (b || list_any f xs) ≡ true
+    → (list_any f xs ≡ true → 0 < count_by f xs) → 0 < count_by f (x ∷ xs)
+some_here f x xs true here any more =
+    let whole : count_by f (x ∷ xs) ≡ cond (f x) 1 0 + count_by f xs = sum_by-cons (λ y. cond (f y) 1 0) x xs in
+    let one : cond {A = ℕ} (f x) 1 0 ≡ 1 = ap (λ z. cond z 1 0) here in
+    omega (arith, whole, one)
+some_here f x xs false here any more =
+    let whole : count_by f (x ∷ xs) ≡ cond (f x) 1 0 + count_by f xs = sum_by-cons (λ y. cond (f y) 1 0) x xs in
+    let rest = more any in
+    omega (arith, whole, rest)
+
+some_counted : {X : Type 0} (f : X → Bool) (xs : List X) → list_any f xs ≡ true → 0 < count_by f xs
+some_counted f [] is = absurd (cc)
+some_counted f (x ∷ xs) is = some_here f x xs (f x) refl is (some_counted f xs)
+
+-- a span of no sector that is shown is of the sort of another
+shown_sort : (sort : SortName) (x y : SpanSort) → is_sort sort x ≡ true → is_sort ShownName x ≡ true → is_sort ShownName y ≡ true → is_sort sort y ≡ true
+shown_sort sort (Owned d) y is shown other = absurd (cc)
+shown_sort sort Summed y is shown other = absurd (cc)
+shown_sort sort (Shown t i o e l) (Owned d) is shown other = absurd (cc)
+shown_sort sort (Shown t i o e l) Summed is shown other = absurd (cc)
+shown_sort OwnedName (Shown t i o e l) (Shown t' i' o' e' l') is shown other = absurd (cc)
+shown_sort SummedName (Shown t i o e l) (Shown t' i' o' e' l') is shown other = absurd (cc)
+shown_sort ShownName (Shown t i o e l) (Shown t' i' o' e' l') is shown other = refl
+
+-- what is behind the next one is behind the last one too
+onward : (now : ℕ) (after : Option Span) (next x : Span) → is_above after next ≡ true → is_ahead (max now next.first) (Some next) x ≡ true
+    → is_ahead now after x ≡ true
+onward now after next x above ahead =
+    let both = and_parts (nat_lt (max now next.first) (end_of x)) (is_below next x) ahead in
+    let ends : max now next.first < end_of x = ltb-true _ _ both.0 in
+    and_from _ _ (lt-ltb now (end_of x) (omega (arith, ends))) (by after above both.1)
   where
-    by : (b : Bool) → is_below next x ≡ b → is_below next x ≡ false
-    by true e = absurd (both_ways _ past (below_trans a next x above e))
-    by false e = e
+    by : (after : Option Span) → is_above after next ≡ true → is_below next x ≡ true → is_above after x ≡ true
+    by None first second = refl
+    by (Some a) first second = below_trans a next x first second
 
-module _ (table : Table) (all : List Span) (are : AreSpansOf table all) (sort : SortName) (from until : ℕ) where
-  pub passed_none : count_by (is_passed sort from until None) all ≡ 0
-  unfolding is_passed
-  passed_none = count_none (is_passed sort from until None) all (λ x. by (overlaps sort from until x))
+module _ (table : Table) (stops : List Span) (are : AreStopsOf table stops) (sort : SortName) (from until : ℕ) where
+  pub passed_none : count_by (is_passed sort from until from None) stops ≡ 0
+  unfolding is_passed overlaps
+  passed_none =
+      count_none (is_passed sort from until from None) stops (λ x. by (is_sort sort x.sort) (nat_lt from (end_of x)) (nat_lt x.first until))
     where
-      by : (b : Bool) → (b && false) ≡ false
-      by true = refl
-      by false = refl
+      by : (s b c : Bool) → ((s && (b && c)) && not (b && true)) ≡ false
+      by true true true = refl
+      by true true false = refl
+      by true false c = refl
+      by false b c = refl
 
-  -- the pass comes by one more
-  pub passed_more : (after : Option Span) (next : Span) → IsMeeting table sort from after (Some next) → next.first < until
-      → count_by (is_passed sort from until after) all + 1 ≤ count_by (is_passed sort from until (Some next)) all
-  unfolding is_passed is_met overlaps
-  passed_more after next least begins =
-      let met = and_parts (is_sort sort next.sort) (nat_lt from (end_of next) && is_above after next) least.1 in
-      let ends = and_parts (nat_lt from (end_of next)) (is_above after next) met.1 in
-      let before : nat_lt next.first until ≡ true = grind (arith, nat_tests) in
-      let reach : (is_sort sort next.sort && (nat_lt from (end_of next) && nat_lt next.first until)) ≡ true = and_from _ _ met.0 (and_from _ _ ends.0 before) in
-      let here : is_passed sort from until (Some next) next ≡ true = and_from _ _ reach (ap not (below_itself next)) in
-      let stands : 0 < table next = least.0 in
-      let times : table next ≡ count_by (is_same next) all = are next in
-      let two = count_two (is_passed sort from until after) (is_same next) (is_passed sort from until (Some next)) all
-      (λ x. two_tests (is_passed sort from until after x) (is_same next x) (is_passed sort from until (Some next) x)
-      (λ p s. (let past = and_parts (overlaps sort from until x) (not (is_above after x)) p in
-      both_ways (is_above after x) (not_true _ past.1) (subst (λ y. is_above after y ≡ true) (same_is next x s) ends.1)))
-      (λ p. (let past = and_parts (overlaps sort from until x) (not (is_above after x)) p in
-      and_from _ _ past.0 (ap not (still_past after next x ends.1 (not_true _ past.1)))))
-      (λ s. subst (λ y. is_passed sort from until (Some next) y ≡ true) (same_is next x s) here)) in
-      omega (arith, two, times, stands)
+  module _ (now : ℕ) (after : Option Span) (next : Span) (least : IsMeeting table sort now after (Some next)) (begins : next.first < until)
+      (low : from ≤ now) (behind : BeginsBy now after) where
+    -- what stands for the next one lies before the pass, and then behind it
+    record Comes (x : Span) : Type 0 where
+      reach : overlaps sort from until x ≡ true
+      before : is_ahead now after x ≡ true
+      then : is_ahead (max now next.first) (Some next) x ≡ false
 
-  pub passed_most : (after : Option Span) → count_by (is_passed sort from until after) all ≤ count_by (overlaps sort from until) all
+    its : (is_sort sort next.sort ≡ true) × (now < end_of next) × (is_above after next ≡ true)
+    unfolding is_met
+    its =
+        let met = and_parts (is_sort sort next.sort) (nat_lt now (end_of next) && is_above after next) least.1 in
+        let ends = and_parts (nat_lt now (end_of next)) (is_above after next) met.1 in
+        (met.0, ltb-true now (end_of next) ends.0, ends.1)
+
+    itself : Comes next
+    unfolding overlaps
+    itself = record {
+      reach = and_from _ _ its.0 (and_from _ _ (lt-ltb from (end_of next) (omega (arith, low, its.1))) (lt-ltb next.first until begins));
+      before = and_from _ _ (lt-ltb now (end_of next) its.1) its.2;
+      then = none (nat_lt (max now next.first) (end_of next));
+    }
+      where
+        none : (b : Bool) → (b && is_below next next) ≡ false
+        none true = below_itself next
+        none false = refl
+
+    other : (x : Span) → is_empty_shown next ≡ true → is_empty_shown x ≡ true → (next.first == x.first) ≡ true → Comes x
+    unfolding overlaps
+    other x empty its_empty here =
+        let one = and_parts (is_sort ShownName next.sort) (next.sectors == 0) empty in
+        let two = and_parts (is_sort ShownName x.sort) (x.sectors == 0) its_empty in
+        let none : next.sectors ≡ 0 = eqb-true _ _ one.1 in
+        let its_none : x.sectors ≡ 0 = eqb-true _ _ two.1 in
+        let at : next.first ≡ x.first = eqb-true _ _ here in
+        let ends : now < end_of x = omega (arith, its.1, none, its_none, at) in
+        record {
+          reach = and_from _ _ (shown_sort sort next.sort x.sort its.0 one.0 two.0)
+              (and_from _ _ (lt-ltb from (end_of x) (omega (arith, low, ends))) (lt-ltb x.first until (omega (arith, begins, at))));
+          before = and_from _ _ (lt-ltb now (end_of x) ends) (by after behind x (omega (arith, ends, its_none)));
+          then = left (nat_lt (max now next.first) (end_of x)) (not_less (max now next.first) (end_of x) (omega (arith, at, its_none)));
+        }
+      where
+        by : (after : Option Span) → BeginsBy now after → (x : Span) → now < x.first → is_above after x ≡ true
+        by None behind x less = refl
+        by (Some a) behind x less = below_first a x (omega (arith, behind, less))
+
+        not_less : (a b : ℕ) → b ≤ a → nat_lt a b ≡ false
+        not_less a b is = grind (arith, nat_tests)
+
+        left : (b : Bool) → b ≡ false → (b && is_below next x) ≡ false
+        left true is = absurd (cc)
+        left false is = refl
+
+    comes : (x : Span) → stands_for next x ≡ true → Comes x
+    unfolding stands_for
+    comes x is = elim (or_cases (is_same next x) (is_empty_shown next && (is_empty_shown x && next.first == x.first)) is) [
+      | inl same ↦ subst Comes (same_is next x same) itself
+      | inr place ↦
+          let one = and_parts (is_empty_shown next) (is_empty_shown x && next.first == x.first) place in
+          let two = and_parts (is_empty_shown x) (next.first == x.first) one.1 in
+          other x one.0 two.0 two.1
+    ]
+
+    -- the pass comes by one more
+    pub passed_more : count_by (is_passed sort from until now after) stops + 1 ≤ count_by (is_passed sort from until (max now next.first) (Some next)) stops
+    unfolding is_passed
+    passed_more =
+        let some = some_counted (stands_for next) stops (are next least.0) in
+        let two = count_two (is_passed sort from until now after) (stands_for next) (is_passed sort from until (max now next.first) (Some next)) stops
+        (λ x. two_tests (is_passed sort from until now after x) (stands_for next x) (is_passed sort from until (max now next.first) (Some next) x)
+        (λ p s. (let past = and_parts (overlaps sort from until x) (not (is_ahead now after x)) p in
+        both_ways (is_ahead now after x) (not_true _ past.1) (comes x s).before))
+        (λ p. (let past = and_parts (overlaps sort from until x) (not (is_ahead now after x)) p in
+        and_from _ _ past.0 (ap not (still x (not_true _ past.1) (is_ahead (max now next.first) (Some next) x) refl))))
+        (λ s. and_from _ _ (comes x s).reach (ap not (comes x s).then))) in
+        omega (arith, two, some)
+      where
+        still : (x : Span) → is_ahead now after x ≡ false → (b : Bool) → is_ahead (max now next.first) (Some next) x ≡ b
+            → is_ahead (max now next.first) (Some next) x ≡ false
+        still x past true ahead = absurd (both_ways _ past (onward now after next x its.2 ahead))
+        still x past false ahead = ahead
+
+  pub passed_most : (now : ℕ) (after : Option Span) → count_by (is_passed sort from until now after) stops ≤ count_by (overlaps sort from until) stops
   unfolding is_passed
-  passed_most after = count_le (is_passed sort from until after) (overlaps sort from until) all
-      (λ x p. (and_parts (overlaps sort from until x) (not (is_above after x)) p).0)
+  passed_most now after = count_le (is_passed sort from until now after) (overlaps sort from until) stops
+      (λ x p. (and_parts (overlaps sort from until x) (not (is_ahead now after x)) p).0)
 
 -- ---- a pass over what an inode shows
 
@@ -200,11 +294,11 @@ within chunk until span small both =
     let later : nat_lt span.first (chunk.start + chunk.length) ≡ true = grind (arith, nat_tests) in
     and_from _ _ parts.0 later
 
-pub both_sorts : (all : List Span) (chunk : Chunk) (until : ℕ) → until ≤ chunk.start + chunk.length
-    → count_by (overlaps OwnedName chunk.start until) all + count_by (overlaps ShownName chunk.start until) all ≤ count_by (meets chunk) all
+pub both_sorts : (stops : List Span) (chunk : Chunk) (until : ℕ) → until ≤ chunk.start + chunk.length
+    → count_by (overlaps OwnedName chunk.start until) stops + count_by (overlaps ShownName chunk.start until) stops ≤ count_by (meets chunk) stops
 unfolding overlaps meets
-both_sorts all chunk until small =
-    count_two (overlaps OwnedName chunk.start until) (overlaps ShownName chunk.start until) (meets chunk) all
+both_sorts stops chunk until small =
+    count_two (overlaps OwnedName chunk.start until) (overlaps ShownName chunk.start until) (meets chunk) stops
     (λ x. sort_tests x.sort _ _ _ (within chunk until x small) (within chunk until x small))
 
 -- ---- the chunks and the inodes of a list, one after the other
@@ -226,29 +320,29 @@ module _ {X : Type 0} (f : X → ℕ) (xs : List X) (i : ℕ) (before now : ℕ)
 where_true : (b : Bool) (n m looked : ℕ) → b ≡ true → looked ≤ m + n → looked ≤ m + cond b n 0
 where_true b n m looked is le = let same : cond b n 0 ≡ n = ap (λ z. cond z n 0) is in omega (arith, le, same)
 
-module _ (searched : Chunk → Bool) (all : List Span) (chunks : List Chunk) (i : ℕ) (before now : ℕ) (had : now ≤ before + chunks_looks searched all (take i chunks)) where
-  pub chunks_all : now ≤ before + chunks_looks searched all chunks
+module _ (searched : Chunk → Bool) (stops : List Span) (chunks : List Chunk) (i : ℕ) (before now : ℕ) (had : now ≤ before + chunks_looks searched stops (take i chunks)) where
+  pub chunks_all : now ≤ before + chunks_looks searched stops chunks
   unfolding chunks_looks
-  chunks_all = all_looks (λ c. cond (searched c) (chunk_looks all c) 0) chunks i before now had
+  chunks_all = all_looks (λ c. cond (searched c) (chunk_looks stops c) 0) chunks i before now had
 
   module _ (d : Chunk) (small : i < length chunks) where
-    pub chunks_skip : searched (get_or chunks i d) ≡ false → now ≤ before + chunks_looks searched all (take (i + 1) chunks)
+    pub chunks_skip : searched (get_or chunks i d) ≡ false → now ≤ before + chunks_looks searched stops (take (i + 1) chunks)
     unfolding chunks_looks
     chunks_skip is =
-        none_more (λ c. cond (searched c) (chunk_looks all c) 0) chunks i before now had d small (ap (λ b. cond b (chunk_looks all (get_or chunks i d)) 0) is)
+        none_more (λ c. cond (searched c) (chunk_looks stops c) 0) chunks i before now had d small (ap (λ b. cond b (chunk_looks stops (get_or chunks i d)) 0) is)
 
-    module _ (is : searched (get_or chunks i d) ≡ true) (next : ℕ) (looked : next ≤ now + chunk_looks all (get_or chunks i d)) where
-      pub chunks_more : next ≤ before + chunks_looks searched all (take (i + 1) chunks)
+    module _ (is : searched (get_or chunks i d) ≡ true) (next : ℕ) (looked : next ≤ now + chunk_looks stops (get_or chunks i d)) where
+      pub chunks_more : next ≤ before + chunks_looks searched stops (take (i + 1) chunks)
       unfolding chunks_looks
       chunks_more =
-          some_more (λ c. cond (searched c) (chunk_looks all c) 0) chunks i before now had d small next
-          (where_true (searched (get_or chunks i d)) (chunk_looks all (get_or chunks i d)) now next is looked)
+          some_more (λ c. cond (searched c) (chunk_looks stops c) 0) chunks i before now had d small next
+          (where_true (searched (get_or chunks i d)) (chunk_looks stops (get_or chunks i d)) now next is looked)
 
-      pub chunks_end : next ≤ before + chunks_looks searched all chunks
+      pub chunks_end : next ≤ before + chunks_looks searched stops chunks
       unfolding chunks_looks
       chunks_end =
-          some_all (λ c. cond (searched c) (chunk_looks all c) 0) chunks i before now had d small next
-          (where_true (searched (get_or chunks i d)) (chunk_looks all (get_or chunks i d)) now next is looked)
+          some_all (λ c. cond (searched c) (chunk_looks stops c) 0) chunks i before now had d small next
+          (where_true (searched (get_or chunks i d)) (chunk_looks stops (get_or chunks i d)) now next is looked)
 
 module _ (old_flags new_flags : ℕ → ℕ → Bool) (all : List Span) (inodes : List Inode) (i : ℕ) (before now : ℕ)
     (had : now ≤ before + inodes_looks old_flags new_flags all (take i inodes)) where

@@ -2,14 +2,16 @@
 use Rattle.std.proofs.Common.{◌≡◌, ℕ, suc, ◌+◌, ◌*◌, ◌<◌, ◌≤◌, Bool, true, false, cond, not, ◌&&◌, inl, inr, List, [], ◌∷◌, get_or, length, refl, sym, ap, ◌∙◌, subst, arith, nat_le}
 use Rattle.std.specs.Prelude.{◌==◌, IsSome, Option, Some, None, is_none, is_some, nat_lt}
 use Rattle.std.specs.Bool.{beq}
-use Rattle.std.specs.List.{AllPairs, Contains, count_by, sum_by}
+use Rattle.std.specs.List.{AllPairs, Contains, count_by, list_any, sum_by}
 use Rattle.std.proofs.lemmas.Bool.{and_from, and_parts, both_ways, cases_order, eqb-true, false_from_ne_true, le-leb, leb-true}
 use Rattle.std.proofs.lemmas.Bool.Decides.{nat_tests}
 use Rattle.std.proofs.lemmas.List.{get_or_default}
+use Rattle.std.proofs.lemmas.List.Elements.{All-contains}
 use Rattle.std.proofs.lemmas.List.Sums.{sum_by-cons, sum_by-le-sum_by}
 use Rattle.verdict.specs.Chunks.{holds_range, home}
 use Rattle.verdict.specs.declared.place.Chunk.{Chunk}
-use Rattle.span_index.specs.Spans.{end_of, shows_behind}
+use Rattle.span_index.specs.Order.{is_same}
+use Rattle.span_index.specs.Spans.{Table, end_of, shows_behind}
 use Rattle.span_index.specs.declared.span.Span.{Span}
 use Rattle.span_index.specs.declared.span.SpanSort.{SpanSort}
 use Rattle.span_index.specs.declared.span.SpanSort.TheVariants.{Owned, Summed, Shown}
@@ -22,10 +24,11 @@ use Rattle.change_records.specs.Made.{IsMade}
 use Rattle.change_records.specs.Search.{new_flags}
 use Rattle.change_records.specs.SumFree.{flags_after}
 use Rattle.change_records.specs.Homes.{StandApart, is_kept}
-use Rattle.change_records.specs.Looks.{AreHoused, home_of_span, is_gone, is_of_extent, is_reached, is_turned, most_looks, turns}
-use Rattle.change_records.specs.Passes.{chunks_looks, inodes_looks, is_other, is_searched, is_shown, meets, search_looks}
-use Rattle.change_records.proofs.HomeLaws.{IsHolder, home_none, home_some, like_of}
-use Rattle.change_records.proofs.LookLaws.{sum_both}
+use Rattle.change_records.specs.Looks.{AreHoused, HaveStops, IsHoused, LiesInExtent, home_of_sort, home_of_span, is_gone, is_of_extent, is_reached, is_turned, most_looks, stands_for, turns}
+use Rattle.change_records.specs.Passes.{AreSpansOf, AreStopsOf, chunks_looks, inodes_looks, is_other, is_searched, is_shown, meets, search_looks}
+use Rattle.change_records.proofs.HomeLaws.{home_none, home_some, like_of}
+use Rattle.change_records.proofs.LookLaws.{same_is, sum_both}
+use Rattle.change_records.proofs.Merge.{contains_first, contains_more}
 
 -- ---- sums
 
@@ -125,10 +128,25 @@ record IsInside (chunk : Chunk) (span : Span) : Type 0 where
   pub from : chunk.start ≤ span.first
   pub until : end_of span ≤ chunk.start + chunk.length
 
-inside : (chunks : List Chunk) (span : Span) (c : Chunk) → IsHolder chunks span.first (span.sectors * 4096) c → IsInside c span
-inside chunks span c is =
-    let both = and_parts (nat_le c.start span.first) (nat_le (span.first + span.sectors * 4096) (c.start + c.length)) is.holds in
-    record { from = leb-true _ _ both.0; until = leb-true _ _ both.1 }
+-- a chunk is among some, and the range of a span lies in it
+record IsPlace (chunks : List Chunk) (c : Chunk) (span : Span) : Type 0 where
+  pub among : Contains chunks c
+  pub inside : IsInside c span
+
+within : (chunks : List Chunk) (at bytes : ℕ) (c : Chunk) → home chunks at bytes ≡ Some c → (span : Span) → at ≤ span.first
+    → span.first + span.sectors * 4096 ≤ at + bytes → IsPlace chunks c span
+within chunks at bytes c is span low high =
+    let holder = home_some chunks at bytes c is in
+    let both = and_parts (nat_le c.start at) (nat_le (at + bytes) (c.start + c.length)) holder.holds in
+    let from : c.start ≤ at = leb-true _ _ both.0 in
+    let until : at + bytes ≤ c.start + c.length = leb-true _ _ both.1 in
+    record { among = holder.among; inside = record { from = omega (arith, low, from); until = omega (arith, high, until) } }
+
+placed : (chunks : List Chunk) (span : Span) (c : Chunk) (sort : SpanSort) → home_of_sort chunks span.first span.sectors sort ≡ Some c
+    → LiesInExtent span.first span.sectors sort → IsPlace chunks c span
+placed chunks span c (Owned d) is lies = within chunks span.first (span.sectors * 4096) c is span (omega arith) (omega arith)
+placed chunks span c Summed is lies = within chunks span.first (span.sectors * 4096) c is span (omega arith) (omega arith)
+placed chunks span c (Shown t i o extent bytes) is lies = within chunks extent bytes c is span lies.0 lies.1
 
 -- where two chunks that stand apart both meet a range that one of them holds, they are one
 one_place : (chunks : List Chunk) (span : Span) (c : Chunk) (among : Contains chunks c) (k : ℕ) (d : Chunk) → StandApart chunks → IsInside c span → k < length chunks
@@ -176,12 +194,12 @@ module _ (olds news : List Chunk) (span : Span) where
   unfolding is_reached
   reached_by c sort is kept = and_from _ _ sort (ap (is_gone news) is ∙ ap not kept)
 
-  module _ (apart : StandApart olds) (c : Chunk) (is : home_of_span olds span ≡ Some c) where
-    holder : IsHolder olds span.first (span.sectors * 4096) c
-    holder = home_some olds span.first (span.sectors * 4096) c is
+  module _ (apart : StandApart olds) (c : Chunk) (is : home_of_span olds span ≡ Some c) (lies : LiesInExtent span.first span.sectors span.sort) where
+    holder : IsPlace olds c span
+    holder = placed olds span c span.sort is lies
 
     its_range : IsInside c span
-    its_range = inside olds span c holder
+    its_range = holder.inside
 
     -- the old chunk that holds a span is the only one that meets it
     first_one : count_by (λ x. is_searched news true false x && meets x span) olds ≤ cond (is_reached olds news span) 1 0
@@ -317,29 +335,30 @@ never_meets searched chunks span no_extent =
     none_counted (λ c. searched c && meets c span) chunks
     (λ k d small e. both_ways _ no_extent (meeting (get_or chunks k d) span (and_parts (searched (get_or chunks k d)) (meets (get_or chunks k d) span) e).1).sort)
 
-module _ (olds news : List Chunk) (apart : StandApart olds) (new_apart : StandApart news) (span : Span) (housed : is_of_extent span.sort ≡ true → IsSome (home_of_span olds span)) where
+module _ (olds news : List Chunk) (apart : StandApart olds) (new_apart : StandApart news) (span : Span) (housed : is_of_extent span.sort ≡ true → IsHoused olds span) where
   one_first : count_by (λ c. is_searched news true false c && meets c span) olds ≤ cond (is_reached olds news span) 1 0
   one_first = by (is_of_extent span.sort) refl
     where
-      with_home : (o : Option Chunk) → home_of_span olds span ≡ o → is_some o ≡ true → count_by (λ c. is_searched news true false c && meets c span) olds ≤ cond (is_reached olds news span) 1 0
-      with_home None e some = absurd (cc)
-      with_home (Some c) e some = first_one olds news span apart c e
+      with_home : (o : Option Chunk) → home_of_span olds span ≡ o → is_some o ≡ true → LiesInExtent span.first span.sectors span.sort
+          → count_by (λ c. is_searched news true false c && meets c span) olds ≤ cond (is_reached olds news span) 1 0
+      with_home None e some lies = absurd (cc)
+      with_home (Some c) e some lies = first_one olds news span apart c e lies
 
       by : (b : Bool) → is_of_extent span.sort ≡ b → count_by (λ c. is_searched news true false c && meets c span) olds ≤ cond (is_reached olds news span) 1 0
-      by true e = with_home (home_of_span olds span) refl (housed e)
+      by true e = with_home (home_of_span olds span) refl (housed e).1 (housed e).0
       by false e = let none = never_meets (is_searched news true false) olds span e in omega (arith, none)
 
   two_second : count_by (λ c. is_searched olds true true c && meets c span) news ≤ cond (is_reached olds news span) 1 0 + cond (is_reached olds news span) 1 0
   two_second = by (is_of_extent span.sort) refl
     where
-      with_home : (o : Option Chunk) → home_of_span olds span ≡ o → is_some o ≡ true
+      with_home : (o : Option Chunk) → home_of_span olds span ≡ o → is_some o ≡ true → LiesInExtent span.first span.sectors span.sort
           → count_by (λ c. is_searched olds true true c && meets c span) news ≤ cond (is_reached olds news span) 1 0 + cond (is_reached olds news span) 1 0
-      with_home None e some = absurd (cc)
-      with_home (Some c) e some = second_two olds news span apart c e new_apart
+      with_home None e some lies = absurd (cc)
+      with_home (Some c) e some lies = second_two olds news span apart c e lies new_apart
 
       by : (b : Bool) → is_of_extent span.sort ≡ b
           → count_by (λ c. is_searched olds true true c && meets c span) news ≤ cond (is_reached olds news span) 1 0 + cond (is_reached olds news span) 1 0
-      by true e = with_home (home_of_span olds span) refl (housed e)
+      by true e = with_home (home_of_span olds span) refl (housed e).1 (housed e).0
       by false e = let none = never_meets (is_searched olds true true) news span e in omega (arith, none)
 
 -- ---- one span that an inode shows
@@ -382,22 +401,22 @@ one_inode before after inodes span distinct =
 
 -- ---- all spans
 
-module _ (olds news : List Chunk) (before after : ℕ → ℕ → Bool) (spans : List Span) where
-  first_pass : StandApart olds → StandApart news → AreHoused olds spans → chunks_looks (is_searched news true false) spans olds ≤ 2 * length olds + 2 * count_by (is_reached olds news) spans
+module _ (olds news : List Chunk) (before after : ℕ → ℕ → Bool) (spans stops : List Span) where
+  first_pass : StandApart olds → StandApart news → AreHoused olds stops → chunks_looks (is_searched news true false) stops olds ≤ 2 * length olds + 2 * count_by (is_reached olds news) stops
   unfolding chunks_looks
   first_pass apart new_apart housed =
-      let a = exchanged (is_searched news true false) meets 2 spans olds in
-      let b = sum_among (λ s. count_by (λ c. is_searched news true false c && meets c s) olds) (λ s. cond (is_reached olds news s) 1 0) spans
-      (λ k d small. one_first olds news apart new_apart (get_or spans k d) (housed k d small)) in
+      let a = exchanged (is_searched news true false) meets 2 stops olds in
+      let b = sum_among (λ s. count_by (λ c. is_searched news true false c && meets c s) olds) (λ s. cond (is_reached olds news s) 1 0) stops
+      (λ k d small. one_first olds news apart new_apart (get_or stops k d) (housed k d small)) in
       omega (arith, a, b)
 
-  second_pass : StandApart olds → StandApart news → AreHoused olds spans → chunks_looks (is_searched olds true true) spans news ≤ 2 * length news + 4 * count_by (is_reached olds news) spans
+  second_pass : StandApart olds → StandApart news → AreHoused olds stops → chunks_looks (is_searched olds true true) stops news ≤ 2 * length news + 4 * count_by (is_reached olds news) stops
   unfolding chunks_looks
   second_pass apart new_apart housed =
-      let a = exchanged (is_searched olds true true) meets 2 spans news in
-      let b = sum_among (λ s. count_by (λ c. is_searched olds true true c && meets c s) news) (λ s. cond {A = ℕ} (is_reached olds news s) 1 0 + cond (is_reached olds news s) 1 0) spans
-      (λ k d small. two_second olds news apart new_apart (get_or spans k d) (housed k d small)) in
-      let e = sum_both (λ s. cond {A = ℕ} (is_reached olds news s) 1 0) (λ s. cond (is_reached olds news s) 1 0) spans in
+      let a = exchanged (is_searched olds true true) meets 2 stops news in
+      let b = sum_among (λ s. count_by (λ c. is_searched olds true true c && meets c s) news) (λ s. cond {A = ℕ} (is_reached olds news s) 1 0 + cond (is_reached olds news s) 1 0) stops
+      (λ k d small. two_second olds news apart new_apart (get_or stops k d) (housed k d small)) in
+      let e = sum_both (λ s. cond {A = ℕ} (is_reached olds news s) 1 0) (λ s. cond (is_reached olds news s) 1 0) stops in
       omega (arith, a, b, e)
 
   third_pass : (inodes : List Inode) → AllPairs (λ one other. one ≡ other → ⊥) inodes → inodes_looks before after spans inodes ≤ length inodes + 2 * count_by (is_turned before after) spans
@@ -408,8 +427,8 @@ module _ (olds news : List Chunk) (before after : ℕ → ℕ → Bool) (spans :
       (λ k d small. one_inode before after inodes (get_or spans k d) distinct) in
       omega (arith, a, b)
 
-  pub all_passes : (inodes : List Inode) (changes : ℕ) → StandApart olds → StandApart news → AreHoused olds spans → AllPairs (λ one other. one ≡ other → ⊥) inodes
-      → length inodes ≤ 2 * changes → search_looks olds news before after spans inodes ≤ most_looks olds news before after spans changes
+  pub all_passes : (inodes : List Inode) (changes : ℕ) → StandApart olds → StandApart news → AreHoused olds stops → AllPairs (λ one other. one ≡ other → ⊥) inodes
+      → length inodes ≤ 2 * changes → search_looks olds news before after spans stops inodes ≤ most_looks olds news before after spans stops changes
   unfolding most_looks
   all_passes inodes changes apart new_apart housed distinct few =
       let a = first_pass apart new_apart housed in
@@ -418,11 +437,28 @@ module _ (olds news : List Chunk) (before after : ℕ → ℕ → Bool) (spans :
       omega (arith, a, b, e, few)
 
 -- the same where the changes are what the flags and the inodes are of
-pub looks_most : (olds news : List Chunk) (free : ℕ → ℕ → Bool) (made : Made) (old new : List ItemAt) (changes : List ItemChange) (spans : List Span) → IsMade old new changes made
-    → StandApart olds → StandApart news → AreHoused olds spans → (before after : ℕ)
-    → after ≤ before + search_looks olds news free (new_flags made free) spans made.inodes.items
-    → after ≤ before + most_looks olds news free (flags_after old new changes free) spans (length changes)
-looks_most olds news free made old new changes spans is apart new_apart housed before after looked =
-    subst (λ flags. after ≤ before + most_looks olds news free flags spans (length changes)) (fun_ext (λ tree. fun_ext (λ ino. is.flags tree ino (free tree ino))))
-    (let most = all_passes olds news free (new_flags made free) spans made.inodes.items (length changes) apart new_apart housed is.once.distinct is.once.few in
+pub looks_most : (olds news : List Chunk) (free : ℕ → ℕ → Bool) (made : Made) (old new : List ItemAt) (changes : List ItemChange) (spans stops : List Span) → IsMade old new changes made
+    → StandApart olds → StandApart news → AreHoused olds stops → (before after : ℕ)
+    → after ≤ before + search_looks olds news free (new_flags made free) spans stops made.inodes.items
+    → after ≤ before + most_looks olds news free (flags_after old new changes free) spans stops (length changes)
+looks_most olds news free made old new changes spans stops is apart new_apart housed before after looked =
+    subst (λ flags. after ≤ before + most_looks olds news free flags spans stops (length changes)) (fun_ext (λ tree. fun_ext (λ ino. is.flags tree ino (free tree ino))))
+    (let most = all_passes olds news free (new_flags made free) spans stops made.inodes.items (length changes) apart new_apart housed is.once.distinct is.once.few in
     omega (arith, looked, most))
+
+among_here : (span x : Span) (xs : List Span) (b : Bool) → is_same span x ≡ b → 0 < count_by (is_same span) (x ∷ xs)
+    → (0 < count_by (is_same span) xs → Contains xs span) → Contains (x ∷ xs) span
+among_here span x xs true same some later = subst (Contains (x ∷ xs)) (sym (same_is span x same)) (contains_first x xs)
+among_here span x xs false same some later =
+    let whole : count_by (is_same span) (x ∷ xs) ≡ cond (is_same span x) 1 0 + count_by (is_same span) xs = sum_by-cons (λ y. cond (is_same span y) 1 0) x xs in
+    let none : cond {A = ℕ} (is_same span x) 1 0 ≡ 0 = ap (λ z. cond z 1 0) same in
+    contains_more x xs span (later (omega (arith, some, whole, none)))
+
+counted_among : (span : Span) (xs : List Span) → 0 < count_by (is_same span) xs → Contains xs span
+counted_among span [] some = absurd (omega (arith, some))
+counted_among span (x ∷ xs) some = among_here span x xs (is_same span x) refl some (counted_among span xs)
+
+-- what stands for the spans of a list stands for those of their table
+pub stops_of : (table : Table) (spans stops : List Span) → AreSpansOf table spans → HaveStops spans stops → AreStopsOf table stops
+stops_of table spans stops are have span stands =
+    All-contains (λ (x : Span). list_any (stands_for x) stops ≡ true) spans span have (counted_among span spans (subst (λ n. 0 < n) (are span) stands))

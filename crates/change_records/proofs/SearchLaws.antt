@@ -18,8 +18,9 @@ use Rattle.std.specs.Option.{unwrap_or}
 use Rattle.std.specs.Prelude.{slice_get}
 use Rattle.std.proofs.lemmas.Option.{slice_get-get_or}
 use Rattle.std.specs.Bool.{beq}
-use Rattle.std.proofs.Common.{◌-◌, not, min, length, get_or}
-use Rattle.std.proofs.lemmas.Bool.{and_from, and_parts, lt-ltb, or_left, both_ways, cases_lt, cases_order, eqb-true, or_cases, or_right}
+use Rattle.std.proofs.Common.{◌-◌, not, min, max, length, get_or, nat_lt}
+use Rattle.std.proofs.lemmas.Bool.Decides.{nat_tests}
+use Rattle.std.proofs.lemmas.Bool.{and_from, and_parts, lt-ltb, ltb-true, or_left, both_ways, cases_lt, cases_order, eqb-true, or_cases, or_right}
 use Rattle.accounts.specs.Context.{Context}
 use Rattle.verdict.specs.OnDisk.{key_same}
 use Rattle.verdict.specs.declared.key.Key.{Key}
@@ -29,7 +30,7 @@ use Rattle.span_index.specs.Order.{is_below, sort_cmp, span_cmp}
 use Rattle.span_index.specs.Spans.{IsMeeting, IsNextShown, Table, end_of, is_above, is_behind, is_met, is_sort, offset_of, shows_behind}
 use Rattle.change_records.specs.declared.item_ref.ItemRef.{ItemRef}
 use Rattle.change_records.specs.Refs.{ref_cmp}
-use Rattle.change_records.specs.Search.{AreAlone, Has, IsHit, IsLawfulSort, IsLawfulSpan, IsNameOf, IsShownBy, Known, MeetsChanged, MeetsChunk, Overlaps, ShowsChanged, Searched, SortDiffers, SpanDiffers, SpanNames, Takes}
+use Rattle.change_records.specs.Search.{AreAlone, AreLawful, Has, IsHit, IsLawfulSort, IsLawfulSpan, IsNameOf, IsShownBy, Known, MeetsChanged, MeetsChunk, Overlaps, ShowsChanged, Searched, SortDiffers, SpanDiffers, SpanNames, Takes}
 use Rattle.change_records.proofs.MadeLaws.{name_put}
 
 same_key : (a b : Key) → key_same a b ≡ true → a ≡ b
@@ -96,6 +97,11 @@ taken_named k pairs span name old same its named = record {
 
 -- ---- spans in their order
 
+less_by : (o : Ordering) → is_lt o ≡ true → o ≡ Less
+less_by Less is = refl
+less_by Equal is = absurd (cc)
+less_by Greater is = absurd (cc)
+
 -- of two spans one is below the other, or they are one
 below_by : (s t : Span) (o : Ordering) → span_cmp t s ≡ o → is_lt (ordering_reverse o) ≡ false → is_lt o ≡ false → s ≡ t
 below_by s t Less e first second = absurd (cc)
@@ -106,80 +112,120 @@ below_cases : (s t : Span) → is_below s t ≡ false → is_below t s ≡ false
 unfolding is_below
 below_cases s t first second = below_by s t (span_cmp t s) refl (sym (ap is_lt (span_total.antisymm s t)) ∙ first) second
 
-below_first : (s t : Span) → s.first < t.first → is_below s t ≡ true
+pub below_first : (s t : Span) → s.first < t.first → is_below s t ≡ true
 unfolding is_below
 below_first s t small = ap (λ o. is_lt (ordering_then o (ordering_then (nat_cmp s.sectors t.sectors) (sort_cmp s.sort t.sort)))) (sym (nat_cmp_is s.first t.first Less small))
 
 -- ---- a walk over the spans that a range meets
 
--- a span is not above the last one
-abbrev pub IsPast : Option Span → Span → Type 0
-IsPast after span = is_above after span ≡ false
+-- whether a span ends after an address and is above the last one
+abbrev pub is_ahead : ℕ → Option Span → Span → Bool
+is_ahead now after span = nat_lt now (end_of span) && is_above after span
+
+-- the last one begins at an address at most
+abbrev pub BeginsBy : ℕ → Option Span → Type 0
+BeginsBy now None = Unit {0}
+BeginsBy now (Some after) = after.first ≤ now
 
 -- a span is one that a walk over a range has passed
-abbrev pub IsWalked : SortName → ℕ → ℕ → Option Span → Span → Type 0
-IsWalked sort from until after span = Overlaps sort from until span × IsPast after span
+abbrev pub IsWalked : SortName → ℕ → ℕ → ℕ → Option Span → Span → Type 0
+IsWalked sort from until now after span = Overlaps sort from until span × (is_ahead now after span ≡ false)
 
-pub walk_none : (k : Known) (table : Table) (sort : SortName) (from until : ℕ) (refs : set.BTreeSet ItemRef) → Searched k table (IsWalked sort from until None) refs refs
+pub walk_none : (k : Known) (table : Table) (sort : SortName) (from until : ℕ) (refs : set.BTreeSet ItemRef)
+    → Searched k table (IsWalked sort from until from None) refs refs
 walk_none k table sort from until refs = record {
   stay = λ at had. had;
   hold = λ at had. inl had;
-  all = λ span at stands reached hit. absurd (both_ways true reached.1 refl);
+  all = λ span at stands reached hit. absurd (both_ways _ reached.1 (and_from _ _ (lt-ltb from (end_of span) reached.0.1) refl));
 }
 
-met : (sort : SortName) (from : ℕ) (after : Option Span) (span : Span) → is_sort sort span.sort ≡ true → from < end_of span → is_above after span ≡ true
-    → is_met sort from after span ≡ true
+met : (sort : SortName) (now : ℕ) (after : Option Span) (span : Span) → is_sort sort span.sort ≡ true → is_ahead now after span ≡ true
+    → is_met sort now after span ≡ true
 unfolding is_met
-met sort from after span named ends above = and_from _ _ named (and_from _ _ (lt-ltb from (end_of span) ends) above)
+met sort now after span named ahead = and_from _ _ named ahead
 
-pub walk_more : (k : Known) (table : Table) (sort : SortName) (from until : ℕ) (after : Option Span) (next : Span) (start old new : set.BTreeSet ItemRef)
-    → IsMeeting table sort from after (Some next) → Searched k table (IsWalked sort from until after) start old → Takes k next old new
-    → Searched k table (IsWalked sort from until (Some next)) start new
-walk_more k table sort from until after next start old new least searched takes = record {
+-- a lawful span that posts otherwise has a sector
+some_sort : (n first sectors : ℕ) (sort : SpanSort) (before after : Context) → IsLawfulSort n first sectors sort
+    → SortDiffers before after first sectors sort → 0 < sectors
+some_sort n first sectors (Owned d) before after lawful differs = lawful.0
+some_sort n first sectors Summed before after lawful differs = absurd differs
+some_sort n first sectors (Shown t i o e l) before after lawful differs = differs.0
+
+not_both : (x y : Span) → is_below y x ≡ true → is_below x y ≡ false
+unfolding is_below
+not_both x y less = ap is_lt (span_total.antisymm x y ∙ ap ordering_reverse (less_by (span_cmp y x) less))
+
+not_less : (a b : ℕ) → nat_lt a b ≡ false → b ≤ a
+not_less a b is = grind (arith, nat_tests)
+
+-- one above another that ends where that begins has none
+none_left : (now : ℕ) (next span : Span) → is_below next span ≡ true → now < end_of span → nat_lt (max now next.first) (end_of span) ≡ false → span.sectors ≡ 0
+none_left now next span above ends passed = elim (cases_lt span.first next.first) [
+  | inl sooner ↦ absurd (both_ways _ (not_both next span (below_first span next sooner)) above)
+  | inr later ↦
+      let low : end_of span ≤ max now next.first = not_less (max now next.first) (end_of span) passed in
+      omega (arith, later, low, ends)
+]
+
+pub walk_more : (k : Known) (n : ℕ) (table : Table) (sort : SortName) (from until now : ℕ) (after : Option Span) (next : Span)
+    (start old new : set.BTreeSet ItemRef) → AreLawful n table → IsMeeting table sort now after (Some next)
+    → Searched k table (IsWalked sort from until now after) start old → Takes k next old new
+    → Searched k table (IsWalked sort from until (max now next.first) (Some next)) start new
+walk_more k n table sort from until now after next start old new lawful least searched takes = record {
   stay = λ at had. takes.stay at (searched.stay at had);
   hold = λ at has. elim (takes.hold at has) [
     | inl early ↦ searched.hold at early
     | inr hit ↦ inr (next, least.0, hit)
   ];
-  all = λ span at stands reached hit. by span at stands reached hit (is_above after span) refl (is_below span next) refl;
+  all = λ span at stands reached hit. by span at stands reached hit (is_ahead now after span) refl (is_below span next) refl (is_below next span) refl;
 }
   where
-    by : (span : Span) (at : ItemRef) → 0 < table span → IsWalked sort from until (Some next) span → IsHit k span at → (b : Bool) → is_above after span ≡ b
-        → (c : Bool) → is_below span next ≡ c → Has new at
-    by span at stands reached hit false above c below = takes.stay at (searched.all span at stands (reached.0, above) hit)
-    by span at stands reached hit true above true below =
-        let none : table span ≡ 0 = least.2 span (met sort from after span reached.0.0 reached.0.1 above) below in absurd (omega (arith, none, stands))
-    by span at stands reached hit true above false below = takes.all at (subst (λ s. IsHit k s at) (below_cases span next below reached.1) hit)
+    by : (span : Span) (at : ItemRef) → 0 < table span → IsWalked sort from until (max now next.first) (Some next) span → IsHit k span at
+        → (b : Bool) → is_ahead now after span ≡ b → (c : Bool) → is_below span next ≡ c → (d : Bool) → is_below next span ≡ d → Has new at
+    by span at stands reached hit false ahead c below d above = takes.stay at (searched.all span at stands (reached.0, ahead) hit)
+    by span at stands reached hit true ahead true below d above =
+        let none : table span ≡ 0 = least.2 span (met sort now after span reached.0.0 ahead) below in absurd (omega (arith, none, stands))
+    by span at stands reached hit true ahead false below false above = takes.all at (subst (λ s. IsHit k s at) (below_cases span next below above) hit)
+    by span at stands reached hit true ahead false below true above =
+        let ends : now < end_of span = ltb-true now (end_of span) (and_parts (nat_lt now (end_of span)) (is_above after span) ahead).0 in
+        let none : span.sectors ≡ 0 = none_left now next span above ends (passed (nat_lt (max now next.first) (end_of span)) above reached.1) in
+        let some : 0 < span.sectors = some_sort n span.first span.sectors span.sort k.before k.after (lawful span stands) hit.differs in
+        absurd (omega (arith, none, some))
+      where
+        passed : (b : Bool) → is_below next span ≡ true → (b && is_below next span) ≡ false → b ≡ false
+        passed true above is = absurd (both_ways _ is above)
+        passed false above is = refl
 
 -- a walk that finds no more has passed all
-pub walk_all : (k : Known) (table : Table) (sort : SortName) (from until : ℕ) (after : Option Span) (start old : set.BTreeSet ItemRef)
-    → IsMeeting table sort from after None → Searched k table (IsWalked sort from until after) start old → Searched k table (Overlaps sort from until) start old
-walk_all k table sort from until after start old none searched = record {
+pub walk_all : (k : Known) (table : Table) (sort : SortName) (from until now : ℕ) (after : Option Span) (start old : set.BTreeSet ItemRef)
+    → IsMeeting table sort now after None → Searched k table (IsWalked sort from until now after) start old
+    → Searched k table (Overlaps sort from until) start old
+walk_all k table sort from until now after start old none searched = record {
   stay = searched.stay;
   hold = searched.hold;
-  all = λ span at stands reached hit. by span at stands reached hit (is_above after span) refl;
+  all = λ span at stands reached hit. by span at stands reached hit (is_ahead now after span) refl;
 }
   where
-    by : (span : Span) (at : ItemRef) → 0 < table span → Overlaps sort from until span → IsHit k span at → (b : Bool) → is_above after span ≡ b → Has old at
-    by span at stands reached hit false above = searched.all span at stands (reached, above) hit
-    by span at stands reached hit true above =
-        let gone : table span ≡ 0 = none span (met sort from after span reached.0 reached.1 above) in absurd (omega (arith, gone, stands))
+    by : (span : Span) (at : ItemRef) → 0 < table span → Overlaps sort from until span → IsHit k span at → (b : Bool) → is_ahead now after span ≡ b → Has old at
+    by span at stands reached hit false ahead = searched.all span at stands (reached, ahead) hit
+    by span at stands reached hit true ahead =
+        let gone : table span ≡ 0 = none span (met sort now after span reached.0 ahead) in absurd (omega (arith, gone, stands))
 
 -- nor does one that comes to a span behind the range pass by any
-pub walk_behind : (k : Known) (table : Table) (sort : SortName) (from until : ℕ) (after : Option Span) (next : Span) (start old : set.BTreeSet ItemRef)
-    → IsMeeting table sort from after (Some next) → until ≤ next.first → Searched k table (IsWalked sort from until after) start old
-    → Searched k table (Overlaps sort from until) start old
-walk_behind k table sort from until after next start old least behind searched = record {
+pub walk_behind : (k : Known) (table : Table) (sort : SortName) (from until now : ℕ) (after : Option Span) (next : Span)
+    (start old : set.BTreeSet ItemRef) → IsMeeting table sort now after (Some next) → until ≤ next.first
+    → Searched k table (IsWalked sort from until now after) start old → Searched k table (Overlaps sort from until) start old
+walk_behind k table sort from until now after next start old least behind searched = record {
   stay = searched.stay;
   hold = searched.hold;
-  all = λ span at stands reached hit. by span at stands reached hit (is_above after span) refl;
+  all = λ span at stands reached hit. by span at stands reached hit (is_ahead now after span) refl;
 }
   where
-    by : (span : Span) (at : ItemRef) → 0 < table span → Overlaps sort from until span → IsHit k span at → (b : Bool) → is_above after span ≡ b → Has old at
-    by span at stands reached hit false above = searched.all span at stands (reached, above) hit
-    by span at stands reached hit true above =
+    by : (span : Span) (at : ItemRef) → 0 < table span → Overlaps sort from until span → IsHit k span at → (b : Bool) → is_ahead now after span ≡ b → Has old at
+    by span at stands reached hit false ahead = searched.all span at stands (reached, ahead) hit
+    by span at stands reached hit true ahead =
         let sooner : span.first < next.first = omega (arith, reached.2, behind) in
-        let gone : table span ≡ 0 = least.2 span (met sort from after span reached.0 reached.1 above) (below_first span next sooner) in absurd (omega (arith, gone, stands))
+        let gone : table span ≡ 0 = least.2 span (met sort now after span reached.0 ahead) (below_first span next sooner) in absurd (omega (arith, gone, stands))
 
 -- ---- a walk over what an inode shows
 

@@ -10,8 +10,8 @@ ghost use Rattle.std.specs.List.Sorted.{IsStrictlySortedBy};
 ghost use Rattle.change_records.specs.Affected.{AreAffected, context_with};
 ghost use Rattle.span_index.specs.declared.span.Span.{Span as ASpan};
 ghost use Rattle.change_records.specs.Homes.{StandApart};
-ghost use Rattle.change_records.specs.Looks.{AreHoused, most_looks, spans_of};
-ghost use Rattle.change_records.specs.Passes.{AreSpansOf, search_looks};
+ghost use Rattle.change_records.specs.Looks.{AreHoused, HaveStops, most_looks, spans_of};
+ghost use Rattle.change_records.specs.Passes.{AreSpansOf, AreStopsOf, search_looks};
 ghost use Rattle.change_records.specs.Refs.{is_named, ref_cmp};
 ghost use Rattle.change_records.specs.Search.{AreAlone, AreLawful, IsFound, known, new_flags};
 ghost use Rattle.change_records.specs.Spans.{AreItemsOf};
@@ -41,10 +41,12 @@ use verdict::NoMemory;
 /// live table, and a tree block without a live pair names no item. No block is read; each span that is
 /// asked for counts a look, and so does the live pair of a tree block.
 ///
-/// Let the chunks of each list stand apart, and let each span that an extent owns or that a file shows lie
-/// whole in an old chunk. Then there are at most six looks for each such span in a chunk that the new list
-/// does not keep, two for each span that an inode shows whose flag changes, two for each chunk of both
-/// lists, and two for each change. This holds out of memory too.
+/// Let the chunks of each list stand apart, and let each span that an extent owns, and the extent of each
+/// that a file shows, lie whole in an old chunk. Then there are at most six looks for each such span whose
+/// extent lies in a chunk that the new list does not keep, two for each span that an inode shows whose flag
+/// changes, two for each chunk of both lists, and two for each change. Of the spans without a sector that
+/// files show at one address, which are of ranges of no bytes, one alone counts in the first of these. This
+/// holds out of memory too.
 pub fn affected<L, B: Bases<Table = LiveIndex<L>>>(
     alloc: Global,
     bases: &B,
@@ -67,10 +69,11 @@ pub fn affected<L, B: Bases<Table = LiveIndex<L>>>(
         let free = B.is_sum_free b in
         let flags = flags_after old.now new.now changes.now free in
         (items : List Located) → AreItemsOf n (times_of spans.now) items →
-        StandApart (B.chunks b) → StandApart fresh.now →
-        AreHoused (B.chunks b) (spans_of n items) →
+        (stops : List ASpan) → HaveStops (spans_of n items) stops →
+        StandApart (B.chunks b) → StandApart fresh.now → AreHoused (B.chunks b) stops →
         steps.new ≤ steps.old
-        + most_looks (B.chunks b) fresh.now free flags (spans_of n items) (length changes.now) }
+        + most_looks (B.chunks b) fresh.now free flags (spans_of n items) stops
+        (length changes.now) }
 {
     let made = Made::of(alloc, changes, old, new)?;
     let sides = Sides {
@@ -102,9 +105,10 @@ fn search<L, B: Bases<Table = LiveIndex<L>>>(
         let made = sides.now.made.now in
         let news = sides.now.fresh.now in
         let free = B.is_sum_free b in
-        (all : List ASpan) → AreSpansOf (times_of spans.now) all → StandApart news →
+        (all : List ASpan) → AreSpansOf (times_of spans.now) all →
+        (stops : List ASpan) → AreStopsOf (times_of spans.now) stops → StandApart news →
         steps.new ≤ steps.old
-        + search_looks (B.chunks b) news free (new_flags made free) all made.inodes.items }
+        + search_looks (B.chunks b) news free (new_flags made free) all stops made.inodes.items }
 {
     let apart = stand_apart(sides.fresh.chunks());
     let old = Chunks {

@@ -4,7 +4,7 @@ ghost use Rattle.std.specs.Prelude.{◌+◌, ◌≤◌, List, length, OnOk};
 ghost use Rattle.live_index.specs.Table.{pairs_of};
 ghost use Rattle.span_index.specs.Table.{times_of};
 ghost use Rattle.span_index.specs.declared.span.Span.{Span as ASpan};
-ghost use Rattle.change_records.specs.Passes.{AreSpansOf, chunk_looks, chunks_looks, inodes_looks, is_searched};
+ghost use Rattle.change_records.specs.Passes.{AreSpansOf, AreStopsOf, chunk_looks, chunks_looks, inodes_looks, is_searched};
 ghost use Rattle.change_records.specs.Search.{AreAlone, AreLawful, MeetsChanged, MeetsChunk, Searched, ShowsChanged, known, new_flags};
 
 use crate::ItemRef;
@@ -51,9 +51,9 @@ pub(crate) fn take_chunks<L, B: Bases<Table = LiveIndex<L>>>(
         (length list))
         refs.old refs.new) }
     ensures looks { let c = chunks.now in
-        (all : List ASpan) → AreSpansOf (times_of spans.now) all →
+        (stops : List ASpan) → AreStopsOf (times_of spans.now) stops →
         steps.new ≤ steps.old
-        + chunks_looks (is_searched c.others.now c.apart c.is_new) all c.list.now }
+        + chunks_looks (is_searched c.others.now c.apart c.is_new) stops c.list.now }
 {
     for chunk in chunks.list {
         if is_searched(chunk, chunks.others, chunks.apart, chunks.is_new) {
@@ -77,8 +77,8 @@ fn take_chunk<L, B: Bases<Table = LiveIndex<L>>>(
         sides.now.fresh.now sides.now.made.now in
         AreLawful (B.superblock b).nodesize (times_of spans.now) →
         OnOk result (Searched k (times_of spans.now) (MeetsChunk chunk.now) refs.old refs.new) }
-    ensures looks { (all : List ASpan) → AreSpansOf (times_of spans.now) all →
-        steps.new ≤ steps.old + chunk_looks all chunk.now }
+    ensures looks { (stops : List ASpan) → AreStopsOf (times_of spans.now) stops →
+        steps.new ≤ steps.old + chunk_looks stops chunk.now }
 {
     let from = chunk.start;
     let until = from.saturating_add(chunk.length);

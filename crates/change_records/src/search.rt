@@ -7,7 +7,7 @@ ghost use Rattle.span_index.specs.Spans.{offset_of};
 ghost use Rattle.span_index.specs.Table.{times_of};
 ghost use Rattle.change_records.specs.Affected.{context_with};
 ghost use Rattle.span_index.specs.declared.span.Span.{Span as ASpan};
-ghost use Rattle.change_records.specs.Passes.{AreSpansOf, inode_looks, overlaps};
+ghost use Rattle.change_records.specs.Passes.{AreSpansOf, AreStopsOf, inode_looks, overlaps};
 ghost use Rattle.change_records.specs.Search.{AreAlone, AreLawful, IsLawfulSpan, IsNameOf, IsShownBy, Overlaps, Searched, SpanDiffers, Takes, known, new_flags, owned_bytes};
 
 use crate::ItemRef;
@@ -183,20 +183,23 @@ pub(crate) fn take_range<L, B: Bases<Table = LiveIndex<L>>>(
         OnOk result (Searched k (times_of spans.now)
         (Overlaps range.now.sort range.now.from range.now.until) refs.old refs.new) }
     ensures looks { let range = range.now in
-        (all : List ASpan) → AreSpansOf (times_of spans.now) all →
+        (stops : List ASpan) → AreStopsOf (times_of spans.now) stops →
         steps.new ≤ steps.old + 1
-        + 2 * count_by (overlaps range.sort range.from range.until) all }
+        + 2 * count_by (overlaps range.sort range.from range.until) stops }
 {
+    let mut from = range.from;
     let mut after = None;
     // No table holds so many spans.
     'spans: for _ in 0..u64::MAX {
-        let Some(span) = spans.meeting(range.sort, range.from, after.as_ref(), steps) else {
+        let Some(span) = spans.meeting(range.sort, from, after.as_ref(), steps) else {
             return Ok(());
         };
         if span.first >= range.until {
             return Ok(());
         }
         take(sides, &span, refs, steps)?;
+        // What is still to come and ends where this one begins has no sector: it posts nothing that could differ.
+        from = from.max(span.first);
         after = Some(span);
     }
     Err(NoMemory)

@@ -14,7 +14,7 @@ use Rattle.write_cache.specs.Cache.{overlaid}
 use Rattle.accounts.specs.Context.{Context}
 use Rattle.accounts.specs.declared.postings.Posting.{Posting}
 use Rattle.change_records.proofs.Merge.{contains_first, contains_more, contains_none}
-use Rattle.change_records.specs.Looks.{AreHoused, is_reached, is_turned, most_looks, spans_of as spans_of_items}
+use Rattle.change_records.specs.Looks.{AreHoused, HaveStops, is_reached, is_turned, most_looks, spans_of as spans_of_items}
 use Rattle.change_records.specs.SumFree.{flags_after}
 use Rattle.records.specs.Contents.{Contents, contents}
 use Rattle.records.specs.Context.{has_sum_free}
@@ -38,7 +38,8 @@ use Rattle.work_laws.specs.Housed.{AreSpansHoused, HousedLaw}
 use Rattle.work_laws.specs.Named.{AreSectorsNamed, NamedLaw, is_named_sector, names_sector}
 use Rattle.work_laws.specs.Pieces.{HasPieces, PiecesLaw}
 use Rattle.work_laws.specs.Postings.{ArePostingsFew, IsPassage, PostingsLaw}
-use Rattle.work_laws.specs.Work.{by_walk, has_named, is_empty_and_reached, is_flagged, is_met, new_postings, new_unshared, old_postings, old_unshared, runs_in, spans_in, spans_where, unshared_blocks, unshared_entries, work_between, work_of}
+use Rattle.tree_change.specs.Accepted.{unshared_old}
+use Rattle.work_laws.specs.Work.{by_walk, has_named, is_flagged, is_met, new_postings, old_postings, runs_in, spans_in, spans_where, unshared_blocks, unshared_entries, unshared_new, work_between, work_of}
 use Rattle.commit_judge.specs.Looks.{AreFewLooks, FewLooksLaw, FewToJudge, changed_posts, changed_spans, have_common, meets_changed, table_after}
 use Rattle.commit_judge.specs.Moves.{any_counted, context_after}
 use Rattle.commit_judge.specs.Tables.{with_spans, without_spans}
@@ -58,32 +59,7 @@ pub record Laws : Type 0 where
   pub named : NamedLaw
   pub pieces : PiecesLaw
 
--- ---- counts
-
--- where each span that passes one test passes one of two others, no more pass the one than pass either
-count_either : (f g h : Span → Bool) (xs : List Span) → ((x : Span) → Contains xs x → f x ≡ true → (g x ≡ true) ⊎ (h x ≡ true))
-    → count_by f xs ≤ count_by g xs + count_by h xs
-count_either f g h [] either = omega arith
-count_either f g h (y ∷ ys) either =
-    let a : count_by f (y ∷ ys) ≡ cond (f y) 1 0 + count_by f ys = sum_by-cons (λ x. cond (f x) 1 0) y ys in
-    let b : count_by g (y ∷ ys) ≡ cond (g y) 1 0 + count_by g ys = sum_by-cons (λ x. cond (g x) 1 0) y ys in
-    let d : count_by h (y ∷ ys) ≡ cond (h y) 1 0 + count_by h ys = sum_by-cons (λ x. cond (h x) 1 0) y ys in
-    let here : cond {A = ℕ} (f y) 1 0 ≤ cond (g y) 1 0 + cond (h y) 1 0 = one (f y) (g y) (h y) (either y (contains_first y ys)) in
-    let rest : count_by f ys ≤ count_by g ys + count_by h ys = count_either f g h ys (λ x has. either x (contains_more y ys x has)) in
-    omega (arith, a, b, d, here, rest)
-  where
-    one : (p q r : Bool) → (p ≡ true → (q ≡ true) ⊎ (r ≡ true)) → cond {A = ℕ} p 1 0 ≤ cond q 1 0 + cond r 1 0
-    one false q r is = omega arith
-    one true true r is = omega arith
-    one true false true is = omega arith
-    one true false false is = elim (is refl) [ inl first ↦ absurd (cc) | inr second ↦ absurd (cc) ]
-
-any_append_left : {X : Type 0} (f : X → Bool) (xs ys : List X) → list_any f xs ≡ true → list_any f (xs ++ ys) ≡ true
-any_append_left f [] ys is = absurd (cc)
-any_append_left f (x ∷ xs) ys is = elim (or_cases (f x) (list_any f xs) is) [
-  | inl here ↦ or_left (f x) (list_any f (xs ++ ys)) here
-  | inr later ↦ or_right (f x) (list_any f (xs ++ ys)) (any_append_left f xs ys later)
-]
+-- ---- members
 
 -- one of some that passes a test
 one_that : {X : Type 0} (f : X → Bool) (xs : List X) → list_any f xs ≡ true → (x : X) × Contains xs x × (f x ≡ true)
@@ -137,26 +113,21 @@ named_span (p ∷ ps) span address is has =
     same : (a b : ℕ) → (a == b) ≡ true → a ≡ b
     same a b is = eqb-true a b is
 
--- what one of some postings goes to, one of these and others does
-named_left : (these others : List Posting) (span : Span) → has_named these span ≡ true → has_named (these ++ others) span ≡ true
-unfolding has_named
-named_left these others span = any_append_left (λ (p : Posting). is_to_sector p && has_sector span p.account.block) these others
-
 -- ---- the sum
 
 -- What the parts of a commit cost, all in units of its work: the blocks of either image that are not shared, their entries, the postings that count,
--- the spans that are met, those that are flagged, the empty ones, the runs, and the chunks.
-total : (first differed planned last blocks news entries more posts came met meets flagged flags empty runs chunks fresh : ℕ)
+-- the spans that are met, those that are flagged, the runs, and the chunks.
+total : (first differed planned last blocks news entries more posts came met meets flagged flags runs chunks fresh : ℕ)
     (refs gone comes gone_spans came_spans changes old_items new_items moved found reached turned : ℕ)
     → differed ≤ first + (runs + 4 * chunks + fresh + 77 + 58 * blocks + 35 * news + 56 * entries + 4 * more)
     → planned ≤ differed + (6 * reached + 2 * turned + 2 * (chunks + fresh) + 2 * changes)
     → last ≤ planned + 4 * refs + 2 * (gone + comes) + 4 * (gone_spans + came_spans) + found + 3 + (blocks + news + moved)
-    → reached ≤ met + empty → turned ≤ flagged → found ≤ meets
+    → reached ≤ met + 2 * posts → turned ≤ flagged → found ≤ meets
     → gone ≤ posts + 2 * blocks + 1 → comes ≤ came + 2 * news + 1 → refs ≤ posts + came
     → gone_spans ≤ old_items → came_spans ≤ new_items → changes ≤ old_items + new_items → old_items ≤ entries → new_items ≤ more
     → moved ≤ 2 + (more + 8 * news + blocks) → 0 < chunks
-    → last ≤ first + 64 * ((blocks + news) + (entries + more) + (posts + came) + (met + meets) + (flagged + flags) + empty + runs + (chunks + fresh) + 1)
-total first differed planned last blocks news entries more posts came met meets flagged flags empty runs chunks fresh refs gone comes gone_spans
+    → last ≤ first + 64 * ((blocks + news) + (entries + more) + (posts + came) + (met + meets) + (flagged + flags) + runs + (chunks + fresh) + 1)
+total first differed planned last blocks news entries more posts came met meets flagged flags runs chunks fresh refs gone comes gone_spans
     came_spans changes old_items new_items moved found reached turned a b c d e f g h i j k l m n o p =
     omega (arith, a, b, c, d, e, f, g, h, i, j, k, l, m, n, o, p)
 
@@ -264,21 +235,6 @@ module _ (laws : Laws) (image : List ℕ) (pending : FinMap nat_cmp ℕ) (k : Kn
   spans_is : spans_of_items k.sup.nodesize (items_of old) ≡ spans_in old
   spans_is = ap (λ (s : Super). spans_of_items s.nodesize (items_of old)) was_is.sup
 
-  reached : count_by (is_reached k.chunks c.change.map) (spans_in old)
-      ≤ count_by (is_met image pending old new) (spans_in old) + count_by (is_empty_and_reached old new) (spans_in old)
-  reached =
-      count_either (is_reached k.chunks c.change.map) (is_met image pending old new) (is_empty_and_reached old new) (spans_in old) by
-    where
-      by : (span : Span) → Contains (spans_in old) span → is_reached k.chunks c.change.map span ≡ true
-          → (is_met image pending old new span ≡ true) ⊎ (is_empty_and_reached old new span ≡ true)
-      by span has is = elim (cases_lt 0 span.sectors) [
-        | inl some ↦ inl (named_left (old_postings image pending old new) (new_postings image pending old new) span (housed.reached span has is some))
-        | inr none ↦ inr (and_from (span.sectors == 0) (is_reached old.chunks new.chunks span)
-            (eq-eqb span.sectors 0 (omega (arith, none)))
-            (subst (λ (m : List Chunk). is_reached old.chunks m span ≡ true) map_is
-            (subst (λ (m : List Chunk). is_reached m c.change.map span ≡ true) was_is.chunks is)))
-      ]
-
   turned : count_by (is_turned k.free (flags_after c.change.old_items.items c.change.new_items.items c.changes k.free)) (spans_in old)
       ≡ count_by (is_flagged old new) (spans_in old)
   turned = λ i. count_by (is_turned (was_is.free i) ((flags_are ∙ now_is.free) i)) (spans_in old)
@@ -367,32 +323,32 @@ module _ (laws : Laws) (image : List ℕ) (pending : FinMap nat_cmp ℕ) (k : Kn
       let judged = overlaid pending 0 image in
       let differs = plans.differs old new known.bases.walks leads.known.bases.walks pieces.pieces pieces.are in
       let finds =
-      subst (λ (spans : List Span). middle ≤ plans.middle + (6 * count_by (is_reached k.chunks c.change.map) spans
+      subst (λ (spans : List Span). middle ≤ plans.middle + (6 * count_by (is_reached k.chunks c.change.map) housed.stops
       + 2 * count_by (is_turned k.free (flags_after c.change.old_items.items c.change.new_items.items c.changes k.free)) spans
       + 2 * (length k.chunks + length c.change.map) + 2 * length c.changes)) spans_is
-      (plans.finds (items_of old) housed.items housed.old_apart housed.new_apart
-      (subst (AreHoused k.chunks) (sym spans_is) housed.housed)) in
+      (plans.finds (items_of old) housed.items housed.stops (subst (λ (spans : List Span). HaveStops spans housed.stops) (sym spans_is) housed.stand)
+      housed.old_apart housed.new_apart housed.housed) in
       let moved = plans.moved old new known.bases.walks leads.known.bases.walks in
       let came_posts : length (step_posts (context_after k c) (came_by c) c.refs)
-      ≤ length (new_postings image pending old new) + 2 * length (new_unshared image pending old new) + 1 =
+      ≤ length (new_postings image pending old new) + 2 * length (unshared_new image pending old new) + 1 =
       subst (λ (x : Context). length (step_posts x (came_by c) c.refs)
-      ≤ length (new_postings image pending old new) + 2 * length (new_unshared image pending old new) + 1) context_is posts.came in
+      ≤ length (new_postings image pending old new) + 2 * length (unshared_new image pending old new) + 1) context_is posts.came in
       total first plans.middle middle last
-      (length (old_unshared image pending old new)) (length (new_unshared image pending old new))
-      (entries_of (side_of image old) (old_unshared image pending old new)) (entries_of (side_of judged new) (new_unshared image pending old new))
+      (length (unshared_old image pending old new)) (length (unshared_new image pending old new))
+      (entries_of (side_of image old) (unshared_old image pending old new)) (entries_of (side_of judged new) (unshared_new image pending old new))
       (length (old_postings image pending old new)) (length (new_postings image pending old new))
       (count_by (is_met image pending old new) (spans_in old)) (count_by (is_met image pending old new) (spans_in new))
       (count_by (is_flagged old new) (spans_in old)) (count_by (is_flagged old new) (spans_in new))
-      (count_by (is_empty_and_reached old new) (spans_in old)) (runs_in pending) (length old.chunks) (length new.chunks)
+      (runs_in pending) (length old.chunks) (length new.chunks)
       (length c.refs) (length (step_posts (context_by k) (gone_by k c) c.refs)) (length (step_posts (context_after k c) (came_by c) c.refs))
       (length gone) (length came) (length c.changes) (length c.change.old_items.items) (length c.change.new_items.items)
       (length c.change.moved.items) (count_by (meets_changed k c few.found) few.spans)
-      (count_by (is_reached k.chunks c.change.map) (spans_in old))
+      (count_by (is_reached k.chunks c.change.map) housed.stops)
       (count_by (is_turned k.free (flags_after c.change.old_items.items c.change.new_items.items c.changes k.free)) (spans_in old))
       (difference_sum first plans.middle _ _ _ _ _ _ _ _ _ _ _ _ differs pieces.count blocks.old_blocks blocks.new_blocks blocks.old_entries blocks.new_entries)
       (search_sum plans.middle middle _ _ _ _ _ _ _ finds (ap length was_is.chunks) (ap length map_is))
       (judge_sum middle last _ _ _ _ _ _ _ _ _ _ _ few.few blocks.old_blocks blocks.new_blocks)
-      reached (equal_le _ _ turned) met posts.gone came_posts posts.refs blocks.gone_spans blocks.came_spans blocks.changes blocks.old_items blocks.new_items
+      housed.few (equal_le _ _ turned) met posts.gone came_posts posts.refs blocks.gone_spans blocks.came_spans blocks.changes blocks.old_items blocks.new_items
       (moved_sum _ _ _ _ _ _ _ moved blocks.new_entries blocks.new_blocks blocks.old_blocks)
       (subst (λ (m : List Chunk). 0 < length m) was_is.chunks housed.some)
 

@@ -6,9 +6,10 @@ use Rattle.verdict.specs.declared.place.Chunk.{Chunk}
 use Rattle.write_cache.specs.Cache.{overlaid}
 use Rattle.write_cache.specs.Pieces.{ArePiecesOf, Piece}
 use Rattle.records.specs.Part.{Located}
+use Rattle.span_index.specs.declared.span.Span.{Span}
 use Rattle.block_source.specs.declared.halt.Halt.{Halt}
 use Rattle.change_records.specs.Homes.{StandApart}
-use Rattle.change_records.specs.Looks.{AreHoused, most_looks, spans_of}
+use Rattle.change_records.specs.Looks.{AreHoused, HaveStops, most_looks, spans_of}
 use Rattle.change_records.specs.Spans.{AreItemsOf}
 use Rattle.change_records.specs.SumFree.{flags_after}
 use Rattle.shared_trees.specs.LivePairs.{Walked, walked}
@@ -24,14 +25,15 @@ use Rattle.commit_judge.specs.declared.judge.Judged.{Judged}
 use Rattle.commit_judge.specs.declared.judge.Judged.TheVariants.{Passed, Rejected}
 use Rattle.commit_judge.specs.declared.plan.Plan.{Plan}
 
--- The looks for the kept items that post otherwise are few where the spans are those of some items, each in a chunk, and the chunks of each
--- image stand apart.
+-- The looks for the kept items that post otherwise are few where the spans are those of some items, those that stand for all have their extents
+-- in chunks, and the chunks of each image stand apart.
 abbrev pub FindsByFew : Known → Commit → ℕ → ℕ → Type 0
 FindsByFew k c before after =
-    (items : List Located) → AreItemsOf k.sup.nodesize k.spans items → StandApart k.chunks → StandApart c.change.map
-    → AreHoused k.chunks (spans_of k.sup.nodesize items)
+    (items : List Located) → AreItemsOf k.sup.nodesize k.spans items
+    → (stops : List Span) → HaveStops (spans_of k.sup.nodesize items) stops
+    → StandApart k.chunks → StandApart c.change.map → AreHoused k.chunks stops
     → after ≤ before + most_looks k.chunks c.change.map k.free (flags_after c.change.old_items.items c.change.new_items.items c.changes k.free)
-    (spans_of k.sup.nodesize items) (length c.changes)
+    (spans_of k.sup.nodesize items) stops (length c.changes)
 
 -- The looks to make a plan are few, and so are the shared pairs that are shifted.
 pub record PlansByFew (image : List ℕ) (pending : FinMap nat_cmp ℕ) (k : Known) (c : Commit) (before after : ℕ) : Type 0 where

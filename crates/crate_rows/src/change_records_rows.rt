@@ -252,16 +252,8 @@ fn shown(tree: u64, ino: u64, file_offset: u64, extent: u64) -> SpanSort {
     }
 }
 
-// The kept items that post otherwise, where the chunks become these, and inode 258 of tree 5 changes from
-// one list to the other.
-fn answer(
-    alloc: Global,
-    free: bool,
-    (metadata, data): (Chunk, Chunk),
-    old: &[ItemAt],
-    new: &[ItemAt],
-) -> Result<Vec<ItemRef>, NoMemory> {
-    let mut steps = Steps::new(());
+// What is known of the old image, with a live pair for the tree block.
+fn known(alloc: Global, free: bool, steps: &mut Steps<()>) -> Result<Known, NoMemory> {
     let mut live = LiveIndex::new(alloc);
     let root = Live {
         tree: 5,
@@ -273,24 +265,64 @@ fn answer(
         parent: 0,
         owner: 5,
     };
-    live.insert(root, &mut steps)?;
+    live.insert(root, steps)?;
     let map = map_of(
         alloc,
         chunk(METADATA, 8_388_608, 4, 0),
         chunk(DATA, 8_388_608, 1, DATA),
     )?;
-    let known = Known {
+    Ok(Known {
         sup: superblock(),
         map,
         live,
         free,
-    };
+    })
+}
+
+// The kept items that post otherwise, where the chunks become these, and inode 258 of tree 5 changes from
+// one list to the other.
+fn answer(
+    alloc: Global,
+    free: bool,
+    (metadata, data): (Chunk, Chunk),
+    old: &[ItemAt],
+    new: &[ItemAt],
+) -> Result<Vec<ItemRef>, NoMemory> {
+    let mut steps = Steps::new(());
+    let known = known(alloc, free, &mut steps)?;
     let spans = spans(alloc, &mut steps)?;
     let fresh = map_of(alloc, metadata, data)?;
     let changes = pair(alloc, old, new)?;
     affected(
         alloc, &known, &spans, &changes, old, new, &fresh, &mut steps,
     )
+}
+
+// The looks for the kept items that post otherwise, where an extent at the begin of the data chunk has ranges
+// of no bytes at these addresses, and the chunk becomes shorter.
+fn looks_over(alloc: Global, places: &[u64]) -> Result<u64, NoMemory> {
+    let mut steps = Steps::new(());
+    let known = known(alloc, false, &mut steps)?;
+    let mut spans = SpanIndex::new(alloc);
+    for (nth, place) in places.iter().enumerate() {
+        let span = Span {
+            first: *place,
+            sectors: 0,
+            sort: shown(5, 258, nth as u64, DATA),
+        };
+        spans.insert(span, &mut steps)?;
+    }
+    let fresh = map_of(
+        alloc,
+        chunk(METADATA, 8_388_608, 4, 0),
+        chunk(DATA, 4_194_304, 1, DATA),
+    )?;
+    let before = steps.looks();
+    let refs = affected(alloc, &known, &spans, &[], &[], &[], &fresh, &mut steps)?;
+    if !refs.is_empty() {
+        return Ok(0);
+    }
+    Ok(steps.looks().saturating_sub(before))
 }
 
 const BLOCK: (u64, u64, u8, u64) = (2, METADATA, 169, 0);
@@ -365,5 +397,21 @@ fn flags_that_turn_affect_what_an_inode_shows(rt: HostRuntime) -> Result<(), NoM
     let old = [inode(5, 1, 258, 0, 1), range(5, 258)];
     let gone = answer(rt.alloc(), true, chunks, &old, &[])?;
     assert!(rt; are(&gone, &wanted[1..]));
+    Ok(())
+}
+
+#[test]
+fn ranges_of_no_bytes_at_one_place_cost_one_look(rt: HostRuntime) -> Result<(), NoMemory> {
+    let none = looks_over(rt.alloc(), &[])?;
+    let one = looks_over(rt.alloc(), &[DATA + 4096])?;
+    let five = looks_over(rt.alloc(), &[DATA + 4096; 5])?;
+    let apart = looks_over(
+        rt.alloc(),
+        &[DATA + 4096, DATA + 8192, DATA + 12_288, DATA + 4096],
+    )?;
+    assert!(rt; none == 2);
+    assert!(rt; one == 3);
+    assert!(rt; five == 3);
+    assert!(rt; apart == 5);
     Ok(())
 }

@@ -118,7 +118,7 @@ pub on_err : {A E P Q : Type 0} (result : Result A E) → (P → Q) → OnErr re
 on_err (Ok a) follows is = is
 on_err (Err e) follows is = follows is
 
-raised_nothing : (b : Bool) (amount sum : ℕ) → amount < 2 ^ 64 → sum ≡ 0 → cond b amount 0 ≡ raise (cond b amount 0) sum
+pub raised_nothing : (b : Bool) (amount sum : ℕ) → amount < 2 ^ 64 → sum ≡ 0 → cond b amount 0 ≡ raise (cond b amount 0) sum
 raised_nothing true amount sum small zero = omega arith
 raised_nothing false amount sum small zero = omega arith
 

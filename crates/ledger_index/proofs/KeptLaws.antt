@@ -1,6 +1,6 @@
 -- The sums of an account in seven small numbers and two longer ones.
 use Rattle.std.proofs.Common.{◌≡◌, ◌+◌, ◌-◌, ◌<◌, ◌≤◌, ℕ, Bool, List, refl, ap, sym, ◌∙◌, subst, arith, slice_index, ⊎_elim, length, zero, suc}
-use Rattle.std.specs.Prelude.{IsTrue, ◌↔◌}
+use Rattle.std.specs.Prelude.{IsTrue, ◌↔◌, replicate}
 use Rattle.std.proofs.lemmas.List.{get_or_past}
 use Rattle.std.proofs.lemmas.Bool.{cases_lt, lt-ltb}
 use Rattle.ledger_index.specs.declared.kept.Kept.{Kept}
@@ -21,6 +21,12 @@ pub long_by : (few long : List ℕ) (is : ℕ → ℕ) → ((n : ℕ) → n < 7 
 long_by few long is first last n =
     ⊎_elim (λ small. kept_first few long n small ∙ first n small)
     (λ big. kept_last few long n big ∙ last (n - 7) ∙ ap is (omega arith)) (cases_lt n 7)
+
+-- of no sums each is zero
+pub none_by : (count n : ℕ) → slice_index (replicate count 0) n ≡ 0
+none_by zero n = refl
+none_by (suc count) zero = refl
+none_by (suc count) (suc n) = none_by count n
 
 -- of two numbers
 pub two_by : (long : List ℕ) (is : ℕ → ℕ) → length long ≡ 2 → slice_index long 0 ≡ is 0 → slice_index long 1 ≡ is 1 → ((n : ℕ) → 2 ≤ n → is n ≡ 0)

@@ -1,6 +1,6 @@
 -- Entries of a table by their indices.
 use Rattle.std.proofs.Common.{◌≡◌, ℕ, Bool, true, false, cond, List, [], ◌∷◌, zero, suc, refl, ap, sym, ◌∙◌, subst}
-use Rattle.std.specs.Prelude.{Option, Some, None, IsSome, slice_get}
+use Rattle.std.specs.Prelude.{Option, Some, None, IsSome, IfSome, slice_get}
 use Rattle.std.specs.Cmp.{IsEquivalence}
 use Rattle.std.specs.List.{AllByRecursion, IsDistinct}
 use Rattle.std.specs.Option.{option_copied_mut, option_map}
@@ -9,7 +9,8 @@ use Rattle.std.specs.Map.{keys_of, lookup, lookup_key, values_of}
 use Rattle.std.proofs.lemmas.Map.Keys.{IsDistinct-head, IsDistinct-tail}
 use Rattle.std.proofs.lemmas.Map.Made.{lookup_key_passes}
 use Rattle.std.proofs.lemmas.Option.{slice_get-map}
-use Rattle.indexmap.specs.IndexMap.{IndexMap, IsUnique, values, with_value_at}
+use Rattle.indexmap.proofs.CallerLemmas.{keys-with_value_at}
+use Rattle.indexmap.specs.IndexMap.{IndexMap, IsUnique, Updates, keys, values, with_value_at}
 use Rattle.indexmap.specs.Layout.{set_value_at}
 use Rattle.ledger_index.specs.declared.kept.Kept.{Kept}
 use Rattle.ledger_index.specs.Entries.{StandsAt, by_key}
@@ -78,11 +79,28 @@ module _ {K : Type 0} (same : K → K → Bool) (laws : IsEquivalence same) wher
   gone_case false w x y z is put = is ∙ put
 
   -- and then the entry goes
-  pub gone_after : {S : Type 0} (m m' n : IndexMap K Kept S) (i : ℕ) (k : K) (w : Kept) → m' ≡ m → IsUnique same m' → StandsAt same m i k
+  gone_after : {S : Type 0} (m m' n : IndexMap K Kept S) (i : ℕ) (k : K) (w : Kept) → m' ≡ m → IsUnique same m' → StandsAt same m i k
       → ((q : K) → by_key same n q ≡ cond (same k q) None (by_key same (with_value_at m' i w) q))
       → (q : K) → by_key same n q ≡ cond (same k q) None (by_key same m q)
   gone_after m m' n i k w stay unique is gone q =
       gone_case (same k q) (Some w) (by_key same n q) (by_key same (with_value_at m' i w) q) (by_key same m q) (gone q) (put_after m m' i k w stay unique is q)
+
+  -- an entry that goes by its index goes by its key
+  gone_at : {S : Type 0} (m n : IndexMap K Kept S) (i : ℕ) (k : K) (r : Option (K × Kept)) → r ≡ slice_get m.entries i → slice_get (keys m) i ≡ Some k
+      → IfSome r (λ p. Updates same m n p.0 None) → (q : K) → by_key same n q ≡ cond (same k q) None (by_key same m q)
+  gone_at m n i k None at key gone q =
+      let is : None ≡ Some k = ap (option_map (λ (e : K × Kept). e.0)) at ∙ sym (slice_get-map (λ e. e.0) m.entries i) ∙ key in absurd (cc is)
+  gone_at m n i k (Some p) at key gone q =
+      let is : Some p.0 ≡ Some k = ap (option_map (λ (e : K × Kept). e.0)) at ∙ sym (slice_get-map (λ e. e.0) m.entries i) ∙ key in
+      let same_key : p.0 ≡ k = cc is in
+      gone.0 q ∙ ap (λ y. cond (same y q) None (by_key same m q)) same_key
+
+  pub gone_placed : {S : Type 0} (m m' n : IndexMap K Kept S) (i : ℕ) (k : K) (w : Kept) (r : Option (K × Kept)) → m' ≡ m → IsUnique same m'
+      → StandsAt same m i k → r ≡ slice_get (with_value_at m' i w).entries i → IfSome r (λ p. Updates same (with_value_at m' i w) n p.0 None)
+      → (q : K) → by_key same n q ≡ cond (same k q) None (by_key same m q)
+  gone_placed m m' n i k w r stay unique is at gone =
+      gone_after m m' n i k w stay unique is
+      (gone_at (with_value_at m' i w) n i k r at (ap (λ ks. slice_get ks i) (keys-with_value_at m' i w ∙ ap keys stay) ∙ is.key) gone)
 
 -- what is kept at an index
 pub kept_at : {K S : Type 0} (same : K → K → Bool) (m m' : IndexMap K Kept S) (i : ℕ) (k : K) (r : Option (MutBor Kept)) (v : MutBor Kept)

@@ -1,6 +1,7 @@
 -- The accounts that take 32 bytes. It serves to state what private functions keep.
-use Rattle.std.specs.Prelude.{ℕ, Bool, false, nat_eq, ◌+◌, ◌*◌, ◌^◌, ◌++◌, ◌&&◌, ◌==◌, nat_le, nat_lt, List, [], ◌∷◌, length, take, drop, Option, Some, None, if◌then◌else◌}
+use Rattle.std.specs.Prelude.{ℕ, Bool, false, nat_eq, ◌+◌, ◌*◌, ◌^◌, ◌++◌, ◌&&◌, ◌==◌, nat_le, nat_lt, List, [], ◌∷◌, length, take, drop, slice_index, Option, Some, None, if◌then◌else◌}
 use Rattle.std.specs.Hash as fed
+use Rattle.std.specs.Int.{w32, w64, from_le_bytes}
 use Rattle.std.specs.Cmp.Lexicographic.{pointwise}
 use Rattle.accounts.specs.declared.account.Account.{Account}
 use Rattle.ledger_index.specs.declared.place.Place.{Place}
@@ -55,10 +56,26 @@ is_same_place (Named length kind sort tree objectid offset detail tail) (Named l
 abbrev pub head_of : ℕ → ℕ → ℕ → ℕ
 head_of kind sort tree = kind + 256 * sort + 65536 * tree
 
+abbrev pub named_head_of : ℕ → ℕ → ℕ → ℕ → ℕ
+named_head_of length kind sort tree = head_of kind sort tree + 281474976710656 * length
+
+-- the bytes of a tail of twelve in two numbers
+unfoldable pub front_number : List ℕ → ℕ
+front_number tail = from_le_bytes w64
+    (slice_index tail 0 ∷ slice_index tail 1 ∷ slice_index tail 2 ∷ slice_index tail 3
+    ∷ slice_index tail 4 ∷ slice_index tail 5 ∷ slice_index tail 6 ∷ slice_index tail 7 ∷ [])
+
+unfoldable pub back_number : List ℕ → ℕ
+back_number tail = from_le_bytes w32 (slice_index tail 8 ∷ slice_index tail 9 ∷ slice_index tail 10 ∷ slice_index tail 11 ∷ [])
+
 abbrev pub two_of : ℕ → ℕ → ℕ
 two_of low high = low + 4294967296 * high
 
+abbrev pub wide_of : ℕ → ℕ → ℕ
+wide_of low high = low + 18446744073709551616 * high
+
 abbrev pub place_fed : Place → List (List ℕ)
-place_fed (Plain kind sort tree block objectid offset) = fed.u64 (head_of kind sort tree) ++ (fed.u64 block ++ (fed.u64 objectid ++ fed.u64 offset))
+place_fed (Plain kind sort tree block objectid offset) = fed.u128 (wide_of (head_of kind sort tree) block) ++ fed.u128 (wide_of objectid offset)
 place_fed (Named length kind sort tree objectid offset detail tail) =
-    fed.u64 (head_of kind sort tree) ++ (fed.u64 (two_of objectid offset) ++ (fed.u64 (two_of detail length) ++ (tail ∷ [])))
+    fed.u128 (wide_of (named_head_of length kind sort tree) (two_of objectid offset))
+    ++ fed.u128 (wide_of (front_number tail) (two_of (back_number tail) detail))

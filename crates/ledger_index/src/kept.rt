@@ -66,8 +66,13 @@ impl Kept {
         requires { field < 9 }
         ensures { IfOk result (λ kept. (n : ℕ) → kept_sum kept n ≡ amount_at field amount n) }
     {
+        let field = usize::from(field);
+        let mut few = [0; 9];
+        if raise_few(&mut few, field, amount) {
+            return Ok(Kept::Few(few));
+        }
         let mut totals = Totals::zero();
-        raise_sum(&mut totals, usize::from(field), amount);
+        raise_sum(&mut totals, field, amount);
         Kept::of(alloc, totals)
     }
 
@@ -85,6 +90,19 @@ impl Kept {
         if self.raise_in_place(field, amount) {
             return Ok(false);
         }
+        self.raise_anew(alloc, field, amount)
+    }
+
+    // Adds as `raise` does, where there is no room for the amount in the bytes in which the sum is kept.
+    #[inline(never)]
+    #[tactic(auto, unfolding(crate::specs::Kept::kept_sum))]
+    fn raise_anew(&mut self, alloc: Global, field: usize, amount: u64) -> Result<bool, NoMemory>
+        requires { field < 9 }
+        ensures ok { OnOk result ((n : ℕ) →
+            kept_sum self.new n ≡ raise (amount_at field amount n) (kept_sum self.old n)) }
+        ensures full { IfOk result (λ full. full ≡ false → kept_sum self.new field < greatest) }
+        ensures err { OnErr result ((n : ℕ) → kept_sum self.new n ≡ kept_sum self.old n) }
+    {
         if let Kept::Whole(totals) = self {
             return Ok(raise_sum(totals, field, amount));
         }

@@ -1,6 +1,6 @@
 //! The ledger.
 
-ghost use Rattle.std.specs.Prelude.{◌≡◌, ℕ, ◌+◌, ◌<◌, ◌≤◌, [], false, IfOk, OnOk, OnErr, nat_lt};
+ghost use Rattle.std.specs.Prelude.{◌≡◌, ℕ, ◌+◌, ◌<◌, ◌≤◌, [], false, None, IfOk, OnOk, OnErr, nat_lt};
 ghost use Rattle.std.specs.BTreeMap.{btree_map_len};
 ghost use Rattle.indexmap.specs.IndexMap.{index_map_len};
 ghost use Rattle.accounts.specs.Broken.{is_broken};
@@ -10,10 +10,11 @@ ghost use Rattle.accounts.specs.Tally.{no_sums};
 ghost use Rattle.recon_disk.specs.Outside.{counted};
 ghost use Rattle.ledger_index.specs.Sums.{changed, greatest, lower, raise};
 ghost use Rattle.ledger_index.specs.Judged.{IsLeastBut, is_later, lesser_of};
+ghost use Rattle.ledger_index.specs.Place.{place_of};
 
 use crate::judged::{breaks, stand_in, stands_before};
 use crate::long_place::LongPlace;
-use crate::place::Place;
+use crate::place::{Place, mixed_by};
 use crate::table::Table;
 use crate::whole::{Whole, copy_of};
 use accounts::{Account, Totals, broken};
@@ -119,19 +120,58 @@ impl<L> LedgerIndex<L> {
         // A call that changes nothing is a look too.
         steps.look();
         if !names_a_sum(field) || amount == 0 {
-            return Ok(is_full(&self.totals_of(account), field));
+            return Ok(self.is_full_at(account, field));
+        }
+        let mixed = mixed_by(account);
+        if let Some((at, place)) = self.short.hinted_of(account, mixed) {
+            return self.short.add_at(self.alloc, at, &place, field, amount);
         }
         if let Some(place) = Place::of(account) {
             self.short.seed(self.alloc, &steps.seed());
-            return self.short.add(self.alloc, &place, field, amount);
+            return self
+                .short
+                .add_by_hash(self.alloc, &place, mixed, field, amount);
         }
+        self.add_apart(account, field, amount, &steps.seed())
+    }
+
+    // Adds as `add_saturating` does, to an account that has no short place. It stands apart from the others: what it takes
+    // on the stack is not made ready for them.
+    #[inline(never)]
+    #[tactic(auto, using(crate::proofs::LedgerLaws::is_tidy))]
+    fn add_apart(
+        &mut self,
+        account: &Account,
+        field: u8,
+        amount: u64,
+        seed: &[u8; 16],
+    ) -> Result<bool, NoMemory>
+        requires apart { place_of account.now ≡ None }
+        requires named { field < 9 }
+        requires more { 0 < amount }
+        ensures ok { OnOk result
+            (sums_of self.new ≡ changed raise (sums_of self.old) account.now field amount) }
+        ensures full { IfOk result (λ full. full ≡ false →
+            sums_of self.new account.now field < greatest) }
+        ensures err { OnErr result (sums_of self.new ≡ sums_of self.old) }
+        ensures entries { IsTidy self.new }
+        ensures few { entries_of self.new ≤ entries_of self.old + 1 }
+    {
         match LongPlace::of(account) {
             Some(place) => {
-                self.long.seed(self.alloc, &steps.seed());
+                self.long.seed(self.alloc, seed);
                 self.long.add(self.alloc, &place, field, amount)
             }
             None => self.whole.add(self.alloc, account, field, amount),
         }
+    }
+
+    // Whether a sum of an account stands at the greatest number of 128 bits. A field above 8 names no sum.
+    #[inline(never)]
+    fn is_full_at(&self, account: &Account, field: u8) -> bool
+        ensures { result ≡ false → sums_of self.now account.now field < greatest }
+    {
+        is_full(&self.totals_of(account), field)
     }
 
     /// Takes an amount from the sum of an account with this number, or all that stands there where that is less. A

@@ -4,7 +4,7 @@ ghost use Rattle.std.specs.Prelude.{◌≡◌, ◌≤◌, IfOk, length};
 ghost use Rattle.ledger_index.specs.LongPlace as spec;
 ghost use Rattle.ledger_index.specs.LongPlaceLaws.{long_equiv, long_fed_alike, long_per, same_long};
 
-use crate::place::{front_of, head_of, mixed_of, two_of};
+use crate::place::{front_of, head_of, mixed_of, two_of, wide_of};
 use crate::table::Exact;
 use accounts::Account;
 use std::alloc::Global;
@@ -67,8 +67,8 @@ impl Hash for LongPlace {
     ghost respects_eq = { long_fed_alike };
 
     fn hash<H: Hasher>(&self, state: &mut H) {
-        state.write_u64(head_of(self.kind, self.sort, self.tree));
-        state.write_u64(two_of(self.objectid, self.offset));
+        let head = head_of(self.kind, self.sort, self.tree);
+        state.write_u128(wide_of(head, two_of(self.objectid, self.offset)));
         state.write_u64(two_of(self.detail, u32::from(self.length)));
         state.write(&self.tail);
     }

@@ -1,6 +1,6 @@
 //! Accounts in 32 bytes.
 
-ghost use Rattle.std.specs.Prelude.{◌≡◌, ◌≤◌, IfOk, length, take};
+ghost use Rattle.std.specs.Prelude.{◌≡◌, ◌≤◌, Some, true, IfOk, length, take};
 ghost use Rattle.ledger_index.specs.Place as spec;
 ghost use Rattle.ledger_index.specs.PlaceLaws.{fed_alike, place_equiv, place_per, same_place};
 
@@ -130,6 +130,15 @@ impl Exact for Place {
     }
 }
 
+/// The number of the place of an account, without the place.
+pub(crate) fn mixed_by(account: &Account) -> u64 {
+    mixed_of(
+        account.kind,
+        account.key.objectid ^ account.block,
+        account.key.offset,
+    )
+}
+
 /// A number that accounts seldom have in common whose kinds and numbers differ. Those of numbers in a row are far apart.
 pub(crate) fn mixed_of(kind: u8, objectid: u64, offset: u64) -> u64 {
     objectid
@@ -153,10 +162,8 @@ impl Hash for Place {
                 objectid,
                 offset,
             } => {
-                state.write_u64(head_of(*kind, *sort, *tree));
-                state.write_u64(*block);
-                state.write_u64(*objectid);
-                state.write_u64(*offset);
+                state.write_u128(wide_of(head_of(*kind, *sort, *tree), *block));
+                state.write_u128(wide_of(*objectid, *offset));
             }
             Place::Named {
                 length,
@@ -168,10 +175,9 @@ impl Hash for Place {
                 detail,
                 tail,
             } => {
-                state.write_u64(head_of(*kind, *sort, *tree));
-                state.write_u64(two_of(*objectid, *offset));
-                state.write_u64(two_of(*detail, u32::from(*length)));
-                state.write(tail);
+                let head = named_head_of(*length, *kind, *sort, *tree);
+                state.write_u128(wide_of(head, two_of(*objectid, *offset)));
+                state.write_u128(wide_of(front_number(tail), two_of(back_number(tail), *detail)));
             }
         }
     }
@@ -184,11 +190,43 @@ pub(crate) fn head_of(kind: u8, sort: u8, tree: u32) -> u64
     u64::from(kind) + 256 * u64::from(sort) + 65536 * u64::from(tree)
 }
 
+// A length of a tail, a kind, a sort and a tree in one number.
+fn named_head_of(length: u8, kind: u8, sort: u8, tree: u32) -> u64
+    ensures { result ≡ spec.named_head_of length kind sort tree }
+{
+    head_of(kind, sort, tree) + 281474976710656 * u64::from(length)
+}
+
+// The first eight bytes of a tail in one number.
+#[tactic(auto, unfolding(crate::specs::Place::front_number))]
+fn front_number(tail: &[u8; 12]) -> u64
+    ensures { result ≡ spec.front_number tail.now }
+{
+    u64::from_le_bytes([
+        tail[0], tail[1], tail[2], tail[3], tail[4], tail[5], tail[6], tail[7],
+    ])
+}
+
+// The last four bytes of a tail in one number.
+#[tactic(auto, unfolding(crate::specs::Place::back_number))]
+fn back_number(tail: &[u8; 12]) -> u32
+    ensures { result ≡ spec.back_number tail.now }
+{
+    u32::from_le_bytes([tail[8], tail[9], tail[10], tail[11]])
+}
+
 // Two numbers in one.
 pub(crate) fn two_of(low: u32, high: u32) -> u64
     ensures { result ≡ spec.two_of low high }
 {
     u64::from(low) + 4294967296 * u64::from(high)
+}
+
+// Two longer numbers in one. A hash takes one number of 16 bytes in less time than two of 8.
+pub(crate) fn wide_of(low: u64, high: u64) -> u128
+    ensures { result ≡ spec.wide_of low high }
+{
+    u128::from(low) + 18446744073709551616 * u128::from(high)
 }
 
 /// So many first bytes, or all where there are less.
@@ -209,6 +247,54 @@ impl Place {
         match Place::plain(account) {
             Some(place) => Some(place),
             None => Place::named(account),
+        }
+    }
+
+    /// Whether an account has this place.
+    #[tactic(auto, unfolding(crate::specs::Place::place_of))]
+    pub(crate) fn is_of(&self, account: &Account) -> bool
+        ensures { result ≡ true → spec.place_of account.now ≡ Some self.now }
+    {
+        match *self {
+            Place::Plain {
+                kind,
+                sort,
+                tree,
+                block,
+                objectid,
+                offset,
+            } => {
+                account.key.objectid == objectid
+                    && account.kind == kind
+                    && account.key.kind == sort
+                    && account.key.offset == offset
+                    && account.block == block
+                    && account.tree == u64::from(tree)
+                    && account.detail == 0
+                    && account.tail.as_slice().is_empty()
+            }
+            Place::Named {
+                length,
+                kind,
+                sort,
+                tree,
+                objectid,
+                offset,
+                detail,
+                tail,
+            } => {
+                account.key.objectid == u64::from(objectid)
+                    && account.kind == kind
+                    && account.key.kind == sort
+                    && account.key.offset == u64::from(offset)
+                    && account.block == 0
+                    && account.tree == u64::from(tree)
+                    && account.detail == u64::from(detail)
+                    && account.tail.as_slice().len() == usize::from(length)
+                    && (detail != 0 || length != 0)
+                    && length <= 12
+                    && padded(account.tail.as_slice()) == tail
+            }
         }
     }
 

@@ -1,16 +1,19 @@
 //! Sums by accounts in a few bytes.
 
-ghost use Rattle.std.specs.Prelude.{◌≡◌, ◌+◌, ◌<◌, ◌≤◌, ℕ, IsTrue, false, None, IfSome, IfOk, OnOk, OnErr};
+ghost use Rattle.std.specs.Prelude.{◌≡◌, ◌+◌, ◌<◌, ◌≤◌, ℕ, IsTrue, false, Some, None, IfSome, IfOk, OnOk, OnErr};
 ghost use Rattle.indexmap.specs.IndexMap.{index_map_len};
 ghost use Rattle.accounts.specs.Sums.{sum_in};
 ghost use Rattle.ledger_index.specs.Sums.{greatest, lower, raise};
 ghost use Rattle.ledger_index.specs.Kept.{sums_at};
+ghost use Rattle.ledger_index.specs.Place.{is_same_place, place_of};
 ghost use Rattle.ledger_index.specs.Entries.{AreTidy, Changes, StandsAt, Stays, by_key};
 
 use crate::kept::Kept;
+use crate::place::Place;
 use crate::seeded::Seeded;
-use accounts::Totals;
+use accounts::{Account, Totals};
 use indexmap::IndexMap;
+use indexmap::map::Entry;
 use std::alloc::Global;
 use std::hash::Hash;
 use verdict::NoMemory;
@@ -107,16 +110,73 @@ impl<K: Exact> Table<K> {
             (Stays (by_key K.eq self.old.entries) (by_key K.eq self.new.entries)) }
         ensures few { index_map_len self.new.entries ≤ index_map_len self.old.entries + 1 }
     {
-        if let Some(at) = self.index_of(key) {
-            let kept = self.entries.get_index_mut(at).unwrap();
-            return kept.raise(alloc, field, amount);
+        let mixed = key.mixed();
+        if let Some(at) = self.hinted(key, mixed) {
+            return self.add_at(alloc, at, key, field, amount);
         }
-        let kept = Kept::one(alloc, field, amount)?;
-        match self.entries.insert_full(*key, kept) {
-            Ok((at, _)) => {
-                self.near[slot_of(key)] = hint_of(key, at);
-                Ok(false)
+        self.add_by_hash(alloc, key, mixed, field, amount)
+    }
+
+    /// Adds as `add` does, to an account whose entry stands at this index.
+    pub(crate) fn add_at(
+        &mut self,
+        alloc: Global,
+        at: usize,
+        key: &K,
+        field: u8,
+        amount: u64,
+    ) -> Result<bool, NoMemory>
+        requires there { StandsAt K.eq self.old.entries at key.now }
+        requires named { field < 9 }
+        requires more { 0 < amount }
+        ensures ok { OnOk result (Changes K.eq raise (by_key K.eq self.old.entries)
+            (by_key K.eq self.new.entries) key.now field amount) }
+        ensures full { IfOk result (λ full. full ≡ false →
+            sums_at (by_key K.eq self.new.entries key.now) field < greatest) }
+        ensures err { OnErr result
+            (Stays (by_key K.eq self.old.entries) (by_key K.eq self.new.entries)) }
+        ensures few { index_map_len self.new.entries ≤ index_map_len self.old.entries + 1 }
+    {
+        let kept = self.entries.get_index_mut(at).unwrap();
+        kept.raise(alloc, field, amount)
+    }
+
+    /// Adds as `add` does, and finds the account by its hash, which is computed once.
+    #[inline(never)]
+    pub(crate) fn add_by_hash(
+        &mut self,
+        alloc: Global,
+        key: &K,
+        mixed: u64,
+        field: u8,
+        amount: u64,
+    ) -> Result<bool, NoMemory>
+        requires named { field < 9 }
+        requires more { 0 < amount }
+        ensures ok { OnOk result (Changes K.eq raise (by_key K.eq self.old.entries)
+            (by_key K.eq self.new.entries) key.now field amount) }
+        ensures full { IfOk result (λ full. full ≡ false →
+            sums_at (by_key K.eq self.new.entries key.now) field < greatest) }
+        ensures err { OnErr result
+            (Stays (by_key K.eq self.old.entries) (by_key K.eq self.new.entries)) }
+        ensures few { index_map_len self.new.entries ≤ index_map_len self.old.entries + 1 }
+    {
+        match self.entries.entry(*key) {
+            Ok(Entry::Occupied(entry)) => {
+                self.near[slot_of(mixed)] = hint_of(mixed, entry.index());
+                entry.into_mut().raise(alloc, field, amount)
             }
+            Ok(Entry::Vacant(entry)) => match Kept::one(alloc, field, amount) {
+                Ok(kept) => {
+                    self.near[slot_of(mixed)] = hint_of(mixed, entry.index());
+                    entry.insert(kept);
+                    Ok(false)
+                }
+                Err(_) => {
+                    entry.into_key();
+                    Err(NoMemory)
+                }
+            },
             Err(_) => Err(NoMemory),
         }
     }
@@ -133,47 +193,76 @@ impl<K: Exact> Table<K> {
         let kept = self.entries.get_index_mut(at).unwrap();
         kept.lower(field, amount);
         if kept.is_zero() {
-            self.entries.swap_remove(key);
+            self.entries.swap_remove_index(at);
         }
     }
 
-    // Where the entry of an account stands, or `None` where it has none. The entry that was last found for an account of
-    // the same slot is looked at first, without a hash, where its bits are those of the account: accounts come again soon, as
-    // those of the names in a directory do.
+    // Where the entry of an account stands, or `None` where it has none.
     fn index_of(&mut self, key: &K) -> Option<usize>
         ensures entries { self.new.entries ≡ self.old.entries }
         ensures found { IfSome result (λ i. StandsAt K.eq self.old.entries i key.now) }
         ensures none { result ≡ None → by_key K.eq self.old.entries key.now ≡ None }
     {
-        let hint = self.near[slot_of(key)];
-        if hint.bits == bits_of(key)
+        let mixed = key.mixed();
+        if let Some(at) = self.hinted(key, mixed) {
+            return Some(at);
+        }
+        let (at, _, _) = self.entries.get_full(key)?;
+        self.near[slot_of(mixed)] = hint_of(mixed, at);
+        Some(at)
+    }
+
+    // Where the entry of an account stands, if it is the one that was last found for an account of the same slot. That one is
+    // looked at without a hash, where its bits are those of the account: accounts come again soon, as those of the names in a
+    // directory do.
+    fn hinted(&self, key: &K, mixed: u64) -> Option<usize>
+        ensures { IfSome result (λ i. StandsAt K.eq self.now.entries i key.now) }
+    {
+        let hint = self.near[slot_of(mixed)];
+        if hint.bits == bits_of(mixed)
             && let Some((there, _)) = self.entries.get_index(hint.at as usize)
             && *there == *key
         {
             return Some(hint.at as usize);
         }
-        let (at, _, _) = self.entries.get_full(key)?;
-        self.near[slot_of(key)] = hint_of(key, at);
-        Some(at)
+        None
     }
 }
 
-// The slot of a key among the hints.
-fn slot_of<K: Exact>(key: &K) -> usize
+impl Table<Place> {
+    /// Where the entry of an account stands, and its place, if it is the one that was last found for an account of the same
+    /// slot. The place is not made of the account: the account is compared with what stands there.
+    pub(crate) fn hinted_of(&self, account: &Account, mixed: u64) -> Option<(usize, Place)>
+        ensures { IfSome result (λ p. (place_of account.now ≡ Some p.1)
+            × StandsAt is_same_place self.now.entries p.0 p.1) }
+    {
+        let hint = self.near[slot_of(mixed)];
+        if hint.bits == bits_of(mixed)
+            && let Some((place, _)) = self.entries.get_index(hint.at as usize)
+            && place.is_of(account)
+        {
+            return Some((hint.at as usize, *place));
+        }
+        None
+    }
+}
+
+// The slot of a key among the hints, by its number.
+fn slot_of(mixed: u64) -> usize
     ensures { result < 4096 }
 {
-    (key.mixed() >> 52) as usize % SLOTS
+    (mixed >> 52) as usize % SLOTS
 }
 
-// The bits of a key by which its hint is told from others at the slot.
-fn bits_of<K: Exact>(key: &K) -> u32 {
-    (key.mixed() >> 32) as u32
+// The bits of a key's number by which its hint is told from others at the slot.
+fn bits_of(mixed: u64) -> u32 {
+    (mixed >> 32) as u32
 }
 
-// A hint to the entry of a key.
-fn hint_of<K: Exact>(key: &K, at: usize) -> Hint {
+// A hint to the entry of a key with this number.
+fn hint_of(mixed: u64, at: usize) -> Hint {
     Hint {
         at: u32::try_from(at).unwrap_or(0),
-        bits: bits_of(key),
+        bits: bits_of(mixed),
     }
 }

@@ -19,7 +19,8 @@ use Rattle.change_laws.specs.Steps.{spans_of}
 use Rattle.change_laws.proofs.SStep.{ascend_items}
 use Rattle.change_laws.proofs.WCommit.{ok_same}
 use Rattle.work_laws.specs.Blocks.{BlocksCountedLaw}
-use Rattle.work_laws.specs.Work.{new_unshared, old_unshared}
+use Rattle.tree_change.specs.Accepted.{unshared_old}
+use Rattle.work_laws.specs.Work.{unshared_new}
 use Rattle.work_laws.proofs.BlocksChanges.{few_changes, spans_less}
 use Rattle.tree_change.proofs.AllFew.{entries_permuted}
 use Rattle.work_laws.proofs.BlocksEntries.{items_less}
@@ -51,8 +52,8 @@ counted pair all image pending k next c old new passage =
     (subst (λ (n : Walked). IsChange diff.0 n written end c.change) will diff.4) in
     let olds = c.change.old_items.items in
     let news = c.change.new_items.items in
-    let old_lives = old_unshared image pending old new in
-    let new_lives = new_unshared image pending old new in
+    let old_lives = unshared_old image pending old new in
+    let new_lives = unshared_new image pending old new in
     let shared = is_shared old new written end in
     let few =
     few_changes pair all (are_read_alike k.sup c.fresh) olds news c.changes (ascend_items olds moved.old_items.ascends)

@@ -1,18 +1,20 @@
 -- The spans that extents own and that files show lie in extents, and these in chunks.
-use Rattle.std.proofs.Common.{◌≡◌, ℕ, ◌+◌, ◌*◌, ◌/◌, ◌%◌, ◌<◌, ◌==◌, ◌||◌, Bool, true, false, not, cond, List, refl, sym, ap, ◌∙◌, subst, arith}
+use Rattle.std.proofs.Common.{◌≡◌, ℕ, ◌+◌, ◌-◌, ◌*◌, ◌/◌, ◌%◌, ◌<◌, ◌==◌, ◌||◌, Bool, true, false, not, cond, List, inl, inr, refl, sym, ap, ◌∙◌, subst, arith}
 use Rattle.std.proofs.Math.Nat.{mul-add-mod_self_right}
-use Rattle.std.proofs.lemmas.Bool.{and_from, and_parts, eq-eqb, eqb-true, le-leb, lt-ltb}
+use Rattle.std.proofs.lemmas.Bool.{and_from, and_parts, cases_lt, eq-eqb, eqb-true, le-leb, lt-ltb}
 use Rattle.std.proofs.lemmas.List.Elements.{recursion_from_All}
 use Rattle.std.proofs.lemmas.Nat.{div-add-mod', mod_below}
-use Rattle.std.specs.Prelude.{◌≤◌, Option, Some, None, IsSome, option_map}
+use Rattle.std.specs.Prelude.{◌≤◌, ◌⊎◌, Option, Some, None, IsSome, option_map}
 use Rattle.std.specs.List.{Contains}
 use Rattle.verdict.specs.Chunks.{home}
 use Rattle.verdict.specs.declared.place.Chunk.{Chunk}
 use Rattle.extent_items.specs.ExtentRow.{ExtentFields}
 use Rattle.fs_items.specs.declared.file_extent.FileExtent.{FileExtent}
 use Rattle.accounts.specs.Context.{home_in}
+use Rattle.accounts.specs.Kinds.{sector}
 use Rattle.accounts.specs.Least.{is_broken_by}
 use Rattle.accounts.specs.declared.account.Account.{Account}
+use Rattle.accounts.specs.declared.postings.Posting.{Posting}
 use Rattle.live_index.specs.declared.live.Live.{Live}
 use Rattle.span_index.specs.Sectors.{has_sector}
 use Rattle.span_index.specs.Spans.{end_of}
@@ -20,13 +22,13 @@ use Rattle.span_index.specs.declared.span.Span.{Span}
 use Rattle.records.specs.ExtentPostings.{has_extent}
 use Rattle.records.specs.Part.{AreSectors, IsLawful, Located, Part}
 use Rattle.records.specs.Part.Part.{ExtentPart, FileExtentPart, SumsPart}
-use Rattle.records.specs.Postings.{all_postings}
+use Rattle.records.specs.Post.{to}
+use Rattle.records.specs.Postings.{all_postings, postings_of}
 use Rattle.shared_trees.specs.LivePairs.{Walked}
 use Rattle.change_records.specs.Homes.{StandApart, is_kept}
-use Rattle.change_records.specs.Looks.{home_of_span, is_gone, is_of_extent, is_reached}
+use Rattle.change_records.specs.Looks.{IsHoused, LiesInExtent, home_of_span, is_empty_shown, is_gone, is_of_extent, is_reached}
 use Rattle.change_records.specs.Spans.{IsLawfulExtent, IsLawfulIn, IsLawfulRange, extent_bytes, extent_span, is_written, shown_span, span_in}
 use Rattle.change_records.specs.Spans.{span_of, sums_span}
-use Rattle.change_records.proofs.HomeLaws.{IsHolder, home_some}
 use Rattle.change_records.proofs.ItemLaws.{one_span}
 use Rattle.change_records.proofs.Merge.{from_one}
 use Rattle.change_laws.specs.Items.{ItemsStand, items_of}
@@ -35,19 +37,23 @@ use Rattle.change_laws.proofs.Elements.{Among}
 use Rattle.change_laws.proofs.IBSums.{all_among}
 use Rattle.work_laws.specs.Work.{context_in, has_named, items_that_count, posts_otherwise, spans_in, stands_in}
 use Rattle.work_laws.proofs.HousedExtents.{HasExtent, extent_home, item_of_record, range_extent, record_of_item}
-use Rattle.work_laws.proofs.HousedHomes.{holds_inside, home_there, one_home}
-use Rattle.work_laws.proofs.HousedPosts.{among_of, filter_among, gone_otherwise, made_of, names_span}
+use Rattle.work_laws.proofs.HousedPosts.{among_of, filter_among, flat_among, gone_otherwise, made_of, names_span, posts_sector}
 
--- The extent around a span: the span begins at one of its sectors, and lies inside of it.
+-- The extent around a span: the span begins at one of its sectors or at its end, and lies inside of it. It has a sector, but where a file shows
+-- none. Where the span lies is where the extent does.
 pub record Around (whole : Walked) (span : Span) : Type 0 where
   pub one : Located
   pub among : Among one (items_of whole)
   pub item : ExtentFields
   pub at : one.part ≡ ExtentPart item
   pub some : 0 < extent_bytes whole.sup.nodesize item
+  pub full : extent_bytes whole.sup.nodesize item % 4096 ≡ 0
   pub index : ℕ
   pub first : span.first ≡ item.key.objectid + index * 4096
   pub inside : span.first + span.sectors * 4096 ≤ item.key.objectid + extent_bytes whole.sup.nodesize item
+  pub sectors : is_empty_shown span ≡ false → 0 < span.sectors
+  pub lies : LiesInExtent span.first span.sectors span.sort
+  pub home_is : (chunks : List Chunk) → home_of_span chunks span ≡ home chunks item.key.objectid (extent_bytes whole.sup.nodesize item)
 
 -- whole sectors of some bytes are no more than these
 whole_sectors : (n : ℕ) → n / 4096 * 4096 ≤ n
@@ -113,11 +119,21 @@ module _ (whole : Walked) (stand : ItemsStand whole.sup.nodesize (items_of whole
         item = item;
         at = at;
         some = lawful.some;
+        full = lawful.whole;
         index = 0;
         first = none item.key.objectid;
         inside = low item.key.objectid (extent_bytes n item) (whole_sectors (extent_bytes n item));
+        sectors = λ not_empty. has_one (extent_bytes n item) lawful.whole lawful.some;
+        lies = tt;
+        home_is = λ chunks. ap (home chunks item.key.objectid) (whole_back (extent_bytes n item) lawful.whole);
       }
     where
+      has_one : (b : ℕ) → b % 4096 ≡ 0 → 0 < b → 0 < b / 4096
+      has_one b whole some = let sum = div-add-mod' b 4096 in omega (arith, sum, whole, some)
+
+      whole_back : (b : ℕ) → b % 4096 ≡ 0 → b / 4096 * 4096 ≡ b
+      whole_back b whole = let sum = div-add-mod' b 4096 in omega (arith, sum, whole)
+
       none : (a : ℕ) → a ≡ a + 0 * 4096
       none a = omega arith
 
@@ -150,12 +166,25 @@ module _ (whole : Walked) (stand : ItemsStand whole.sup.nodesize (items_of whole
         item = item;
         at = is.at;
         some = own.some;
+        full = own.whole;
         index = range.offset / 4096;
         first = at_first range.extent item.key.objectid range.offset is.first steps;
         inside = at_end range.extent item.key.objectid range.offset range.length range.extent_length (extent_bytes n item) is.first bytes
             lawful.inside;
+        sectors = above_zero_by (range.length / 4096);
+        lies = (above range.extent range.offset, ends range.extent range.offset range.length range.extent_length lawful.inside);
+        home_is = λ chunks. sym (ap (λ (x : ℕ). home chunks x (extent_bytes n item)) is.first ∙ ap (home chunks range.extent) bytes);
       }
     where
+      above_zero_by : (m : ℕ) → (m == 0) ≡ false → 0 < m
+      above_zero_by m is = grind (arith, is)
+
+      above : (e o : ℕ) → e ≤ e + o
+      above e o = omega arith
+
+      ends : (e o l m : ℕ) → o + l ≤ m → e + o + l / 4096 * 4096 ≤ e + m
+      ends e o l m inside = let low = whole_sectors l in omega (arith, inside, low)
+
       at_first : (e x o : ℕ) → x ≡ e → o / 4096 * 4096 ≡ o → e + o ≡ x + o / 4096 * 4096
       at_first e x o same steps = omega (arith, same, steps)
 
@@ -184,70 +213,116 @@ module _ (whole : Walked) (stand : ItemsStand whole.sup.nodesize (items_of whole
       let made = from_one (span_of n) (items_of whole) span has in
       part_around made.0 made.0.part span (among_of (items_of whole) made.0 made.1) refl made.2 of
 
-  -- and that extent a chunk, which holds the span too
-  record Holder (span : Span) (e : Around whole span) : Type 0 where
-    chunk : Chunk
-    there : home whole.chunks e.item.key.objectid (extent_bytes n e.item) ≡ Some chunk
-    holder : IsHolder whole.chunks span.first (span.sectors * 4096) chunk
-
-  holder_of : (span : Span) (e : Around whole span) → Holder span e
-  holder_of span e =
+  -- and that extent a chunk
+  chunk_of : (span : Span) (e : Around whole span) → (c : Chunk) × (home whole.chunks e.item.key.objectid (extent_bytes n e.item) ≡ Some c)
+  chunk_of span e =
       let x = e.item.key.objectid in
       let bytes = extent_bytes n e.item in
       let h = extent_home (context_in whole) (records_of whole) fine e.one e.item (record_of_item whole e.one e.among) e.at in
       let d = made_of (home whole.chunks x bytes) h.0 h.1 in
-      let outer = home_some whole.chunks x bytes d.0 d.1 in
-      let low : x ≤ span.first = above x span.first e.index e.first in
-      record {
-        chunk = d.0;
-        there = d.1;
-        holder = record { among = outer.among; holds = holds_inside d.0 x bytes span.first (span.sectors * 4096) low e.inside outer.holds };
-      }
-    where
-      above : (x f i : ℕ) → f ≡ x + i * 4096 → x ≤ f
-      above x f i is = omega (arith, is)
+      (d.0, d.1)
 
-  -- a span that an extent owns or that a file shows lies whole in a chunk
-  pub span_housed : (span : Span) → Contains (spans_in whole) span → is_of_extent span.sort ≡ true → IsSome (home_of_span whole.chunks span)
+  -- so the extent of a span that an extent owns or that a file shows lies whole in a chunk
+  pub span_housed : (span : Span) → Contains (spans_in whole) span → is_of_extent span.sort ≡ true → IsHoused whole.chunks span
   span_housed span has of =
-      let h = holder_of span (span_around span has of) in
-      home_there whole.chunks span.first (span.sectors * 4096) h.chunk h.holder
+      let e = span_around span has of in
+      let c = chunk_of span e in
+      (e.lies, subst IsSome (sym (e.home_is whole.chunks ∙ c.1)) refl)
 
-  -- where another image does not keep that chunk, a posting that counts goes to a sector of the span
-  pub span_reached : (other : Walked) (lives : List Live) (span : Span) → StandApart whole.chunks → StandApart other.chunks
-      → Contains (spans_in whole) span → is_reached whole.chunks other.chunks span ≡ true → 0 < span.sectors
-      → has_named (all_postings (context_in whole) (items_that_count (context_in whole) (context_in other) lives whole)) span ≡ true
-  unfolding is_reached
-  span_reached other lives span apart others has reached some =
-      let parts = and_parts (is_of_extent span.sort) (is_gone other.chunks (home_of_span whole.chunks span)) reached in
-      let e = span_around span has parts.0 in
-      let h = holder_of span e in
-      let gone = left (home_of_span whole.chunks span) refl parts.1 h.chunk h.holder in
-      let otherwise = gone_otherwise (context_in whole) (context_in other) e.one e.item h.chunk e.at h.there e.some others gone in
-      let counts : Among e.one (items_that_count (context_in whole) (context_in other) lives whole) =
-      filter_among (λ one. stands_in lives one || posts_otherwise (context_in whole) (context_in other) one) (items_of whole) e.one e.among
-      (or_right (stands_in lives e.one) (posts_otherwise (context_in whole) (context_in other) e.one) otherwise) in
-      let inside : e.item.key.objectid + e.index * 4096 + span.sectors * 4096 ≤ e.item.key.objectid + extent_bytes n e.item =
-      subst (λ f. f + span.sectors * 4096 ≤ e.item.key.objectid + extent_bytes n e.item) e.first e.inside in
-      let small = index_small e.item.key.objectid e.index span.sectors (extent_bytes n e.item) some inside in
-      names_span (context_in whole) (items_that_count (context_in whole) (context_in other) lives whole) e.one e.item (home_in h.chunk) e.index span
-      counts e.at (ap (option_map home_in) h.there) small
-      (subst (λ f. has_sector span f ≡ true) e.first own_sector)
-    where
-      own_sector : has_sector span span.first ≡ true
-      own_sector =
-          let here : span.first ≤ span.first = omega arith in
-          let before : span.first < end_of span = omega (arith, some) in
-          and_from _ _ (le-leb _ _ here) (and_from _ _ (lt-ltb _ _ before) (eq-eqb (span.first % 4096) (span.first % 4096) refl))
+  module _ (other : Walked) (lives : List Live) (others : StandApart other.chunks) where
+    abbrev counting : List Located
+    counting = items_that_count (context_in whole) (context_in other) lives whole
 
-      left : (o : Option Chunk) → home_of_span whole.chunks span ≡ o → is_gone other.chunks o ≡ true → (c : Chunk)
-          → IsHolder whole.chunks span.first (span.sectors * 4096) c → is_kept other.chunks c ≡ false
-      left None is gone c holder = absurd (cc)
-      left (Some d) is gone c holder =
-          let one : d ≡ c =
-          one_home whole.chunks span.first (span.sectors * 4096) d c apart (bytes span.sectors some)
-          (home_some whole.chunks span.first (span.sectors * 4096) d is) holder in
-          subst (λ x. is_kept other.chunks x ≡ false) one (not_false (is_kept other.chunks d) gone)
-        where
-          bytes : (s : ℕ) → 0 < s → 0 < s * 4096
-          bytes s some = omega (arith, some)
+    abbrev posts : List Posting
+    posts = all_postings (context_in whole) counting
+
+    -- What is posted near a span whose chunk another image does not keep: to its sectors where it has some, and to the sector where it
+    -- begins or the one before.
+    pub record Posts (span : Span) : Type 0 where
+      pub named : 0 < span.sectors → has_named posts span ≡ true
+      pub p : Posting
+      pub among : Among p posts
+      pub near : (span.first ≡ p.account.block) ⊎ (span.first ≡ p.account.block + 4096)
+
+    pub span_reached : (span : Span) → Contains (spans_in whole) span → is_reached whole.chunks other.chunks span ≡ true → Posts span
+    unfolding is_reached
+    span_reached span has reached = record {
+      named = named;
+      p = near.0;
+      among = near.1;
+      near = near.2;
+    }
+      where
+        parts : (is_of_extent span.sort ≡ true) × (is_gone other.chunks (home_of_span whole.chunks span) ≡ true)
+        parts = and_parts (is_of_extent span.sort) (is_gone other.chunks (home_of_span whole.chunks span)) reached
+
+        e : Around whole span
+        e = span_around span has parts.0
+
+        x : ℕ
+        x = e.item.key.objectid
+
+        bytes : ℕ
+        bytes = extent_bytes n e.item
+
+        c : (c : Chunk) × (home whole.chunks x bytes ≡ Some c)
+        c = chunk_of span e
+
+        gone : is_kept other.chunks c.0 ≡ false
+        gone = not_false (is_kept other.chunks c.0) (subst (λ (o : Option Chunk). is_gone other.chunks o ≡ true) (e.home_is whole.chunks ∙ c.1) parts.1)
+
+        counts : Among e.one counting
+        counts =
+            filter_among (λ one. stands_in lives one || posts_otherwise (context_in whole) (context_in other) one) (items_of whole) e.one e.among
+            (or_right (stands_in lives e.one) (posts_otherwise (context_in whole) (context_in other) e.one)
+            (gone_otherwise (context_in whole) (context_in other) e.one e.item c.0 e.at c.1 e.some others gone))
+
+        its_home : option_map home_in (home whole.chunks x bytes) ≡ Some (home_in c.0)
+        its_home = ap (option_map home_in) c.1
+
+        own_sector : 0 < span.sectors → has_sector span span.first ≡ true
+        own_sector some =
+            let here : span.first ≤ span.first = omega arith in
+            let before : span.first < end_of span = omega (arith, some) in
+            and_from _ _ (le-leb _ _ here) (and_from _ _ (lt-ltb _ _ before) (eq-eqb (span.first % 4096) (span.first % 4096) refl))
+
+        named : 0 < span.sectors → has_named posts span ≡ true
+        named some =
+            let inside : x + e.index * 4096 + span.sectors * 4096 ≤ x + bytes = subst (λ f. f + span.sectors * 4096 ≤ x + bytes) e.first e.inside in
+            let small = index_small x e.index span.sectors bytes some inside in
+            names_span (context_in whole) counting e.one e.item (home_in c.0) e.index span counts e.at its_home small
+            (subst (λ f. has_sector span f ≡ true) e.first (own_sector some))
+
+        posted : (k : ℕ) → k < bytes / 4096 → Among (to (sector (x + k * 4096)) 0 1) posts
+        posted k small =
+            flat_among (postings_of (context_in whole)) counting e.one (to (sector (x + k * 4096)) 0 1) counts
+            (posts_sector (context_in whole) e.one e.item (home_in c.0) k e.at its_home small)
+
+        near : (p : Posting) × Among p posts × ((span.first ≡ p.account.block) ⊎ (span.first ≡ p.account.block + 4096))
+        near = by (cases_lt e.index (bytes / 4096))
+          where
+            last : (k f : ℕ) → bytes / 4096 ≤ k → f ≡ x + k * 4096 → f ≤ x + bytes → f ≡ x + (bytes / 4096 - 1) * 4096 + 4096
+            last k f low is inside =
+                let sum = div-add-mod' bytes 4096 in
+                let full = e.full in
+                let some = e.some in
+                omega (arith, low, is, inside, sum, full, some)
+
+            one_less : bytes / 4096 - 1 < bytes / 4096
+            one_less =
+                let sum = div-add-mod' bytes 4096 in
+                let full = e.full in
+                let some = e.some in
+                omega (arith, sum, full, some)
+
+            ends : span.first ≤ x + bytes
+            ends = let inside = e.inside in omega (arith, inside)
+
+            by : (e.index < bytes / 4096) ⊎ (bytes / 4096 ≤ e.index)
+                → (p : Posting) × Among p posts × ((span.first ≡ p.account.block) ⊎ (span.first ≡ p.account.block + 4096))
+            by (inl small) = (to (sector (x + e.index * 4096)) 0 1, posted e.index small, inl e.first)
+            by (inr large) = (
+              to (sector (x + (bytes / 4096 - 1) * 4096)) 0 1,
+              posted (bytes / 4096 - 1) one_less,
+              inr (last e.index span.first large e.first ends),
+            )

@@ -6,6 +6,7 @@ pub mod HousedExtents
 pub mod HousedHomes
 pub mod HousedPosts
 pub mod HousedSpans
+pub mod HousedStops
 pub mod HousedWhole
 pub mod Known
 pub mod NamedItems
@@ -15,3 +16,4 @@ pub mod PiecesMade
 pub mod PostingsApart
 pub mod PostingsCounted
 pub mod PostingsFew
+pub mod Twins

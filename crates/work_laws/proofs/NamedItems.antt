@@ -26,6 +26,7 @@ use Rattle.change_records.specs.Spans.{sums_span}
 use Rattle.change_records.specs.declared.changes.ItemChange.{ItemChange}
 use Rattle.change_records.specs.declared.changes.ItemChange.TheVariants.{Added, Altered, Removed}
 use Rattle.change_records.specs.declared.item_ref.ItemRef.{ItemRef}
+use Rattle.change_records.proofs.AffectedLaws.{extent_back, extent_to, written_back, written_to}
 use Rattle.change_records.proofs.ItemLaws.{one_span}
 use Rattle.change_records.proofs.Merge.{contains_first, contains_more, contains_none, from_one}
 use Rattle.tree_change.specs.Gathered.{located_item}
@@ -39,57 +40,6 @@ use Rattle.change_laws.proofs.WNamed.{map_in}
 
 -- ---- the name of an item and that of its span
 
-whole_offset : (n : ℕ) → n % 4096 ≡ 0 → n ≡ n / 4096 * 4096
-whole_offset n whole = let sum = div-add-mod' n 4096 in omega (arith, sum, whole)
-
--- the name of an extent of data, by its sectors
-data_name : (n : ℕ) (one : Located) (item : ExtentFields) → IsLawfulExtent n one item → is_data item ≡ true
-    → ref_to one.tree one.key
-    ≡ ref_to 2 (record { objectid = item.key.objectid; kind = EXTENT_ITEM; offset = extent_bytes n item / 4096 * 4096 })
-data_name n one item lawful of_data =
-    let tree = lawful.tree in
-    let key = lawful.key in
-    let kind : item.key.kind ≡ EXTENT_ITEM = eqb-true _ _ of_data in
-    let offset : item.key.offset ≡ extent_bytes n item / 4096 * 4096 =
-    sym (ap (λ b. cond b item.key.offset n) of_data) ∙ whole_offset (extent_bytes n item) lawful.whole in
-    (λ i. record { tree = tree i; key = key i })
-    ∙ (λ i. record { tree = 2; key = record { objectid = item.key.objectid; kind = kind i; offset = offset i } })
-
-range_name : (one : Located) (range : FileExtent) → IsLawfulRange one range
-    → ref_to one.tree one.key ≡ ref_to one.tree (record { objectid = range.key.objectid; kind = EXTENT_DATA; offset = range.key.offset })
-range_name one range lawful =
-    let key = lawful.key in
-    let kind = lawful.kind in
-    (λ i. record { tree = one.tree; key = key i })
-    ∙ (λ i. record { tree = one.tree; key = record { objectid = range.key.objectid; kind = kind i; offset = range.key.offset } })
-
-extent_to : (n : ℕ) (pairs : Pairs) (one : Located) (item : ExtentFields) (at : ItemRef) (d : Bool) → is_data item ≡ d → IsLawfulExtent n one item
-    → NamesIn pairs one (ExtentPart item) at → SortNames pairs item.key.objectid (extent_bytes n item / 4096) (Owned d) at
-extent_to n pairs one item at true is lawful names = names.0 is ∙ data_name n one item lawful is
-extent_to n pairs one item at false is lawful names = names.1 is
-
-extent_back : (n : ℕ) (pairs : Pairs) (one : Located) (item : ExtentFields) (at : ItemRef) (d : Bool) → is_data item ≡ d → IsLawfulExtent n one item
-    → SortNames pairs item.key.objectid (extent_bytes n item / 4096) (Owned d) at → NamesIn pairs one (ExtentPart item) at
-extent_back n pairs one item at true is lawful names =
-    (λ of_data. names ∙ sym (data_name n one item lawful is), λ unlike. absurd (let both : true ≡ false = sym is ∙ unlike in cc))
-extent_back n pairs one item at false is lawful names =
-    (λ of_data. absurd (let both : true ≡ false = sym of_data ∙ is in cc), λ unlike. names)
-
-range_to : (pairs : Pairs) (one : Located) (range : FileExtent) (at : ItemRef) (span : Span) (b : Bool) → is_written range ≡ b
-    → cond b (Some (shown_span one.tree range)) None ≡ Some span → (is_written range ≡ true → IsLawfulRange one range)
-    → at ≡ ref_to one.tree one.key → SpanNames pairs span at
-range_to pairs one range at span false written is lawful name = absurd (cc)
-range_to pairs one range at span true written is lawful name =
-    subst (λ (s : Span). SpanNames pairs s at) (one_span (shown_span one.tree range) span is) (name ∙ range_name one range (lawful written))
-
-range_back : (pairs : Pairs) (one : Located) (range : FileExtent) (at : ItemRef) (span : Span) (b : Bool) → is_written range ≡ b
-    → cond b (Some (shown_span one.tree range)) None ≡ Some span → (is_written range ≡ true → IsLawfulRange one range)
-    → SpanNames pairs span at → at ≡ ref_to one.tree one.key
-range_back pairs one range at span false written is lawful name = absurd (cc)
-range_back pairs one range at span true written is lawful name =
-    let here = subst (λ (s : Span). SpanNames pairs s at) (sym (one_span (shown_span one.tree range) span is)) name in
-    here ∙ sym (range_name one range (lawful written))
-
 -- the name of an item that posts otherwise is that of its span
 pub name_to : (n : ℕ) (pairs : Pairs) (before after : Context) (one : Located) (part : Part) (at : ItemRef) (span : Span)
     → span_in n one.tree part ≡ Some span → IsLawfulIn n one part
@@ -99,7 +49,7 @@ unfolding space_postings
 name_to n pairs before after one (ExtentPart item) at span is lawful differs names =
     subst (λ (s : Span). SpanNames pairs s at) (one_span (extent_span n item) span is) (extent_to n pairs one item at (is_data item) refl lawful names)
 name_to n pairs before after one (FileExtentPart range) at span is lawful differs names =
-    range_to pairs one range at span (is_written range) refl is lawful names
+    written_to pairs one range at span (is_written range) refl is lawful names
 name_to n pairs before after one (SumsPart item) at span is lawful differs names = absurd (differs refl)
 name_to n pairs before after one part at span is lawful differs names = absurd (cc)
 
@@ -109,7 +59,7 @@ pub name_back : (n : ℕ) (pairs : Pairs) (one : Located) (part : Part) (at : It
 name_back n pairs one (ExtentPart item) at span is lawful names =
     extent_back n pairs one item at (is_data item) refl lawful
     (subst (λ (s : Span). SpanNames pairs s at) (sym (one_span (extent_span n item) span is)) names)
-name_back n pairs one (FileExtentPart range) at span is lawful names = range_back pairs one range at span (is_written range) refl is lawful names
+name_back n pairs one (FileExtentPart range) at span is lawful names = written_back pairs one range at span (is_written range) refl is lawful names
 name_back n pairs one (SumsPart item) at span is lawful names =
     absurd (subst (λ (s : Span). SpanNames pairs s at) (sym (one_span (sums_span item) span is)) names)
 name_back n pairs one part at span is lawful names = absurd (cc)

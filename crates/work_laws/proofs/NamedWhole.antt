@@ -5,7 +5,7 @@ use Rattle.std.specs.List.{Contains}
 use Rattle.std.specs.Ordering.{nat_cmp}
 use Rattle.std.specs.FinMap.{FinMap}
 use Rattle.std.proofs.Math.Path.{fun_ext}
-use Rattle.std.proofs.lemmas.List.Elements.{All-contains, Contains-append_cases, Contains-append_right}
+use Rattle.std.proofs.lemmas.List.Elements.{All-contains}
 use Rattle.std.proofs.lemmas.List.Sorted.{Contains-permutation, IsPermutation-sym}
 use Rattle.accounts.specs.Context.{Context}
 use Rattle.accounts.specs.declared.postings.Posting.{Posting}
@@ -42,7 +42,7 @@ use Rattle.write_cache.specs.Cache.{overlaid}
 use Rattle.change_laws.specs.Blocks.{BlocksLaw, HasOwnName}
 use Rattle.change_laws.specs.Commit.{AreTheAffected, Commit, Known, came_by, context_by, gone_by}
 use Rattle.change_laws.specs.Items.{ItemsLaw, ItemsStand, items_of}
-use Rattle.change_laws.specs.Paired.{ArePaired, PairedLaw, SayChanges, anywhere, came_items, gone_items, name_of}
+use Rattle.change_laws.specs.Paired.{ArePaired, PairedLaw, SayChanges, came_items, gone_items, name_of}
 use Rattle.change_laws.specs.Same.{HeldLaw, records_of}
 use Rattle.change_laws.specs.Steps.{spans_of}
 use Rattle.change_laws.proofs.IBSums.{among_left, among_right}
@@ -54,12 +54,13 @@ use Rattle.change_laws.proofs.WCommit.{ok_same}
 use Rattle.change_laws.proofs.WNamed.{times_are}
 use Rattle.work_laws.specs.Named.{AreSectorsNamed, NamedLaw, is_named_sector}
 use Rattle.work_laws.specs.Postings.{IsPassage}
-use Rattle.work_laws.specs.Work.{context_in, items_that_count, new_postings, new_unshared, old_postings, old_unshared, posts_otherwise, stands_in}
+use Rattle.tree_change.specs.Accepted.{unshared_old}
+use Rattle.work_laws.specs.Work.{context_in, items_that_count, new_postings, old_postings, posts_otherwise, stands_in, unshared_new}
 use Rattle.work_laws.proofs.Known.{IsKnownBy, known_by_walks}
 use Rattle.work_laws.proofs.NamedItems.{came_in, gone_in, item_among, name_back, name_to}
 use Rattle.work_laws.proofs.NamedSectors.{names_there, posts_there, same_nowhere}
-use Rattle.work_laws.proofs.PostingsApart.{its_like}
-use Rattle.work_laws.proofs.PostingsCounted.{Differs, among_items, counts_otherwise, counts_there}
+use Rattle.work_laws.proofs.PostingsCounted.{Differs, counts_otherwise, counts_there}
+use Rattle.work_laws.proofs.Twins.{HasTwin, twin_of}
 
 -- the other laws
 pub record NamingLaws : Type 0 where
@@ -82,10 +83,10 @@ module _ (laws : NamingLaws) (image : List ℕ) (pending : FinMap nat_cmp ℕ) (
   judged = overlaid pending 0 image
 
   abbrev old_lives : List Live
-  old_lives = old_unshared image pending old new
+  old_lives = unshared_old image pending old new
 
   abbrev new_lives : List Live
-  new_lives = new_unshared image pending old new
+  new_lives = unshared_new image pending old new
 
   abbrev old_counting : List Located
   old_counting = items_that_count (context_in old) (context_in new) old_lives old
@@ -289,9 +290,6 @@ module _ (laws : NamingLaws) (image : List ℕ) (pending : FinMap nat_cmp ℕ) (
 
     -- ---- the same item in the new image, wherever it stands
 
-    abbrev HasTwin : Located → Type 0
-    HasTwin one = (twin : Located) × Contains (items_of new) twin × (anywhere one ≡ anywhere twin)
-
     abbrev gone : List Located
     gone = gone_items c.change.old_items.items c.changes
 
@@ -306,41 +304,9 @@ module _ (laws : NamingLaws) (image : List ℕ) (pending : FinMap nat_cmp ℕ) (
     both : HoldApart old new old_lives new_lives
     both = hold_apart image pending old new is.was is.is
 
-    twin_shared : (one : Located) → Contains both.items one → HasTwin one
-    twin_shared one has = (
-      one,
-      Contains-permutation (items_in new_lives new.seen ++ both.items) (items_of new) one
-          (IsPermutation-sym (items_of new) (items_in new_lives new.seen ++ both.items) both.new_items)
-          (Contains-append_right (items_in new_lives new.seen) both.items one has),
-      refl,
-    )
-
-    twin_rest : (one : Located) → Contains paired.old_rest one → HasTwin one
-    twin_rest one has =
-        let other = its_like paired.new_rest paired.old_rest (sym paired.same) one has in
-        let changed : Contains new_changed other.0 =
-        Contains-permutation (came ++ paired.new_rest) new_changed other.0 (IsPermutation-sym new_changed (came ++ paired.new_rest) paired.new)
-        (Contains-append_right came paired.new_rest other.0 other.1) in
-        (other.0, (among_items new_lives new other.0 (new_there other.0 changed)).0, sym other.2)
-
-    twin_changed : (one : Located) → named (name_of one) ≡ false → Contains (items_in old_lives old.seen) one → HasTwin one
-    twin_changed one kept has =
-        let changed : Contains old_changed one = Contains-permutation (items_in old_lives old.seen) old_changed one change_is.old_items.all has in
-        let parts : Contains (gone ++ paired.old_rest) one = Contains-permutation old_changed (gone ++ paired.old_rest) one paired.old changed in
-        elim (Contains-append_cases gone paired.old_rest one parts) [
-          | inl went ↦
-              absurd (let is_gone = All-contains (λ (x : Located). named (name_of x) ≡ true) gone one paired.gone_named went in cc (is_gone, kept))
-          | inr stays ↦ twin_rest one stays
-        ]
-
-    twin_of : (one : Located) → Contains (items_of old) one → named (name_of one) ≡ false → HasTwin one
-    twin_of one has kept =
-        let parts : Contains (items_in old_lives old.seen ++ both.items) one =
-        Contains-permutation (items_of old) (items_in old_lives old.seen ++ both.items) one both.old_items has in
-        elim (Contains-append_cases (items_in old_lives old.seen) both.items one parts) [
-          | inl changed ↦ twin_changed one kept changed
-          | inr shared ↦ twin_shared one shared
-        ]
+    kept_twin : (one : Located) → Contains (items_of old) one → named (name_of one) ≡ false → HasTwin (items_of new) one
+    kept_twin =
+        twin_of old new old_lives new_lives both named old_changed new_changed gone came paired change_is.old_items.all change_is.new_items.all
 
     -- ---- an item that posts otherwise does so to its sectors in one of the two images
 
@@ -348,7 +314,7 @@ module _ (laws : NamingLaws) (image : List ℕ) (pending : FinMap nat_cmp ℕ) (
         → Differs (context_in old) (context_in new) one → span_of new.sup.nodesize one ≡ Some span
         → counts (context_in new) span span.sort ≡ true → has_sector span address ≡ true → is_named_sector image pending old new address ≡ true
     by_new one span address has kept differs gives counted shows =
-        let twin = twin_of one has kept in
+        let twin = kept_twin one has kept in
         let posts : (context : Context) → postings_of context one ≡ postings_of context twin.0 = λ context. ap (postings_of context) twin.2 in
         named_new twin.0 span address
         (counts_otherwise (context_in old) (context_in new) new_lives new twin.0 twin.1

@@ -54,9 +54,11 @@ use Rattle.change_laws.proofs.WCommit.{known_same, ok_same}
 use Rattle.change_laws.proofs.WNamed.{each_of, map_in, times_are}
 use Rattle.change_laws.proofs.WStep.{Between, commit_at, context_at, known_at}
 use Rattle.work_laws.specs.Postings.{ArePostingsFew, PostingsLaw}
-use Rattle.work_laws.specs.Work.{items_that_count, new_postings, new_unshared, old_postings, old_unshared, stands_in}
+use Rattle.tree_change.specs.Accepted.{unshared_old}
+use Rattle.work_laws.specs.Work.{items_that_count, new_postings, old_postings, stands_in, unshared_new}
 use Rattle.work_laws.proofs.PostingsApart.{apart_alike, apart_part, its_like, no_more, of_both, one_key, one_tree, pairs_joined, pairs_right}
 use Rattle.work_laws.proofs.PostingsCounted.{Differs, among_items, counts_otherwise, counts_there, each_posts_some, few_posts, items_there}
+use Rattle.work_laws.proofs.Twins.{HasTwin, twin_of}
 
 -- the other laws
 pub record PostingLaws : Type 0 where
@@ -67,10 +69,6 @@ pub record PostingLaws : Type 0 where
   pub found : FoundLaw
   pub paired : PairedLaw
   pub flags : FlagsLaw
-
--- a record that is alike to one, among others
-abbrev HasTwin : List Located → Located → Type 0
-HasTwin others one = (twin : Located) × Contains others twin × (anywhere one ≡ anywhere twin)
 
 -- the twins of records
 record Twins (found others : List Located) : Type 0 where
@@ -107,10 +105,10 @@ module _ (laws : PostingLaws) (image : List ℕ) (pending : FinMap nat_cmp ℕ) 
   now = commit_at new.sup c
 
   abbrev old_lives : List Live
-  old_lives = old_unshared image pending old new
+  old_lives = unshared_old image pending old new
 
   abbrev new_lives : List Live
-  new_lives = new_unshared image pending old new
+  new_lives = unshared_new image pending old new
 
   abbrev old_changed : List Located
   old_changed = map located_item c.change.old_items.items
@@ -308,46 +306,14 @@ module _ (laws : PostingLaws) (image : List ℕ) (pending : FinMap nat_cmp ℕ) 
     never_both : (a b : ItemRef) → named a ≡ true → named b ≡ false → a ≡ b → ⊥
     never_both a b is other one = let here : named a ≡ named b = ap named one in cc
 
-    -- a kept item of the old image is in both images, or it is a changed one that stays
-    twin_shared : (one : Located) → Contains same.items one → HasTwin (items_of new) one
-    twin_shared one has = (
-      one,
-      Contains-permutation (items_in new_lives new.seen ++ same.items) (items_of new) one
-          (IsPermutation-sym (items_of new) (items_in new_lives new.seen ++ same.items) same.new_items)
-          (Contains-append_right (items_in new_lives new.seen) same.items one has),
-      refl,
-    )
-
-    twin_rest : (one : Located) → Contains paired.old_rest one → HasTwin (items_of new) one
-    twin_rest one has =
-        let other = its_like paired.new_rest paired.old_rest (sym paired.same) one has in
-        let changed : Contains new_changed other.0 =
-        Contains-permutation (came ++ paired.new_rest) new_changed other.0 (IsPermutation-sym new_changed (came ++ paired.new_rest) paired.new)
-        (Contains-append_right came paired.new_rest other.0 other.1) in
-        (other.0, (among_items new_lives new other.0 (new_there other.0 changed)).0, sym other.2)
-
-    twin_changed : (one : Located) → named (name_of one) ≡ false → Contains (items_in old_lives old.seen) one → HasTwin (items_of new) one
-    twin_changed one kept has =
-        let changed : Contains old_changed one =
-        Contains-permutation (items_in old_lives old.seen) old_changed one between.change_is.old_items.all has in
-        let parts : Contains (gone ++ paired.old_rest) one = Contains-permutation old_changed (gone ++ paired.old_rest) one paired.old changed in
-        elim (Contains-append_cases gone paired.old_rest one parts) [
-          | inl went ↦ absurd (never_both (name_of one) (name_of one) (gone_named one went) kept refl)
-          | inr stays ↦ twin_rest one stays
-        ]
-
-    twin_of : (one : Located) → Contains found one → HasTwin (items_of new) one
-    twin_of one has =
+    found_twin : (one : Located) → Contains found one → HasTwin (items_of new) one
+    found_twin one has =
         let there = found_in one has in
-        let parts : Contains (items_in old_lives old.seen ++ same.items) one =
-        Contains-permutation (items_of old) (items_in old_lives old.seen ++ same.items) one same.old_items there.0 in
-        elim (Contains-append_cases (items_in old_lives old.seen) same.items one parts) [
-          | inl changed ↦ twin_changed one there.1 changed
-          | inr shared ↦ twin_shared one shared
-        ]
+        twin_of old new old_lives new_lives same named old_changed new_changed gone came paired between.change_is.old_items.all
+        between.change_is.new_items.all one there.0 there.1
 
     they : Twins found (items_of new)
-    they = twins found (items_of new) twin_of
+    they = twins found (items_of new) found_twin
 
     abbrev twin : List Located
     twin = they.list

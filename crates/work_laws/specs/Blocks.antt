@@ -9,18 +9,19 @@ use Rattle.tree_change.specs.OneTree.{side_of}
 use Rattle.change_laws.specs.Commit.{Commit, Known, came_by, gone_by}
 use Rattle.change_laws.specs.Steps.{spans_of}
 use Rattle.work_laws.specs.Postings.{IsPassage}
-use Rattle.work_laws.specs.Work.{new_unshared, old_unshared}
+use Rattle.tree_change.specs.Accepted.{unshared_old}
+use Rattle.work_laws.specs.Work.{unshared_new}
 
 -- The blocks that a commit changes are the pairs that are not shared, with their entries. There are no more items in them than entries; no more
 -- changes than items; and no more spans gone or come than items.
 pub record AreBlocksCounted (image : List ℕ) (pending : FinMap nat_cmp ℕ) (k : Known) (c : Commit) (old new : Walked) : Type 0 where
-  pub old_blocks : length c.change.old_blocks.items ≡ length (old_unshared image pending old new)
-  pub new_blocks : length c.change.new_blocks.items ≡ length (new_unshared image pending old new)
-  pub old_entries : entries_of (side_of image old) c.change.old_blocks.items ≡ entries_of (side_of image old) (old_unshared image pending old new)
+  pub old_blocks : length c.change.old_blocks.items ≡ length (unshared_old image pending old new)
+  pub new_blocks : length c.change.new_blocks.items ≡ length (unshared_new image pending old new)
+  pub old_entries : entries_of (side_of image old) c.change.old_blocks.items ≡ entries_of (side_of image old) (unshared_old image pending old new)
   pub new_entries : entries_of (side_of (overlaid pending 0 image) new) c.change.new_blocks.items
-      ≡ entries_of (side_of (overlaid pending 0 image) new) (new_unshared image pending old new)
-  pub old_items : length c.change.old_items.items ≤ entries_of (side_of image old) (old_unshared image pending old new)
-  pub new_items : length c.change.new_items.items ≤ entries_of (side_of (overlaid pending 0 image) new) (new_unshared image pending old new)
+      ≡ entries_of (side_of (overlaid pending 0 image) new) (unshared_new image pending old new)
+  pub old_items : length c.change.old_items.items ≤ entries_of (side_of image old) (unshared_old image pending old new)
+  pub new_items : length c.change.new_items.items ≤ entries_of (side_of (overlaid pending 0 image) new) (unshared_new image pending old new)
   pub changes : length c.changes ≤ length c.change.old_items.items + length c.change.new_items.items
   pub gone_spans : length (spans_of k.sup.nodesize (gone_by k c)) ≤ length c.change.old_items.items
   pub came_spans : length (spans_of c.fresh.nodesize (came_by c)) ≤ length c.change.new_items.items

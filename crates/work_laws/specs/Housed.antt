@@ -1,29 +1,31 @@
 -- Where the spans of an accepted image lie, and which of them the work reaches where chunks change.
-use Rattle.std.specs.Prelude.{◌≡◌, ℕ, ◌<◌, true, List, length}
-use Rattle.std.specs.List.{Contains}
+use Rattle.std.specs.Prelude.{ℕ, ◌+◌, ◌*◌, ◌<◌, ◌≤◌, List, length}
+use Rattle.std.specs.List.{count_by}
 use Rattle.std.specs.Ordering.{nat_cmp}
 use Rattle.std.specs.FinMap.{FinMap}
 use Rattle.span_index.specs.declared.span.Span.{Span}
 use Rattle.change_records.specs.Homes.{StandApart}
-use Rattle.change_records.specs.Looks.{AreHoused, is_reached}
+use Rattle.change_records.specs.Looks.{AreHoused, HaveStops, is_reached}
 use Rattle.change_records.specs.Spans.{AreItemsOf}
 use Rattle.shared_trees.specs.LivePairs.{Walked}
 use Rattle.change_laws.specs.Commit.{Commit, Known}
 use Rattle.change_laws.specs.Items.{items_of}
 use Rattle.work_laws.specs.Postings.{IsPassage}
-use Rattle.work_laws.specs.Work.{old_postings, has_named, spans_in}
+use Rattle.work_laws.specs.Work.{is_met, old_postings, spans_in}
 
--- The table of spans is that of the image's items. The chunks of each image stand apart, and the old one has some. Each old span that an extent owns or that a file shows
--- lies whole in a chunk. Where the new image does not keep that chunk, a posting that counts in the old image goes to a sector of the span,
--- if it has any.
+-- The table of spans is that of the image's items. The chunks of each image stand apart, and the old one has some. Some spans stand for all of
+-- the old image, of which each extent lies whole in a chunk. Of those whose chunk the new image does not keep there are no more than spans that
+-- are met, and two for each posting that counts in the old image.
 pub record AreSpansHoused (image : List ℕ) (pending : FinMap nat_cmp ℕ) (k : Known) (c : Commit) (old new : Walked) : Type 0 where
   pub items : AreItemsOf k.sup.nodesize k.spans (items_of old)
   pub old_apart : StandApart k.chunks
   pub new_apart : StandApart c.change.map
   pub some : 0 < length k.chunks
-  pub housed : AreHoused k.chunks (spans_in old)
-  pub reached : (span : Span) → Contains (spans_in old) span → is_reached k.chunks c.change.map span ≡ true → 0 < span.sectors
-      → has_named (old_postings image pending old new) span ≡ true
+  pub stops : List Span
+  pub stand : HaveStops (spans_in old) stops
+  pub housed : AreHoused k.chunks stops
+  pub few : count_by (is_reached k.chunks c.change.map) stops
+      ≤ count_by (is_met image pending old new) (spans_in old) + 2 * length (old_postings image pending old new)
 
 -- so it is with each commit from an accepted image to another
 abbrev pub HousedLaw : Type 0

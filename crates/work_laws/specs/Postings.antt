@@ -6,7 +6,8 @@ use Rattle.write_cache.specs.Cache.{overlaid}
 use Rattle.shared_trees.specs.LivePairs.{Walked, walked}
 use Rattle.change_laws.specs.Commit.{Commit, IsCommit, IsKnown, IsMoved, Known, came_by, context_by, gone_by}
 use Rattle.change_laws.specs.Steps.{step_posts}
-use Rattle.work_laws.specs.Work.{new_postings, new_unshared, old_postings, old_unshared}
+use Rattle.tree_change.specs.Accepted.{unshared_old}
+use Rattle.work_laws.specs.Work.{new_postings, old_postings, unshared_new}
 
 -- a commit from an accepted image to another, what is known of both, and their walks
 pub record IsPassage (image : List ℕ) (pending : FinMap nat_cmp ℕ) (k next : Known) (c : Commit) (old new : Walked) : Type 0 where
@@ -21,9 +22,9 @@ pub record IsPassage (image : List ℕ) (pending : FinMap nat_cmp ℕ) (k next :
 -- what comes. No more kept items post otherwise than there are postings that count.
 pub record ArePostingsFew (image : List ℕ) (pending : FinMap nat_cmp ℕ) (k next : Known) (c : Commit) (old new : Walked) : Type 0 where
   pub gone : length (step_posts (context_by k) (gone_by k c) c.refs)
-      ≤ length (old_postings image pending old new) + 2 * length (old_unshared image pending old new) + 1
+      ≤ length (old_postings image pending old new) + 2 * length (unshared_old image pending old new) + 1
   pub came : length (step_posts (context_by next) (came_by c) c.refs)
-      ≤ length (new_postings image pending old new) + 2 * length (new_unshared image pending old new) + 1
+      ≤ length (new_postings image pending old new) + 2 * length (unshared_new image pending old new) + 1
   pub refs : length c.refs ≤ length (old_postings image pending old new) + length (new_postings image pending old new)
 
 -- so it is with each commit from an accepted image to another

@@ -16,11 +16,12 @@ use Rattle.records.specs.Part.{Located}
 use Rattle.records.specs.Postings.{all_postings, postings_of}
 use Rattle.records.specs.SpacePostings.{is_to_sector}
 use Rattle.change_records.specs.Affected.{context_with}
-use Rattle.change_records.specs.Looks.{is_reached, is_turned, spans_of}
+use Rattle.change_records.specs.Looks.{is_turned, spans_of}
 use Rattle.write_cache.specs.Cache.{overlaid}
 use Rattle.touched_pairs.specs.Touched.{written_in}
 use Rattle.shared_trees.specs.LivePairs.{Walked, live_in, walked}
 use Rattle.shared_trees.specs.Shared.{unshared_in}
+use Rattle.tree_change.specs.Accepted.{unshared_old}
 use Rattle.tree_change.specs.LooksLaw.{entries_of}
 use Rattle.tree_change.specs.OneTree.{side_of}
 use Rattle.change_laws.specs.Items.{items_of}
@@ -52,22 +53,19 @@ stands_in lives one = list_any (λ live. live.tree == one.tree && live.address =
 abbrev pub items_that_count : Context → Context → List Live → Walked → List Located
 items_that_count before after lives whole = filter (λ one. stands_in lives one || posts_otherwise before after one) (items_of whole)
 
--- the pairs of either image that the two do not share
-abbrev pub old_unshared : List ℕ → FinMap nat_cmp ℕ → Walked → Walked → List Live
-old_unshared image pending old new = unshared_in old new (written_in pending) (length image) old
-
-abbrev pub new_unshared : List ℕ → FinMap nat_cmp ℕ → Walked → Walked → List Live
-new_unshared image pending old new = unshared_in old new (written_in pending) (length image) new
+-- the pairs of the new image that it does not share with the old one
+abbrev pub unshared_new : List ℕ → FinMap nat_cmp ℕ → Walked → Walked → List Live
+unshared_new image pending old new = unshared_in old new (written_in pending) (length image) new
 
 -- What the items of the blocks post that two images do not share, and the shared items that post otherwise: those of the old image by its
 -- context, and those of the new one by its own.
 unfoldable pub old_postings : List ℕ → FinMap nat_cmp ℕ → Walked → Walked → List Posting
 old_postings image pending old new =
-    all_postings (context_in old) (items_that_count (context_in old) (context_in new) (old_unshared image pending old new) old)
+    all_postings (context_in old) (items_that_count (context_in old) (context_in new) (unshared_old image pending old new) old)
 
 unfoldable pub new_postings : List ℕ → FinMap nat_cmp ℕ → Walked → Walked → List Posting
 new_postings image pending old new =
-    all_postings (context_in new) (items_that_count (context_in old) (context_in new) (new_unshared image pending old new) new)
+    all_postings (context_in new) (items_that_count (context_in old) (context_in new) (unshared_new image pending old new) new)
 
 -- whether one of some postings goes to a sector of a span
 unfoldable pub has_named : List Posting → Span → Bool
@@ -85,11 +83,6 @@ spans_in whole = spans_of whole.sup.nodesize (items_of whole)
 abbrev pub is_flagged : Walked → Walked → Span → Bool
 is_flagged old new = is_turned (has_sum_free (records_of old)) (has_sum_free (records_of new))
 
--- Whether a span has no sector, as of a range of a file of no bytes, and the new image does not keep the old chunk where it lies. No driver
--- writes such a range.
-abbrev pub is_empty_and_reached : Walked → Walked → Span → Bool
-is_empty_and_reached old new span = span.sectors == 0 && is_reached old.chunks new.chunks span
-
 -- whether a run of pending bytes begins at an offset: no byte is pending before it
 abbrev pub begins_run : FinMap nat_cmp ℕ → ℕ → Bool
 begins_run pending zero = true
@@ -101,12 +94,12 @@ runs_in pending = count_by (begins_run pending) (keys pending)
 
 -- how many pairs two images do not share, of both together, and how many pointers and items are in their blocks
 unfoldable pub unshared_blocks : List ℕ → FinMap nat_cmp ℕ → Walked → Walked → ℕ
-unshared_blocks image pending old new = length (old_unshared image pending old new) + length (new_unshared image pending old new)
+unshared_blocks image pending old new = length (unshared_old image pending old new) + length (unshared_new image pending old new)
 
 unfoldable pub unshared_entries : List ℕ → FinMap nat_cmp ℕ → Walked → Walked → ℕ
 unshared_entries image pending old new =
-    entries_of (side_of image old) (old_unshared image pending old new)
-    + entries_of (side_of (overlaid pending 0 image) new) (new_unshared image pending old new)
+    entries_of (side_of image old) (unshared_old image pending old new)
+    + entries_of (side_of (overlaid pending 0 image) new) (unshared_new image pending old new)
 
 -- how many spans of either image pass a test
 abbrev pub spans_where : Walked → Walked → (Span → Bool) → ℕ
@@ -114,8 +107,8 @@ spans_where old new test = count_by test (spans_in old) + count_by test (spans_i
 
 -- The work of a commit: the pairs that the two images do not share; the pointers and items in their blocks; the postings of these items, and
 -- of the shared items that post otherwise; the spans of either image with a sector to which one of these postings goes; those that a file
--- shows of an inode whose data has no checksums in one image alone; the empty spans in old chunks that the new image does not keep; the
--- maximal runs of the pending bytes; the chunks of both images; and one.
+-- shows of an inode whose data has no checksums in one image alone; the maximal runs of the pending bytes; the chunks of both images; and
+-- one.
 unfoldable pub work_of : List ℕ → FinMap nat_cmp ℕ → Walked → Walked → ℕ
 work_of image pending old new =
     unshared_blocks image pending old new
@@ -123,7 +116,6 @@ work_of image pending old new =
     + (length (old_postings image pending old new) + length (new_postings image pending old new))
     + spans_where old new (is_met image pending old new)
     + spans_where old new (is_flagged old new)
-    + count_by (is_empty_and_reached old new) (spans_in old)
     + runs_in pending
     + (length old.chunks + length new.chunks)
     + 1

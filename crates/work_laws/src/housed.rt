@@ -4,8 +4,9 @@ ghost use Rattle.work_laws.specs.Housed.{HousedLaw};
 
 use change_laws::{held_law, items_law};
 
-/// Each span that an extent of an accepted image owns, or that a file shows, lies whole in a chunk; where the next image does not keep that
-/// chunk, a posting that counts goes to a sector of the span.
+/// The extent of each span of an accepted image that an extent owns or a file shows lies whole in a chunk. Of the spans whose chunk the next
+/// image does not keep, those that begin at one address and have no sector taken once, there are no more than spans to which a posting goes
+/// that counts, and two for each such posting.
 pub fn housed_law()
     ensures { HousedLaw }
 {

@@ -27,36 +27,36 @@ returns-clause-found g c empty lawful alone =
     c.deref.ensures.value (c.in_ok-take_inodes.ensures.searched lawful alone))
 
 pub returns-in_err-take_chunks-clause-looks : goal.returns-in_err-take_chunks-clause-looks
-returns-in_err-take_chunks-clause-looks g c all are apart =
-    let first = subst (λ l. c.take_chunks.new.steps ≤ c.args.steps.now + chunks_looks (is_searched c.args.sides.now.fresh.now true false) all l) (c.chunks-2.ensures ∙ c.map.ensures)
-    (subst (λ b. c.take_chunks.new.steps ≤ c.args.steps.now + chunks_looks (is_searched c.args.sides.now.fresh.now b false) all c.chunks-2.result.now) (c.stand_apart-apart.ensures.1 (subst StandApart (sym c.chunks.ensures) apart)) (c.take_chunks.ensures.looks all are)) in
+returns-in_err-take_chunks-clause-looks g c all are stops cover apart =
+    let first = subst (λ l. c.take_chunks.new.steps ≤ c.args.steps.now + chunks_looks (is_searched c.args.sides.now.fresh.now true false) stops l) (c.chunks-2.ensures ∙ c.map.ensures)
+    (subst (λ b. c.take_chunks.new.steps ≤ c.args.steps.now + chunks_looks (is_searched c.args.sides.now.fresh.now b false) stops c.chunks-2.result.now) (c.stand_apart-apart.ensures.1 (subst StandApart (sym c.chunks.ensures) apart)) (c.take_chunks.ensures.looks stops cover)) in
     omega (arith, first)
 
 pub returns-in_err-take_chunks-2-clause-looks : goal.returns-in_err-take_chunks-2-clause-looks
-returns-in_err-take_chunks-2-clause-looks g c all are apart =
-    let first = subst (λ l. c.take_chunks.new.steps ≤ c.args.steps.now + chunks_looks (is_searched c.args.sides.now.fresh.now true false) all l) (c.chunks-2.ensures ∙ c.map.ensures)
-    (subst (λ b. c.take_chunks.new.steps ≤ c.args.steps.now + chunks_looks (is_searched c.args.sides.now.fresh.now b false) all c.chunks-2.result.now) (c.stand_apart-apart.ensures.1 (subst StandApart (sym c.chunks.ensures) apart)) (c.take_chunks.ensures.looks all are)) in
-    let second = subst (λ l. c.take_chunks-2.new.steps ≤ c.take_chunks.new.steps + chunks_looks (is_searched l true true) all c.args.sides.now.fresh.now) c.map-2.ensures
-    (subst (λ l. c.take_chunks-2.new.steps ≤ c.take_chunks.new.steps + chunks_looks (is_searched c.map-2.result.now true true) all l) c.chunks-3.ensures
-    (subst (λ b. c.take_chunks-2.new.steps ≤ c.take_chunks.new.steps + chunks_looks (is_searched c.map-2.result.now b true) all c.chunks-3.result.now) (c.stand_apart-apart.ensures.1 (subst StandApart (sym c.chunks.ensures) apart)) (c.take_chunks-2.ensures.looks all are))) in
+returns-in_err-take_chunks-2-clause-looks g c all are stops cover apart =
+    let first = subst (λ l. c.take_chunks.new.steps ≤ c.args.steps.now + chunks_looks (is_searched c.args.sides.now.fresh.now true false) stops l) (c.chunks-2.ensures ∙ c.map.ensures)
+    (subst (λ b. c.take_chunks.new.steps ≤ c.args.steps.now + chunks_looks (is_searched c.args.sides.now.fresh.now b false) stops c.chunks-2.result.now) (c.stand_apart-apart.ensures.1 (subst StandApart (sym c.chunks.ensures) apart)) (c.take_chunks.ensures.looks stops cover)) in
+    let second = subst (λ l. c.take_chunks-2.new.steps ≤ c.take_chunks.new.steps + chunks_looks (is_searched l true true) stops c.args.sides.now.fresh.now) c.map-2.ensures
+    (subst (λ l. c.take_chunks-2.new.steps ≤ c.take_chunks.new.steps + chunks_looks (is_searched c.map-2.result.now true true) stops l) c.chunks-3.ensures
+    (subst (λ b. c.take_chunks-2.new.steps ≤ c.take_chunks.new.steps + chunks_looks (is_searched c.map-2.result.now b true) stops c.chunks-3.result.now) (c.stand_apart-apart.ensures.1 (subst StandApart (sym c.chunks.ensures) apart)) (c.take_chunks-2.ensures.looks stops cover))) in
     omega (arith, first, second)
 
 pub returns-in_err-take_inodes-clause-looks : goal.returns-in_err-take_inodes-clause-looks
-returns-in_err-take_inodes-clause-looks g c all are apart =
-    let first = subst (λ l. c.take_chunks.new.steps ≤ c.args.steps.now + chunks_looks (is_searched c.args.sides.now.fresh.now true false) all l) (c.chunks-2.ensures ∙ c.map.ensures)
-    (subst (λ b. c.take_chunks.new.steps ≤ c.args.steps.now + chunks_looks (is_searched c.args.sides.now.fresh.now b false) all c.chunks-2.result.now) (c.stand_apart-apart.ensures.1 (subst StandApart (sym c.chunks.ensures) apart)) (c.take_chunks.ensures.looks all are)) in
-    let second = subst (λ l. c.take_chunks-2.new.steps ≤ c.take_chunks.new.steps + chunks_looks (is_searched l true true) all c.args.sides.now.fresh.now) c.map-2.ensures
-    (subst (λ l. c.take_chunks-2.new.steps ≤ c.take_chunks.new.steps + chunks_looks (is_searched c.map-2.result.now true true) all l) c.chunks-3.ensures
-    (subst (λ b. c.take_chunks-2.new.steps ≤ c.take_chunks.new.steps + chunks_looks (is_searched c.map-2.result.now b true) all c.chunks-3.result.now) (c.stand_apart-apart.ensures.1 (subst StandApart (sym c.chunks.ensures) apart)) (c.take_chunks-2.ensures.looks all are))) in
+returns-in_err-take_inodes-clause-looks g c all are stops cover apart =
+    let first = subst (λ l. c.take_chunks.new.steps ≤ c.args.steps.now + chunks_looks (is_searched c.args.sides.now.fresh.now true false) stops l) (c.chunks-2.ensures ∙ c.map.ensures)
+    (subst (λ b. c.take_chunks.new.steps ≤ c.args.steps.now + chunks_looks (is_searched c.args.sides.now.fresh.now b false) stops c.chunks-2.result.now) (c.stand_apart-apart.ensures.1 (subst StandApart (sym c.chunks.ensures) apart)) (c.take_chunks.ensures.looks stops cover)) in
+    let second = subst (λ l. c.take_chunks-2.new.steps ≤ c.take_chunks.new.steps + chunks_looks (is_searched l true true) stops c.args.sides.now.fresh.now) c.map-2.ensures
+    (subst (λ l. c.take_chunks-2.new.steps ≤ c.take_chunks.new.steps + chunks_looks (is_searched c.map-2.result.now true true) stops l) c.chunks-3.ensures
+    (subst (λ b. c.take_chunks-2.new.steps ≤ c.take_chunks.new.steps + chunks_looks (is_searched c.map-2.result.now b true) stops c.chunks-3.result.now) (c.stand_apart-apart.ensures.1 (subst StandApart (sym c.chunks.ensures) apart)) (c.take_chunks-2.ensures.looks stops cover))) in
     let third = subst (λ l. c.take_inodes.new.steps ≤ c.take_chunks-2.new.steps + inodes_looks (g.B.Bases.is_sum_free c.args.sides.now.bases.now) (new_flags c.args.sides.now.made.now (g.B.Bases.is_sum_free c.args.sides.now.bases.now)) all l) c.deref.ensures.value (c.take_inodes.ensures.looks all are) in
     omega (arith, first, second, third)
 
 pub returns-clause-looks : goal.returns-clause-looks
-returns-clause-looks g c all are apart =
-    let first = subst (λ l. c.take_chunks.new.steps ≤ c.args.steps.now + chunks_looks (is_searched c.args.sides.now.fresh.now true false) all l) (c.chunks-2.ensures ∙ c.map.ensures)
-    (subst (λ b. c.take_chunks.new.steps ≤ c.args.steps.now + chunks_looks (is_searched c.args.sides.now.fresh.now b false) all c.chunks-2.result.now) (c.stand_apart-apart.ensures.1 (subst StandApart (sym c.chunks.ensures) apart)) (c.take_chunks.ensures.looks all are)) in
-    let second = subst (λ l. c.take_chunks-2.new.steps ≤ c.take_chunks.new.steps + chunks_looks (is_searched l true true) all c.args.sides.now.fresh.now) c.map-2.ensures
-    (subst (λ l. c.take_chunks-2.new.steps ≤ c.take_chunks.new.steps + chunks_looks (is_searched c.map-2.result.now true true) all l) c.chunks-3.ensures
-    (subst (λ b. c.take_chunks-2.new.steps ≤ c.take_chunks.new.steps + chunks_looks (is_searched c.map-2.result.now b true) all c.chunks-3.result.now) (c.stand_apart-apart.ensures.1 (subst StandApart (sym c.chunks.ensures) apart)) (c.take_chunks-2.ensures.looks all are))) in
+returns-clause-looks g c all are stops cover apart =
+    let first = subst (λ l. c.take_chunks.new.steps ≤ c.args.steps.now + chunks_looks (is_searched c.args.sides.now.fresh.now true false) stops l) (c.chunks-2.ensures ∙ c.map.ensures)
+    (subst (λ b. c.take_chunks.new.steps ≤ c.args.steps.now + chunks_looks (is_searched c.args.sides.now.fresh.now b false) stops c.chunks-2.result.now) (c.stand_apart-apart.ensures.1 (subst StandApart (sym c.chunks.ensures) apart)) (c.take_chunks.ensures.looks stops cover)) in
+    let second = subst (λ l. c.take_chunks-2.new.steps ≤ c.take_chunks.new.steps + chunks_looks (is_searched l true true) stops c.args.sides.now.fresh.now) c.map-2.ensures
+    (subst (λ l. c.take_chunks-2.new.steps ≤ c.take_chunks.new.steps + chunks_looks (is_searched c.map-2.result.now true true) stops l) c.chunks-3.ensures
+    (subst (λ b. c.take_chunks-2.new.steps ≤ c.take_chunks.new.steps + chunks_looks (is_searched c.map-2.result.now b true) stops c.chunks-3.result.now) (c.stand_apart-apart.ensures.1 (subst StandApart (sym c.chunks.ensures) apart)) (c.take_chunks-2.ensures.looks stops cover))) in
     let third = subst (λ l. c.take_inodes.new.steps ≤ c.take_chunks-2.new.steps + inodes_looks (g.B.Bases.is_sum_free c.args.sides.now.bases.now) (new_flags c.args.sides.now.made.now (g.B.Bases.is_sum_free c.args.sides.now.bases.now)) all l) c.deref.ensures.value (c.take_inodes.ensures.looks all are) in
     omega (arith, first, second, third)

@@ -32,23 +32,23 @@ loop-chunk-preserved g c = record {
         (λ span. chunk_kept_more c.args.chunks.now.list.now (is_searched c.args.chunks.now.others.now c.args.chunks.now.apart c.args.chunks.now.is_new) c.loop-chunk.chunk-index _ span c.loop-chunk-test.true (sym c.is_searched.ensures ∙ w.if-is_searched.false))
         (c.loop-chunk.invariant.searched lawful))
   ];
-  looks = λ all are. elim c.if-is_searched.branch [
+  looks = λ stops are. elim c.if-is_searched.branch [
     | then-is_searched+in_ok-take_chunk w ↦
-        subst (λ n. n ≤ c.args.steps.now + chunks_looks (is_searched c.args.chunks.now.others.now c.args.chunks.now.apart c.args.chunks.now.is_new) all (take (c.loop-chunk.chunk-index + 1) c.args.chunks.now.list.now)) (sym w.steps-is)
-        (chunks_more (is_searched c.args.chunks.now.others.now c.args.chunks.now.apart c.args.chunks.now.is_new) all c.args.chunks.now.list.now c.loop-chunk.chunk-index c.args.steps.now c.loop-chunk.steps (c.loop-chunk.invariant.looks all are) _ c.loop-chunk-test.true
-        (sym c.is_searched.ensures ∙ w.if-is_searched.true) w.take_chunk.new.steps (w.in_ok-take_chunk.ensures.looks all are))
+        subst (λ n. n ≤ c.args.steps.now + chunks_looks (is_searched c.args.chunks.now.others.now c.args.chunks.now.apart c.args.chunks.now.is_new) stops (take (c.loop-chunk.chunk-index + 1) c.args.chunks.now.list.now)) (sym w.steps-is)
+        (chunks_more (is_searched c.args.chunks.now.others.now c.args.chunks.now.apart c.args.chunks.now.is_new) stops c.args.chunks.now.list.now c.loop-chunk.chunk-index c.args.steps.now c.loop-chunk.steps (c.loop-chunk.invariant.looks stops are) _ c.loop-chunk-test.true
+        (sym c.is_searched.ensures ∙ w.if-is_searched.true) w.take_chunk.new.steps (w.in_ok-take_chunk.ensures.looks stops are))
     | else-is_searched w ↦
-        subst (λ n. n ≤ c.args.steps.now + chunks_looks (is_searched c.args.chunks.now.others.now c.args.chunks.now.apart c.args.chunks.now.is_new) all (take (c.loop-chunk.chunk-index + 1) c.args.chunks.now.list.now)) (sym w.steps-is)
-        (chunks_skip (is_searched c.args.chunks.now.others.now c.args.chunks.now.apart c.args.chunks.now.is_new) all c.args.chunks.now.list.now c.loop-chunk.chunk-index c.args.steps.now c.loop-chunk.steps (c.loop-chunk.invariant.looks all are) _ c.loop-chunk-test.true
+        subst (λ n. n ≤ c.args.steps.now + chunks_looks (is_searched c.args.chunks.now.others.now c.args.chunks.now.apart c.args.chunks.now.is_new) stops (take (c.loop-chunk.chunk-index + 1) c.args.chunks.now.list.now)) (sym w.steps-is)
+        (chunks_skip (is_searched c.args.chunks.now.others.now c.args.chunks.now.apart c.args.chunks.now.is_new) stops c.args.chunks.now.list.now c.loop-chunk.chunk-index c.args.steps.now c.loop-chunk.steps (c.loop-chunk.invariant.looks stops are) _ c.loop-chunk-test.true
         (sym c.is_searched.ensures ∙ w.if-is_searched.false))
   ];
 }
 
 pub returns-in_err-take_chunk-clause-looks : goal.returns-in_err-take_chunk-clause-looks
-returns-in_err-take_chunk-clause-looks g c all are =
-    chunks_end (is_searched c.args.chunks.now.others.now c.args.chunks.now.apart c.args.chunks.now.is_new) all c.args.chunks.now.list.now c.loop-chunk.chunk-index c.args.steps.now c.loop-chunk.steps (c.loop-chunk.invariant.looks all are) _ c.loop-chunk-test.true
-    (sym c.is_searched.ensures ∙ c.if-is_searched.true) c.take_chunk.new.steps (c.take_chunk.ensures.looks all are)
+returns-in_err-take_chunk-clause-looks g c stops are =
+    chunks_end (is_searched c.args.chunks.now.others.now c.args.chunks.now.apart c.args.chunks.now.is_new) stops c.args.chunks.now.list.now c.loop-chunk.chunk-index c.args.steps.now c.loop-chunk.steps (c.loop-chunk.invariant.looks stops are) _ c.loop-chunk-test.true
+    (sym c.is_searched.ensures ∙ c.if-is_searched.true) c.take_chunk.new.steps (c.take_chunk.ensures.looks stops are)
 
 pub returns-clause-looks : goal.returns-clause-looks
-returns-clause-looks g c all are =
-    chunks_all (is_searched c.args.chunks.now.others.now c.args.chunks.now.apart c.args.chunks.now.is_new) all c.args.chunks.now.list.now c.loop-chunk.chunk-index c.args.steps.now c.loop-chunk.steps (c.loop-chunk.invariant.looks all are)
+returns-clause-looks g c stops are =
+    chunks_all (is_searched c.args.chunks.now.others.now c.args.chunks.now.apart c.args.chunks.now.is_new) stops c.args.chunks.now.list.now c.loop-chunk.chunk-index c.args.steps.now c.loop-chunk.steps (c.loop-chunk.invariant.looks stops are)

@@ -1,11 +1,10 @@
-use Rattle.std.proofs.Common.{arith, refl, sym, ⊎_elim}
+use Rattle.std.proofs.Common.{arith, sym, refl, ⊎_elim}
 use Rattle.ledger_index.specs.Sums.{raise}
 use Rattle.ledger_index.specs.Entries.{by_key}
 use Rattle.ledger_index.specs.Ledger.{entries_of}
-use Rattle.ledger_index.specs.LongPlace.{is_same_long}
 use Rattle.ledger_index.specs.Place.{is_same_place}
 use Rattle.ledger_index.proofs.EntryLaws.{changes_after, full_as, on_err, on_ok, raise_none, stays_after}
-use Rattle.ledger_index.proofs.LedgerLaws.{all_stay, at_long, at_place, at_whole, changed_above, changed_nothing, long_changed, short_changed, whole_changed}
+use Rattle.ledger_index.proofs.LedgerLaws.{all_stay, at_place, changed_above, changed_nothing, short_changed}
 use Rattle.ledger_index.proofs.ledger.LedgerIndex.add_saturating.Goals as goal
 
 pub returns-then-not-names_a_sum-clause-ok : goal.returns-then-not-names_a_sum-clause-ok
@@ -13,58 +12,40 @@ returns-then-not-names_a_sum-clause-ok g c =
     ⊎_elim (λ above. changed_above raise raise_none _ _ _ _ _ above c.names_a_sum.ensures) (λ small. changed_nothing raise raise_none _ _ _ _ small.1)
     c.then-not-names_a_sum.either
 
+-- to the entry that was last found
 pub returns-in-Some-clause-ok : goal.returns-in-Some-clause-ok
 returns-in-Some-clause-ok g c =
-    on_ok c.add.result (λ is. short_changed raise raise_none _ _ _ _ _ _ (sym c.in-Some.ensures)
-    (changes_after is_same_place raise (by_key is_same_place c.args.self.now.short.entries) (by_key is_same_place c.seed-in-Some.new.self.entries)
-    (by_key is_same_place c.add.new.self.entries) _ _ _ c.seed-in-Some.ensures.same is) (λ l. refl) (λ q. refl)) c.add.ensures.ok
+    on_ok c.add_at.result (λ is. short_changed raise raise_none _ _ _ _ _ _ c.in-Some.ensures.0 is (λ l. refl) (λ q. refl)) c.add_at.ensures.ok
 
 pub returns-in-Some-clause-err : goal.returns-in-Some-clause-err
 returns-in-Some-clause-err g c =
-    on_err c.add.result (λ is. all_stay _ _
-    (stays_after (by_key is_same_place c.args.self.now.short.entries) (by_key is_same_place c.seed-in-Some.new.self.entries)
-    (by_key is_same_place c.add.new.self.entries) c.seed-in-Some.ensures.same is)
-    (λ l n. refl) (λ q n. refl)) c.add.ensures.err
+    on_err c.add_at.result (λ is. all_stay _ _ is (λ l n. refl) (λ q n. refl)) c.add_at.ensures.err
 
+pub returns-in-Some-clause-full : goal.returns-in-Some-clause-full
+returns-in-Some-clause-full g c = full_as c.add_at.result _ _ (at_place _ _ _ (sym c.in-Some.ensures.0) c.args.field) c.add_at.ensures.full
+
+-- to one that is found by its hash
 pub returns-in-Some-of-clause-ok : goal.returns-in-Some-of-clause-ok
 returns-in-Some-of-clause-ok g c =
-    on_ok c.add-in-Some-of.result (λ is. long_changed raise raise_none _ _ _ _ _ _ (sym c.in_default.ensures) (sym c.in-Some-of.ensures)
-    (changes_after is_same_long raise (by_key is_same_long c.args.self.now.long.entries) (by_key is_same_long c.seed-in-Some-of-2.new.self.entries)
-    (by_key is_same_long c.add-in-Some-of.new.self.entries) _ _ _ c.seed-in-Some-of-2.ensures.same is) (λ l. refl) (λ q. refl)) c.add-in-Some-of.ensures.ok
+    on_ok c.add_by_hash.result (λ is. short_changed raise raise_none _ _ _ _ _ _ (sym c.in-Some-of.ensures)
+    (changes_after is_same_place raise (by_key is_same_place c.args.self.now.short.entries) (by_key is_same_place c.seed-in-Some-of.new.self.entries)
+    (by_key is_same_place c.add_by_hash.new.self.entries) _ _ _ c.seed-in-Some-of.ensures.same is) (λ l. refl) (λ q. refl)) c.add_by_hash.ensures.ok
 
 pub returns-in-Some-of-clause-err : goal.returns-in-Some-of-clause-err
 returns-in-Some-of-clause-err g c =
-    on_err c.add-in-Some-of.result (λ is. all_stay _ _ (λ p n. refl)
-    (stays_after (by_key is_same_long c.args.self.now.long.entries) (by_key is_same_long c.seed-in-Some-of-2.new.self.entries)
-    (by_key is_same_long c.add-in-Some-of.new.self.entries) c.seed-in-Some-of-2.ensures.same is)
-    (λ q n. refl)) c.add-in-Some-of.ensures.err
-
-pub returns-in-None-clause-ok : goal.returns-in-None-clause-ok
-returns-in-None-clause-ok g c =
-    on_ok c.add-in-None.result (λ is. whole_changed raise raise_none _ _ _ _ _ (sym c.in_default.ensures) (sym c.in-None.ensures) is (λ l. refl) (λ p. refl)) c.add-in-None.ensures.ok
-
-pub returns-in-None-clause-err : goal.returns-in-None-clause-err
-returns-in-None-clause-err g c = on_err c.add-in-None.result (λ is. all_stay _ _ (λ p n. refl) (λ l n. refl) is) c.add-in-None.ensures.err
-
-pub returns-in-Some-clause-full : goal.returns-in-Some-clause-full
-returns-in-Some-clause-full g c = full_as c.add.result _ _ (at_place _ _ _ c.in-Some.ensures c.args.field) c.add.ensures.full
+    on_err c.add_by_hash.result (λ is. all_stay _ _
+    (stays_after (by_key is_same_place c.args.self.now.short.entries) (by_key is_same_place c.seed-in-Some-of.new.self.entries)
+    (by_key is_same_place c.add_by_hash.new.self.entries) c.seed-in-Some-of.ensures.same is)
+    (λ l n. refl) (λ q n. refl)) c.add_by_hash.ensures.err
 
 pub returns-in-Some-of-clause-full : goal.returns-in-Some-of-clause-full
-returns-in-Some-of-clause-full g c =
-    full_as c.add-in-Some-of.result _ _ (at_long _ _ _ c.in_default.ensures c.in-Some-of.ensures c.args.field) c.add-in-Some-of.ensures.full
-
-pub returns-in-None-clause-full : goal.returns-in-None-clause-full
-returns-in-None-clause-full g c = full_as c.add-in-None.result _ _ (at_whole _ _ c.in_default.ensures c.in-None.ensures c.args.field) c.add-in-None.ensures.full
+returns-in-Some-of-clause-full g c = full_as c.add_by_hash.result _ _ (at_place _ _ _ c.in-Some-of.ensures c.args.field) c.add_by_hash.ensures.full
 
 -- there is an entry more at most
 pub returns-in-Some-clause-few : goal.returns-in-Some-clause-few
 unfolding entries_of
-returns-in-Some-clause-few g c = omega (arith, c.add.ensures.few, c.seed-in-Some.ensures.count)
+returns-in-Some-clause-few g c = omega (arith, c.add_at.ensures.few)
 
 pub returns-in-Some-of-clause-few : goal.returns-in-Some-of-clause-few
 unfolding entries_of
-returns-in-Some-of-clause-few g c = omega (arith, c.add-in-Some-of.ensures.few, c.seed-in-Some-of-2.ensures.count)
-
-pub returns-in-None-clause-few : goal.returns-in-None-clause-few
-unfolding entries_of
-returns-in-None-clause-few g c = omega (arith, c.add-in-None.ensures.few)
+returns-in-Some-of-clause-few g c = omega (arith, c.add_by_hash.ensures.few, c.seed-in-Some-of.ensures.count)
