@@ -253,7 +253,7 @@ fn shown(tree: u64, ino: u64, file_offset: u64, extent: u64) -> SpanSort {
 }
 
 // What is known of the old image, with a live pair for the tree block.
-fn known(alloc: Global, free: bool, steps: &mut Steps<()>) -> Result<Known, NoMemory> {
+fn old_image(alloc: Global, free: bool, steps: &mut Steps<()>) -> Result<Known, NoMemory> {
     let mut live = LiveIndex::new(alloc);
     let root = Live {
         tree: 5,
@@ -289,7 +289,7 @@ fn answer(
     new: &[ItemAt],
 ) -> Result<Vec<ItemRef>, NoMemory> {
     let mut steps = Steps::new(());
-    let known = known(alloc, free, &mut steps)?;
+    let known = old_image(alloc, free, &mut steps)?;
     let spans = spans(alloc, &mut steps)?;
     let fresh = map_of(alloc, metadata, data)?;
     let changes = pair(alloc, old, new)?;
@@ -302,7 +302,7 @@ fn answer(
 // of no bytes at these addresses, and the chunk becomes shorter.
 fn looks_over(alloc: Global, places: &[u64]) -> Result<u64, NoMemory> {
     let mut steps = Steps::new(());
-    let known = known(alloc, false, &mut steps)?;
+    let known = old_image(alloc, false, &mut steps)?;
     let mut spans = SpanIndex::new(alloc);
     for (nth, place) in places.iter().enumerate() {
         let span = Span {
