@@ -9,7 +9,7 @@ ghost use Rattle.verdict.specs.Chunks.{place};
 ghost use Rattle.write_cache.specs.Cache.{overlaid};
 ghost use Rattle.node_reader.specs.Stored.{block_in, bytes_at, found_by, least_difference, stored_in};
 ghost use Rattle.node_reader.specs.Layout.{level_of};
-ghost use Rattle.block_source.specs.Counts.{after_copies, copies_of};
+ghost use Rattle.block_source.specs.Counts.{after_block, after_copies, after_copy, cover};
 ghost use Rattle.block_source.specs.Gives.{Gives, is_disk_fault, is_disk_halt};
 ghost use Rattle.block_source.specs.Takes.{leaving};
 ghost use Rattle.block_source.specs.Private.{FitsIn};
@@ -58,7 +58,16 @@ pub fn read_under<D: Disk>(
     Ok(())
 }
 
-// Reads a copy of a block, of a tree block's size.
+// Whether the waiting writes cover these bytes of the disk.
+fn is_covered(cache: &WriteCache, at: u64, len: u64) -> bool
+    ensures { result ≡ cover cache.now at len }
+{
+    cache.covers(at, len)
+}
+
+// Reads a copy of a block, of a tree block's size. Where the waiting writes cover it, all its bytes are theirs, and the disk is
+// not read.
+#[tactic(auto, using(crate::proofs::Covering::covered_range))]
 fn read_copy<D: Disk>(
     disk: &mut D,
     source: &BlockSource<'_>,
@@ -70,10 +79,15 @@ fn read_copy<D: Disk>(
     requires end { source.now.end ≡ D.len disk.old }
     ensures gives { Gives D.Disk disk.old source.now.cache.now (leaving result into.new)
         (λ image. Ok (range at (length into.old) image)) }
-    ensures reads { D.reads disk.new ≡ counted (D.reads disk.old) }
+    ensures reads { let n = length into.old in
+        D.reads disk.new ≡ after_copy source.now.cache.now n at (D.reads disk.old) }
     ensures kept { Kept D.Disk disk.old disk.new (is_disk_halt result) }
 {
     let _end = source.end;
+    if is_covered(source.cache, at, into.len() as u64) {
+        source.cache.overlay(at, into);
+        return Ok(());
+    }
     read_under(disk, source.cache, at, into)?;
     Ok(())
 }
@@ -102,8 +116,8 @@ fn read_copies<D: Disk>(
     requires end { source.now.end ≡ D.len disk.old }
     ensures gives { Gives D.Disk disk.old source.now.cache.now (leaving result first.new)
         (λ image. found_by e.now (bytes_at (length first.old) image place)) }
-    ensures reads { OnOk result
-        (D.reads disk.new ≡ after_copies place (D.reads disk.old)) }
+    ensures reads { let n = length first.old in OnOk result (D.reads disk.new ≡
+        after_copies source.now.cache.now n place (D.reads disk.old)) }
     ensures kept { Kept D.Disk disk.old disk.new (is_disk_halt result) }
 {
     match place {
@@ -137,7 +151,8 @@ fn read_bytes<D: Disk>(
         (λ image. found_by e.now
         (stored_in image source.now.map.now (length first.old) e.now.address)) }
     ensures reads { let n = length first.old in OnOk result (D.reads disk.new ≡
-        after_copies (place source.now.map.now e.now.address n source.now.end) (D.reads disk.old)) }
+        after_copies source.now.cache.now n
+        (place source.now.map.now e.now.address n source.now.end) (D.reads disk.old)) }
     ensures kept { Kept D.Disk disk.old disk.new (is_disk_halt result) }
 {
     if !is_multiple(e.address) {
@@ -149,7 +164,7 @@ fn read_bytes<D: Disk>(
 
 /// Reads the block that is expected into a buffer of a tree block's size, and lends it there. The second buffer is for
 /// its second copy. A finding is that of the copies (N1, N2), else that of the rules of a block. An
-/// Ok has read the disk once for each copy.
+/// Ok has read the disk once for each copy that the waiting writes do not cover.
 #[tactic(auto, unfolding(node_reader::specs::Stored::block_in))]
 pub fn read_block<'a, D: Disk>(
     disk: &mut D,
@@ -167,7 +182,7 @@ pub fn read_block<'a, D: Disk>(
         (λ image. block_in (stored_in image source.now.map.now sup.nodesize) sup.fsid e.now) }
     ensures level { IfOk result (λ block. level_of block ≡ e.now.level) }
     ensures reads { OnOk result (D.reads disk.new ≡
-        after_copies (copies_of source.now e.now.address) (D.reads disk.old)) }
+        after_block source.now e.now.address (D.reads disk.old)) }
     ensures kept { Kept D.Disk disk.old disk.new (is_disk_halt result) }
 {
     read_bytes(disk, source, e, first, second)?;

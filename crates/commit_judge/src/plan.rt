@@ -39,7 +39,7 @@ pub(crate) struct Plan {
 }
 
 /// What the pending writes change of the image that an index stands for, or the first finding of what the judged image holds. The blocks
-/// that the two images do not share are read, each copy once.
+/// that the two images do not share are read, each copy once that the pending writes do not cover.
 pub(crate) fn plan_of<D: Disk, L>(
     alloc: Global,
     disk: &mut D,

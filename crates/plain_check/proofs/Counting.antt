@@ -3,8 +3,6 @@ use Rattle.std.proofs.Common.{◌≡◌, ℕ, ◌+◌, ◌*◌, ◌≤◌, List,
 use Rattle.std.specs.List.{fold}
 use Rattle.std.proofs.lemmas.List.{drop_all}
 use Rattle.std.proofs.lemmas.List.Sums.{sum_by-append}
-use Rattle.verdict.specs.declared.place.Place.{Place}
-use Rattle.verdict.specs.declared.place.Place.TheVariants.{Nowhere, One, Two}
 use Rattle.recon_disk.specs.Outside.{counted}
 use Rattle.recon_disk.specs.declared.disk.Disk.{Ghosts}
 use Rattle.write_cache.specs.Cache.{overlaid}
@@ -18,14 +16,9 @@ use Rattle.records.specs.Takes.{held_after}
 use Rattle.records.specs.Walk.{Records, behind}
 use Rattle.block_source.specs.declared.read.BlockSource.{BlockSource}
 use Rattle.block_source.specs.declared.halt.Halt.{Halt}
-use Rattle.block_source.specs.Counts.{after_copies, copies_of, with_read}
+use Rattle.block_source.specs.Counts.{after_block, with_read}
+use Rattle.block_source.proofs.Counting.{block_two}
 use Rattle.plain_check.specs.Opened.{ReadsOnce, block_count}
-
--- a block has at most two copies
-copies_few : (place : Place) (reads : ℕ) → after_copies place reads ≤ reads + 2
-copies_few Nowhere reads = omega arith
-copies_few (One first) reads = omega arith
-copies_few (Two first second) reads = omega arith
 
 -- blocks among records, and among those behind them
 count_both : (first second : List Seen) → block_count (first ++ second) ≡ block_count first + block_count second
@@ -35,8 +28,8 @@ count_both first second = sum_by-append _ first second
 fold_few : (source : BlockSource) (reads : ℕ) (records : List Seen) → fold (with_read source) reads records ≤ reads + 2 * block_count records
 fold_few source reads [] = omega arith
 fold_few source reads (BlockSeen block ∷ records) =
-    let next = after_copies (copies_of source block.address) reads in
-    let here : next ≤ reads + 2 = copies_few (copies_of source block.address) reads in
+    let next = after_block source block.address reads in
+    let here : next ≤ reads + 2 = block_two source block.address reads in
     let later : fold (with_read source) next records ≤ next + 2 * block_count records = fold_few source next records in
     let one : block_count (BlockSeen block ∷ records) ≡ 1 + block_count records = count_both (BlockSeen block ∷ []) records in
     omega arith

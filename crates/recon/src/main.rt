@@ -47,6 +47,16 @@ fn seed(rt: &HostRuntime) -> [u8; 16] {
     }
 }
 
+// The length in bytes of one request for memory, so that the system's allocator keeps twice as much of what is freed.
+const KEPT: usize = 1 << 20;
+
+// Has the system's allocator keep memory that is freed for the next request. The one of glibc gives the free end of its heap back as
+// soon as it is longer than twice the longest request that was mapped apart and freed before, at first 128 KiB: so a commit would take its
+// memory from the system anew, page by page. No page of this request is touched, and where it is refused nothing changes.
+fn keep_freed<R: AllocGlobal>(rt: &R) {
+    let _ = Vec::<u8>::with_capacity(rt.alloc(), KEPT);
+}
+
 // Does what the command line asks for, over its last argument as IMAGE and the standard streams, and answers the
 // status.
 fn run(rt: &HostRuntime, arguments: &[String]) -> u8 {
@@ -54,6 +64,7 @@ fn run(rt: &HostRuntime, arguments: &[String]) -> u8 {
         Some(argument) => argument.as_str(),
         None => "",
     };
+    keep_freed(rt);
     let mut disk = FileDisk::at_path(rt, image, sharing(arguments));
     let mut trace = StdSource::new(rt.stdin());
     let mut out = StdSink::new(rt.stdout());

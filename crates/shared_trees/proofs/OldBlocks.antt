@@ -1,8 +1,7 @@
 -- The records of the walk that keeps the shared blocks are those of the pairs that are not shared.
-use Rattle.std.proofs.Common.{◌≡◌, ℕ, suc, ◌+◌, ◌-◌, ◌*◌, ◌^◌, ◌≤◌, ◌==◌, Bool, true, false, not, ◌&&◌, ◌||◌, List, [], ◌∷◌, ◌++◌, inl, inr, refl, ap, sym, subst, ◌∙◌, arith}
+use Rattle.std.proofs.Common.{◌≡◌, ℕ, suc, ◌+◌, ◌*◌, ◌≤◌, ◌==◌, Bool, true, false, not, ◌&&◌, ◌||◌, List, [], ◌∷◌, ◌++◌, inl, inr, refl, ap, sym, subst, ◌∙◌, arith}
 use Rattle.std.specs.Prelude.{Option, Some, None, is_some, Result, Ok, Err, length, map, if◌then◌else◌}
 use Rattle.std.specs.List.{AllByRecursion, cons_option, filter, filter_map, flat_map, fold, list_any}
-use Rattle.std.proofs.Math.Nat.{min-le_left}
 use Rattle.std.proofs.lemmas.Bool.{eqb-true}
 use Rattle.std.proofs.lemmas.Bool.Decides.{nat_tests}
 use Rattle.std.proofs.lemmas.List.Elements.{filter-append, filter_map-append}
@@ -10,9 +9,6 @@ use Rattle.verdict.specs.Rules.{and_then}
 use Rattle.verdict.specs.declared.finding.Finding.{Finding}
 use Rattle.verdict.specs.declared.key.Key.{Key}
 use Rattle.verdict.specs.declared.place.At.{At}
-use Rattle.verdict.specs.declared.place.Place.{Place}
-use Rattle.verdict.specs.declared.place.Place.TheVariants.{Nowhere, One, Two}
-use Rattle.recon_disk.specs.Outside.{counted}
 use Rattle.super_reader.specs.Superblock.{item_place}
 use Rattle.super_reader.specs.declared.Super.{Super}
 use Rattle.live_index.specs.Pairs.{Pairs}
@@ -27,7 +23,8 @@ use Rattle.records.specs.Seen.{Seen}
 use Rattle.records.specs.Seen.Seen.{BlockSeen, ItemSeen, PointerSeen}
 use Rattle.records.specs.Walk.{Records, behind, block_at, each, entry_records, just, leaf_record, leaf_records, own_records, pointer_records, walk_of}
 use Rattle.records.specs.WalkLaw.{visited}
-use Rattle.block_source.specs.Counts.{after_copies, copies_of, with_read}
+use Rattle.block_source.specs.Counts.{after_block, with_read}
+use Rattle.block_source.proofs.Counting.{block_two}
 use Rattle.shared_trees.specs.Keeping.{OneOf, live_at}
 use Rattle.shared_trees.specs.LivePairs.{live_in}
 use Rattle.shared_trees.specs.Skips.{Kept, nothing, own_of}
@@ -283,22 +280,13 @@ unshared_are pairs shared kept sup stored root whole records stands kept_is walk
               ∙ (ap (items_in (fresh pairs shared kept sup stored es)) all ∙ ap (λ ls. items_in ls whole) (sym lives)));
         }
 
--- a block is read at most twice
-counted_one : (n : ℕ) → counted n ≤ n + 1
-counted_one n = min-le_left (n + 1) (2 ^ 64 - 1)
-
-copies_two : (at : Place) (n : ℕ) → after_copies at n ≤ n + 2
-copies_two Nowhere n = omega arith
-copies_two (One first) n = let one = counted_one n in omega (arith, one)
-copies_two (Two first second) n = let one = counted_one n in let two = counted_one (counted n) in omega (arith, one, two)
-
 more_two : (m n k l : ℕ) → m ≤ n + 2 → k ≤ m + 2 * l → k ≤ n + 2 * suc l
 more_two m n k l first rest = omega (arith, first, rest)
 
 pub reads_twice : ReadsTwiceLaw
 reads_twice source reads [] = omega arith
 reads_twice source reads (BlockSeen block ∷ more) =
-    let next = after_copies (copies_of source block.address) reads in
-    more_two next reads (fold (with_read source) next more) (length (filter is_block_seen more)) (copies_two (copies_of source block.address) reads) (reads_twice source next more)
+    let next = after_block source block.address reads in
+    more_two next reads (fold (with_read source) next more) (length (filter is_block_seen more)) (block_two source block.address reads) (reads_twice source next more)
 reads_twice source reads (PointerSeen one ∷ more) = reads_twice source reads more
 reads_twice source reads (ItemSeen one ∷ more) = reads_twice source reads more

@@ -24,10 +24,10 @@ use verdict::{Key, NoMemory};
 /// Walks the tree from the block on that is expected, keeps the blocks that it is told to keep, and gives the records of the others to
 /// a taker, as a whole walk does. It reads no kept block, goes on to what is walked below it, and gives nothing of it. Where a kept
 /// block's greatest key is not below the high key that is expected, there is a finding at or below it: then the rest below it is walked
-/// whole up to the first. Each copy of each block that is not kept is read once. Each other kept block that it meets is held.
-/// Behind each block that it reads or meets, and all that is walked below it, it tells its greatest key. What keeps the blocks looks at
-/// most three times into a table of live pairs for each block that is read or met. `room` is kept for the next walk, and nothing is read
-/// of what it holds.
+/// whole up to the first. Each copy of each block that is not kept is read once, but for those that the pending writes cover whole.
+/// Each other kept block that it meets is held. Behind each block that it reads or meets, and all that is walked below it, it tells its
+/// greatest key. What keeps the blocks looks at most three times into a table of live pairs for each block that is read or met. `room`
+/// is kept for the next walk, and nothing is read of what it holds.
 #[tactic(auto, using(block_source::proofs::Copies::room_fits))]
 pub fn walk_changed<D: Disk, K: Keeps, T: Taker>(
     alloc: Global,

@@ -10,6 +10,9 @@ use records::{BlockAt, ItemAt, RecAt, Record, Taker};
 use std::alloc::Global;
 use verdict::NoMemory;
 
+// For how many items room is made where a block is taken, so that those of a leaf seldom move. Nothing rests on it.
+const ITEMS: usize = 128;
+
 /// The blocks and the items of walks, in their order.
 #[derive(Drop)]
 pub(crate) struct Gathered {
@@ -63,7 +66,7 @@ impl Taker for Gathered {
     fn take(&mut self, one: &Record<'_>) -> Result<(), NoMemory> {
         match one {
             Record::Block(block) => {
-                if self.blocks.push(*block).is_err() {
+                if self.blocks.push(*block).is_err() || self.items.reserve(ITEMS).is_err() {
                     return Err(NoMemory);
                 }
                 Ok(())

@@ -74,7 +74,9 @@ impl Lasts {
 fn last_keys(alloc: Global, ended: &[Ended]) -> Result<Vec<LastKey>, NoMemory>
     ensures { IfOk result (λ keys. keys.items ≡ map last_key_of ended.now) }
 {
-    let mut keys = Vec::new(alloc);
+    let Ok(mut keys) = Vec::with_capacity(alloc, ended.len()) else {
+        return Err(NoMemory);
+    };
     for one in ended {
         let key = LastKey {
             address: one.expect.address,

@@ -1,6 +1,6 @@
 //! What changes in trees.
 
-ghost use Rattle.std.specs.Prelude.{◌≡◌, ◌+◌, ◌*◌, ◌≤◌, ℕ, true, length, IfOk, IfSome, OnOk};
+ghost use Rattle.std.specs.Prelude.{◌≡◌, ◌+◌, ◌*◌, ◌≤◌, ◌++◌, ℕ, true, length, IfOk, IfSome, OnOk};
 ghost use Rattle.recon_disk.specs.Keeping.{Kept};
 ghost use Rattle.live_index.specs.Table.{pairs_of};
 ghost use Rattle.shared_trees.specs.Known.{AreMetBy, blocks_met};
@@ -65,14 +65,27 @@ impl TreeParts {
             parts_by self.new (count + other)
             ≡ with_parts (parts_by self.old count) (parts_by more other)) }
     {
-        let mut more = more;
-        self.old_blocks.append(&mut more.old_blocks)?;
-        self.new_blocks.append(&mut more.new_blocks)?;
-        self.moved.append(&mut more.moved)?;
-        self.old_items.append(&mut more.old_items)?;
-        self.new_items.append(&mut more.new_items)?;
+        put_behind(&mut self.old_blocks, more.old_blocks)?;
+        put_behind(&mut self.new_blocks, more.new_blocks)?;
+        put_behind(&mut self.moved, more.moved)?;
+        put_behind(&mut self.old_items, more.old_items)?;
+        put_behind(&mut self.new_items, more.new_items)?;
         Ok(())
     }
+}
+
+// Puts a list behind another. Where that is empty, nothing is copied.
+fn put_behind<T>(into: &mut Vec<T>, more: Vec<T>) -> Result<(), AllocError>
+where
+    T: Drop,
+    ensures { OnOk result (into.new.items ≡ into.old.items ++ more.items) }
+{
+    if into.is_empty() {
+        *into = more;
+        return Ok(());
+    }
+    let mut more = more;
+    into.append(&mut more)
 }
 
 // Walks a tree as it was, where it was, which stops at these blocks of the tree as it is.

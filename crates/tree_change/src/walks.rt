@@ -22,6 +22,9 @@ use shared_trees::{Ended, KnownTree, Met, OldTree, Starts, Stops, walk_changed};
 use std::alloc::Global;
 use touched_pairs::{Marks, Move};
 
+// For how many blocks there is room at first in the lists of those that a walk comes to. Nothing rests on it.
+const CHILDREN: usize = 256;
+
 /// What is known of trees as they were: their live pairs, the marks of those that writes touch and of all above them, which blocks
 /// stand elsewhere now, and the children that moved or are above one that did.
 #[derive(Clone, Copy)]
@@ -78,8 +81,8 @@ pub(crate) fn walk_new<D: Disk, L>(
         moves: known.moves,
         starts: known.starts,
         steps: &mut *steps,
-        met: Vec::new(alloc),
-        ended: Vec::new(alloc),
+        met: Vec::with_capacity(alloc, CHILDREN)?,
+        ended: Vec::with_capacity(alloc, CHILDREN)?,
         found: None,
         behind: None,
     };

@@ -82,7 +82,7 @@ fn walked(
     rt: &impl Abort,
     alloc: Global,
     image: &[u8],
-    pending: &[u64],
+    pending: &[(u64, usize)],
     generation: u64,
 ) -> Result<(Option<(Family, u8)>, u64), Fail> {
     let mut map = ChunkMap::new(alloc);
@@ -98,11 +98,12 @@ fn walked(
         Err(_) => panic!(rt; "the base image has no superblock"),
     };
     assert!(rt; sup.nodesize == 16_384);
-    // Each pending write is of one byte, as it stands.
+    // Each pending write is of so many bytes from an offset on, as they stand.
     let mut cache = WriteCache::new(alloc);
-    for at in pending {
-        assert!(rt; *at < 33_554_432);
-        cache.put(*at, &[image[*at as usize]])?;
+    for (at, len) in pending {
+        assert!(rt; *at < 16_777_216 && *len <= 32_768);
+        let from = *at as usize;
+        cache.put(*at, &image[from..from + *len])?;
     }
     let mut steps = Steps::new(());
     let mut table = LiveIndex::new(alloc);
@@ -164,14 +165,26 @@ pub(crate) fn known_by<'a, 's>(
 fn a_block_that_is_known_as_it_is_expected_is_not_read(rt: HostRuntime) -> Result<(), Fail> {
     let base = base_image(rt.alloc())?;
     let image = base.as_slice();
-    let rows: [(&[u64], u64, Option<(Family, u8)>, u64); 5] = [
+    let rows: [(&[(u64, usize)], u64, Option<(Family, u8)>, u64); 10] = [
         (&[], 1, None, 0),
         // A byte beside it, one of its first copy, and one of its second.
-        (&[ROOT - 1], 1, None, 0),
-        (&[ROOT], 1, None, 2),
-        (&[SECOND + 16_383], 1, None, 2),
+        (&[(ROOT - 1, 1)], 1, None, 0),
+        (&[(ROOT, 1)], 1, None, 2),
+        (&[(SECOND + 16_383, 1)], 1, None, 2),
         // The same address with another generation.
         (&[], 2, Some((Family::N, 7)), 2),
+        // All bytes of a copy but the last, all of one copy, and more than all: the disk is not read for what is pending whole.
+        (&[(ROOT, 16_383)], 1, None, 2),
+        (&[(ROOT, 16_384)], 1, None, 1),
+        (&[(SECOND - 4096, 24_576)], 1, None, 1),
+        // Both copies, one of them in two writes.
+        (&[(ROOT, 16_384), (SECOND, 16_384)], 1, None, 0),
+        (
+            &[(ROOT, 4096), (ROOT + 4096, 12_288), (SECOND, 16_384)],
+            2,
+            Some((Family::N, 7)),
+            0,
+        ),
     ];
     for (pending, generation, found, reads) in rows {
         let walk = walked(&rt, rt.alloc(), image, pending, generation)?;

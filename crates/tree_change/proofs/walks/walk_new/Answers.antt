@@ -13,7 +13,7 @@ pub returns-clause-gives : goal.returns-clause-gives
 returns-clause-gives g c =
     new_ok (g.D.Disk.bytes c.args.disk.now) c.args.source.now.cache.now (known_by c.args.known.now) c.args.source.now.sup.now
     c.args.source.now.map.now c.args.e.now _ _ _ _ _ _
-    c.new-read.ensures (ap blocks_met c.new.ensures.items) c.new-2.ensures.items
+    c.new-read.ensures (ap blocks_met c.in_ok-with_capacity.ensures.items) c.in_ok-with_capacity-2.ensures.items
     c.in_ok-walk_changed.ensures.taken c.in_ok-walk_changed.ensures.met c.in_ok-walk_changed.ensures.ended
 
 pub returns-clause-reads : goal.returns-clause-reads
@@ -27,7 +27,7 @@ returns-clause-reads g c =
 
 pub invariant_of-keeps : goal.invariant_of-keeps
 invariant_of-keeps g c = record {
-  held = met_none (pairs_of c.args.known.now.table.now) _ c.new.ensures.items;
+  held = met_none (pairs_of c.args.known.now.table.now) _ c.in_ok-with_capacity.ensures.items;
   walks = tt;
   stands = tt;
 }
