@@ -7,8 +7,8 @@ Usage: tests/changes.py [PROGRAM]                 by default crates/changes/out/
 
 Prints one line, and ends with 1 at the first case that differs. The model reads every block of both images. It says by
 the definitions which live pairs the images share and what of the rest they hold, or the first finding of the new image.
-Compared are the finding, or the blocks, items and chunks; and the program reads at most twice for each block that is not
-shared. The rows are small images of 4096-byte nodes that are made tree by tree; the random cases are drawn from fixed
+Compared are the finding, or the blocks, items and chunks; and the program reads at most once for each old block that is
+not shared, and twice for each new one. The rows are small images of 4096-byte nodes that are made tree by tree; the random cases are drawn from fixed
 seeds. With --real each commit of each trace of a directory is a case: NAME.img.xz with NAME.trace.xz."""
 import collections
 import copy
@@ -280,7 +280,7 @@ class Difference:
         moved = [self.new.blocks[pair].live for pair in sorted(self.shared, key=lambda pair: pair[::-1])
                  if place_above(self.new.blocks[pair].live) != place_above(self.old.blocks[pair].live)]
         self.count = f'change old {len(old)} new {len(new)} moved {len(moved)}'
-        self.limit = 2 * (len(old) + len(new))
+        self.limit, self.blocks = len(old) + 2 * len(new), len(old) + len(new)
         lives = [sorted(line(name, *one.live) for one in blocks) for name, blocks in (('old', old), ('new', new))]
         items = [[line(name, tree, address, key) for tree, key, address in sorted(
             (one.live.tree, key, one.live.address) for one in blocks for key, _ in one.items)]
@@ -577,7 +577,7 @@ class Runs:
             self.fail(row, f'the program has {len(got)} lines, and the model {len(wanted)}')
         if int(reads) > difference.limit:
             self.fail(row, f'{reads} reads are more than {difference.limit}')
-        self.reads, self.blocks = self.reads + int(reads), self.blocks + difference.limit // 2
+        self.reads, self.blocks = self.reads + int(reads), self.blocks + difference.blocks
 
 
 def rewrite(volume, leaf, salt=77):

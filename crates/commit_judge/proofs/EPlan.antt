@@ -93,6 +93,10 @@ affected_by alike k fresh change changes old new names (Err e) is old_is new_is 
 affected_by alike k fresh change changes old new names (Ok refs) is old_is new_is found =
     rw (is, ← old_is, ← new_is) (λ items of. found items of)
 
+-- one read for each old block and two for each new one are at most two for each
+twice_few : (before after olds news : ℕ) → after ≤ before + olds + 2 * news → after ≤ before + 2 * (olds + news)
+twice_few before after olds news few = omega (arith, few)
+
 module _ {L : Type 0} (index : Index L) (pending : FinMap nat_cmp ℕ) where
   -- what is known of the superblock of the judged image
   abbrev FreshBy : Result Fresh Finding → Type 0
@@ -152,7 +156,8 @@ module _ {L : Type 0} (index : Index L) (pending : FinMap nat_cmp ℕ) where
               (ascend_items plan.change.new_items.items differs.4.new_items.ascends);
           refs_are = affected;
         };
-        reads = subst (λ c. after ≤ before + 2 * (length c.old_blocks.items + length c.new_blocks.items)) (sym change_is) both.1;
+        reads = subst (λ c. after ≤ before + 2 * (length c.old_blocks.items + length c.new_blocks.items)) (sym change_is)
+            (twice_few before after (length change.old_blocks.items) (length change.new_blocks.items) both.1);
       }
 
   -- the looks to make a plan, by those to find what changes and those to find the kept items

@@ -38,8 +38,8 @@ pub(crate) struct Plan {
     pub(crate) refs: Vec<ItemRef>,
 }
 
-/// What the pending writes change of the image that an index stands for, or the first finding of what the judged image holds. The blocks
-/// that the two images do not share are read, each copy once that the pending writes do not cover.
+/// What the pending writes change of the image that an index stands for, or the first finding of what the judged image holds. Of the
+/// blocks that the two images do not share the old ones are read once, and of the new ones each copy that the pending writes do not cover.
 pub(crate) fn plan_of<D: Disk, L>(
     alloc: Global,
     disk: &mut D,

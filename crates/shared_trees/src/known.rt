@@ -50,9 +50,9 @@ pub struct KnownTree<'a, 's, L> {
 }
 
 impl<'a, 's, L> KnownTree<'a, 's, L> {
-    // The pair of a block in the table. A block that is asked for again is not looked for again.
-    fn pair_of(&mut self, e: &Expect) -> Option<Live>
-        ensures value { result ≡ pairs_of self.old.table.now (e.now).tree (e.now).address }
+    // Finds the pair of a block in the table. A block that is asked for again is not looked for again.
+    fn find(&mut self, e: &Expect)
+        ensures value { self.new.found ≡ pairs_of self.old.table.now (e.now).tree (e.now).address }
         ensures table { self.new.table.now ≡ self.old.table.now }
         ensures marks { self.new.marks.now ≡ self.old.marks.now }
         ensures moves { self.new.moves.now ≡ self.old.moves.now }
@@ -61,21 +61,20 @@ impl<'a, 's, L> KnownTree<'a, 's, L> {
         ensures ended { self.new.ended ≡ self.old.ended }
         ensures loan { self.new.steps.ghost_name ≡ self.old.steps.ghost_name }
         ensures looks { self.new.steps.now ≤ self.old.steps.now + 3 }
-        ensures found { IfSome result (λ _. is_found self.new.found e.now ≡ true) }
+        ensures found { IfSome self.new.found (λ _. is_found self.new.found e.now ≡ true) }
         ensures again { is_found self.old.found e.now ≡ true
             → self.new.steps.now ≡ self.old.steps.now }
     {
-        if let Some(live) = self.found
+        if let Some(live) = &self.found
             && live.address == e.address
             && live.tree == e.tree
         {
-            return Some(live);
+            return;
         }
         self.found = self.look_for(e);
-        self.found
     }
 
-    // The same, looked for in the table: first at the pair that comes next in the order of keys.
+    // The pair of a block, looked for in the table: first at the pair that comes next in the order of keys.
     fn look_for(&mut self, e: &Expect) -> Option<Live>
         ensures value { result ≡ pairs_of self.old.table.now (e.now).tree (e.now).address }
         ensures table { self.new.table.now ≡ self.old.table.now }
@@ -128,14 +127,18 @@ impl<'a, 's, L> Keeps for KnownTree<'a, 's, L> {
         if self.marks.has(e.tree, e.address) || self.moves.passes(e.address) {
             return None;
         }
-        let live = self.pair_of(e);
-        bound_in(live.as_ref(), self.starts, e)
+        self.find(e);
+        bound_in(self.found.as_ref(), self.starts, e)
     }
 
     #[tactic(auto, unfolding(crate::specs::Meeting::with_met))]
     fn meet(&mut self, e: &Expect) -> Result<(), NoMemory> {
-        let live = self.pair_of(e);
-        match self.met.push(Met { expect: *e, live }) {
+        self.find(e);
+        let one = Met {
+            expect: *e,
+            live: self.found,
+        };
+        match self.met.push(one) {
             Ok(()) => Ok(()),
             Err(_) => Err(NoMemory),
         }
@@ -154,8 +157,8 @@ impl<'a, 's, L> Keeps for KnownTree<'a, 's, L> {
         if is_last_walked(self.starts.of(e.tree, e.address)) {
             return None;
         }
-        let live = self.pair_of(e)?;
-        Some(live.last)
+        self.find(e);
+        Some(self.found.as_ref()?.last)
     }
 
     #[tactic(auto, unfolding(crate::specs::Ending::with_ended))]

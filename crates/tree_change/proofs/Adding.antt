@@ -1,5 +1,5 @@
 -- What changes in trees, put behind one another.
-use Rattle.std.proofs.Common.{◌≡◌, ℕ, ◌+◌, ◌*◌, ◌<◌, ◌≤◌, List, [], ◌∷◌, length, drop, get_or, Option, Some, None, Ok, Err, refl, ap, sym, ◌∙◌, subst, arith, true, false, Bool}
+use Rattle.std.proofs.Common.{◌≡◌, ℕ, ◌+◌, ◌<◌, ◌≤◌, List, [], ◌∷◌, length, drop, get_or, Option, Some, None, Ok, Err, refl, ap, sym, ◌∙◌, subst, arith, true, false, Bool}
 use Rattle.std.specs.Prelude.{IfSome, Result, is_some, if◌then◌else◌, ◌||◌}
 use Rattle.std.specs.List.{list_any}
 use Rattle.std.proofs.lemmas.List.{append_assoc, append-nil, drop_more}
@@ -93,7 +93,7 @@ so_first (Some image) all reads whole = (no_parts, behind_none (whole image), ad
 
 -- parts behind parts
 added_more : (some all next made : TreeParts) (more : Parts) (other before now after : ℕ) → IsAdded some all more before now
-    → ((count other : ℕ) → parts_by next (count + other) ≡ with_parts (parts_by all count) (parts_by made other)) → after ≤ now + 2 * other
+    → ((count other : ℕ) → parts_by next (count + other) ≡ with_parts (parts_by all count) (parts_by made other)) → after ≤ now + other
     → IsAdded some next (with_parts more (parts_by made other)) before after
 added_more some all next made more other before now after added puts few = record {
   behind = λ count. ap (parts_by next) (omega arith) ∙ puts (count + more.count) other
@@ -103,7 +103,7 @@ added_more some all next made more other before now after added puts few = recor
 
 pub so_more : (told : Option (List ℕ)) (some all next made : TreeParts) (before now after : ℕ) (here rest left whole : List ℕ → Result Parts Finding)
     → So told some all before now rest whole → ((image : List ℕ) → rest image ≡ then_parts (here image) (left image))
-    → IfSome told (λ image. (count : ℕ) × (here image ≡ Ok (parts_by made count)) × (after ≤ now + 2 * count))
+    → IfSome told (λ image. (count : ℕ) × (here image ≡ Ok (parts_by made count)) × (after ≤ now + count))
     → ((count other : ℕ) → parts_by next (count + other) ≡ with_parts (parts_by all count) (parts_by made other))
     → So told some next before after left whole
 so_more None some all next made before now after here rest left whole so step tells puts = tt

@@ -1,6 +1,6 @@
 -- What the two steps of a comparison make is what changes from the one image to the other; and their first finding is that of what the new
 -- image holds.
-use Rattle.std.proofs.Common.{◌≡◌, ℕ, ◌+◌, List, length, inl, inr, refl, sym, subst, ◌∙◌}
+use Rattle.std.proofs.Common.{◌≡◌, ℕ, ◌+◌, ◌*◌, List, length, inl, inr, refl, sym, subst, ◌∙◌}
 use Rattle.std.specs.Prelude.{Ok, Err, map}
 use Rattle.std.specs.List.Sorted.{IsPermutation}
 use Rattle.verdict.specs.declared.finding.Finding.{Finding}
@@ -69,7 +69,7 @@ pub change_is : {L : Type 0} (both : Compared L) (image : List ℕ) (is : IsComp
     → IsSortedOf item_before (with_parts tree_parts rest).new_items (map located_item change.new_items.items)
     → change.map ≡ chunks
     → (new : Walked) × (walked (judged_by both image) ≡ Ok new) × IsChange is.based.old new (written_in both.cache.now) (length image) change
-    × ((with_parts tree_parts rest).count ≡ length change.old_blocks.items + length change.new_blocks.items)
+    × ((with_parts tree_parts rest).count ≡ length change.old_blocks.items + 2 * length change.new_blocks.items)
 change_is both image is array chunks known tree_parts rest change array_is m r old_blocks new_blocks moved old_items new_items map_is =
     let old = is.based.old in
     let all = all_changes both image is array chunks known tree_parts rest array_is m r in

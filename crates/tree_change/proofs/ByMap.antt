@@ -33,6 +33,7 @@ use Rattle.shared_trees.specs.Under.{under_of}
 use Rattle.shared_trees.specs.declared.starts.Starts.{Starts}
 use Rattle.shared_trees.proofs.Premises.{map_apart}
 use Rattle.shared_trees.proofs.Treed.{map_kept}
+use Rattle.tree_change.specs.Firsts.{first_copies}
 use Rattle.tree_change.specs.AllTrees.{IsOver, KnowsTrees, gone_all, named_parts, with_parts}
 use Rattle.tree_change.specs.Compared.{FindsRest, FitsCompared, HasNewMap, IsCompared, KeepsBy, MakesRest, TellsRest, judged_by, side_to}
 use Rattle.tree_change.specs.Making.{FindsOthers, IsAdded, MakesOthers, RootsJudged, TellsOthers}
@@ -229,15 +230,17 @@ module _ {L : Type 0} (both : Compared L) (image : List ℕ) (chunks : List Chun
 
 -- the two sides by the new chunks, and what is known
 module _ {L : Type 0} (both : Compared L) (new : Bor (List Chunk)) (moves : Bor Move) (starts : Bor Starts)
-    (same : both.is_same ≡ true → both.kept.now ≡ both.table.now) where
+    (same : both.is_same ≡ true → both.kept.now ≡ both.table.now) (once : both.firsts.now ≡ first_copies both.was.map.now) where
   abbrev pub sides_by : Sides L
   sides_by = record {
     was = both.was;
+    firsts = both.firsts;
     is = record { cache = both.cache; map = new; sup = both.fresh; end = both.was.end };
     table = both.table;
     known = record { table = both.kept; marks = both.marks; moves = moves; starts = starts };
     is_same = both.is_same;
     same = same;
+    once = once;
   }
 
   abbrev known_now : Known

@@ -26,6 +26,7 @@ use Rattle.touched_pairs.specs.declared.moved.Move.{Move}
 use Rattle.shared_trees.specs.Shared.{are_read_alike}
 use Rattle.shared_trees.specs.Under.{under_of}
 use Rattle.shared_trees.specs.declared.starts.Starts.{Starts}
+use Rattle.tree_change.specs.Firsts.{first_copies}
 use Rattle.tree_change.specs.AllLooks.{AreDistinctOf, AreMoves, AreTreeMoves, HaveHomesOf, LooksForMap, LooksForRest, LooksFromOld, LooksToCompare, MovesLookAtMost}
 use Rattle.records.specs.Contents.{chunk_map_in}
 use Rattle.tree_change.specs.Compared.{FitsCompared, HasNewArray, IsCompared, MakesMap, TellsMap, judged_by}
@@ -55,26 +56,26 @@ moves_few pairs old new nodesize end marks first at next last trees moved listed
     moves_sum first at next last marks (length old) (length new) trees (moved placed apart new_apart some) listed few
 
 module _ {L : Type 0} (both : Compared L) (new : Bor (List Chunk)) (moves : Bor Move) (starts : Bor Starts)
-    (same : both.is_same ≡ true → both.kept.now ≡ both.table.now) where
+    (same : both.is_same ≡ true → both.kept.now ≡ both.table.now) (once : both.firsts.now ≡ first_copies both.was.map.now) where
   -- the looks for all trees but the chunk tree
-  pub rest_few : (A : Type 0) (told : Option (List ℕ)) (result : Result A Halt) (moving : Marks) (first at next last : ℕ) → IsMove both new moves starts same
+  pub rest_few : (A : Type 0) (told : Option (List ℕ)) (result : Result A Halt) (moving : Marks) (first at next last : ℕ) → IsMove both new moves starts same once
       → AreMoves (pairs_of both.kept.now) both.was.map.now new.now both.was.sup.now.nodesize both.was.end (marked_by moving) (under_of starts.now)
       (count_of moving)
       → (ArePlaced (pairs_of both.kept.now) both.was.map.now both.was.sup.now.nodesize both.was.end → AreApart both.was.map.now → AreApart new.now
       → 0 < both.was.sup.now.nodesize → at ≤ first + 2 * count_of moving + 2 * length both.was.map.now + length new.now)
       → next ≤ at + 3 * count_of moving
-      → OnOk result (OthersLookAtMost told next last (sides_by both new moves starts same) both.roots.now)
+      → OnOk result (OthersLookAtMost told next last (sides_by both new moves starts same once) both.roots.now)
       → OnOk result (LooksForRest told first last both new.now)
   rest_few A told (Err halt) moving first at next last is are moved listed others = tt
   rest_few A told (Ok value) moving first at next last is are moved listed others = by told others
     where
-      by : (t : Option (List ℕ)) → OthersLookAtMost t next last (sides_by both new moves starts same) both.roots.now
+      by : (t : Option (List ℕ)) → OthersLookAtMost t next last (sides_by both new moves starts same once) both.roots.now
           → LooksForRest t first last both new.now
       by None others = tt
       by (Some image) others = record {
         moving = marked_by moving;
         marks = count_of moving;
-        known = known_by (sides_by both new moves starts same).known;
+        known = known_by (sides_by both new moves starts same once).known;
         by_kept = refl;
         marked_is = refl;
         moved_is = moves_same moves.now both.was.map.now new.now both.was.sup.now.nodesize both.was.end is.before is.after is.size is.until;
@@ -84,12 +85,12 @@ module _ {L : Type 0} (both : Compared L) (new : Bor (List Chunk)) (moves : Bor 
         tree = others.2.tree;
         merged = others.2.merged;
         looks = moves_few (pairs_of both.kept.now) both.was.map.now new.now both.was.sup.now.nodesize both.was.end (count_of moving) first at next last
-            (other_looks_in (sides_by both new moves starts same) both.roots.now others.1 image) moved listed others.3;
+            (other_looks_in (sides_by both new moves starts same once) both.roots.now others.1 image) moved listed others.3;
       }
 
   -- the looks for the chunk tree
   pub map_few : (A : Type 0) (told : Option (List ℕ)) (result : Result A Halt) (old_array olds some : List Chunk) (moving : Marks) (first at next last : ℕ)
-      → IsMove both new moves starts same
+      → IsMove both new moves starts same once
       → array_chunks (array_place both.was.sup.now) both.was.sup.now.array both.was.sup.now.array_size ≡ Ok old_array
       → AreDistinctOf old_array olds → HaveHomesOf old_array olds → length olds ≤ length old_array → length some ≤ length new.now
       → AreApart some → ((address n end : ℕ) → place some address n end ≡ place new.now address n end)
@@ -97,12 +98,12 @@ module _ {L : Type 0} (both : Compared L) (new : Bor (List Chunk)) (moves : Bor 
       → (ArePlaced (of_tree 3 (pairs_of both.kept.now)) olds both.was.sup.now.nodesize both.was.end → AreApart olds → AreApart some
       → 0 < both.was.sup.now.nodesize → at ≤ first + 2 * count_of moving + 2 * length olds + length some)
       → next ≤ at + 3 * count_of moving
-      → OnOk result (LooksAtMost told next last (chunk_looks_in (sides_by both new moves starts same)))
+      → OnOk result (LooksAtMost told next last (chunk_looks_in (sides_by both new moves starts same once)))
       → OnOk result (LooksForMap told first last both new.now)
   map_few A told (Err halt) old_array olds some moving first at next last is array_is distinct homes few_olds few_some apart place_is are moved listed tree = tt
   map_few A told (Ok value) old_array olds some moving first at next last is array_is distinct homes few_olds few_some apart place_is are moved listed tree = by told tree
     where
-      by : (t : Option (List ℕ)) → LooksAtMost t next last (chunk_looks_in (sides_by both new moves starts same)) → LooksForMap t first last both new.now
+      by : (t : Option (List ℕ)) → LooksAtMost t next last (chunk_looks_in (sides_by both new moves starts same once)) → LooksForMap t first last both new.now
       by None tree = tt
       by (Some image) tree = record {
         old_array = old_array;
@@ -117,13 +118,13 @@ module _ {L : Type 0} (both : Compared L) (new : Bor (List Chunk)) (moves : Bor 
         same_place = place_is;
         moving = marked_by moving;
         marks = count_of moving;
-        known = known_by (sides_by both new moves starts same).known;
+        known = known_by (sides_by both new moves starts same once).known;
         by_kept = refl;
         marked_is = refl;
         moved_is = moves_same moves.now both.was.map.now new.now both.was.sup.now.nodesize both.was.end is.before is.after is.size is.until;
         moves = are;
         looks = moves_few (of_tree 3 (pairs_of both.kept.now)) olds some both.was.sup.now.nodesize both.was.end (count_of moving) first at next last
-            (chunk_looks_in (sides_by both new moves starts same) image) moved listed tree;
+            (chunk_looks_in (sides_by both new moves starts same once) image) moved listed tree;
       }
 
 -- the looks for both

@@ -1,14 +1,16 @@
 -- The walks of a tree come to few blocks, by the pairs that change in it.
-use Rattle.std.proofs.Common.{◌≡◌, ℕ, suc, ◌+◌, ◌*◌, ◌<◌, ◌≤◌, ◌==◌, ◌&&◌, Bool, true, false, List, [], ◌∷◌, length, refl, ap, sym, ◌∙◌, arith}
+use Rattle.std.proofs.Common.{◌≡◌, ℕ, suc, ◌+◌, ◌*◌, ◌<◌, ◌≤◌, ◌==◌, ◌&&◌, Bool, true, false, List, [], ◌∷◌, length, refl, ap, sym, subst, ◌∙◌, arith}
 use Rattle.std.proofs.lemmas.Bool.{eqb-true}
 use Rattle.std.proofs.lemmas.Nat.{mul-le}
 use Rattle.std.specs.Prelude.{Option, Some, None, Ok, map, if◌then◌else◌}
 use Rattle.std.specs.List.{cons_option}
+use Rattle.verdict.specs.Rules.{and_then}
 use Rattle.live_index.specs.Pairs.{Pairs}
 use Rattle.live_index.specs.declared.live.Live.{Live}
 use Rattle.node_reader.specs.Stored.{Stored, stored_in}
 use Rattle.node_reader.specs.declared.expect.Expect.{Expect}
 use Rattle.records.specs.Seen.{Seen}
+use Rattle.records.specs.Walk.{Records}
 use Rattle.records.specs.Seen.Seen.{BlockSeen, ItemSeen, PointerSeen}
 use Rattle.records.specs.declared.rec.BlockAt.{BlockAt}
 use Rattle.shared_trees.specs.KeepingWalk.{skip_in}
@@ -18,12 +20,12 @@ use Rattle.shared_trees.specs.OldSide.{kept_at}
 use Rattle.shared_trees.specs.Skips.{Kept}
 use Rattle.shared_trees.specs.Visits.{visits_in, visits_of}
 use Rattle.shared_trees.specs.VisitsLaw.{entries_at, entries_seen, blocks_seen as blocks_among}
-use Rattle.shared_trees.proofs.Rooted.{step_ok}
 use Rattle.tree_change.specs.Gathered.{Gathers, blocks_seen}
 use Rattle.tree_change.specs.Looks.{old_visits}
 use Rattle.tree_change.specs.LooksLaw.{entries_of, few_for}
 use Rattle.tree_change.specs.OneTree.{side_of}
 use Rattle.tree_change.specs.Walks.{Known, Side, listed_by, old_walk, pairs_at}
+use Rattle.tree_change.proofs.FirstCopies.{skip_firsts, visits_firsts}
 use Rattle.tree_change.proofs.OfTree.{LeadsIn, few_in}
 use Rattle.tree_change.proofs.Olds.{fine_step, gathered, same_ok}
 use Rattle.tree_change.proofs.Vanished.{blocks_count}
@@ -121,17 +123,22 @@ module _ (image : List ℕ) (old : Walked) (pairs : Pairs) (known : Known)
   pair_at tree address live is = table_at (live_in old.seen) tree address live (sym (pairs_are tree address) ∙ is)
 
   pub old_few : (tree : ℕ) (stops : List Expect) (e : Expect) (read : Gathers)
-      → LeadsIn tree (kept_at known.pairs stops known.under) (listed_by known) → e.tree ≡ tree → e.level < 8 → old_walk known stops (side_of image old) e ≡ Ok read → length read.blocks ≡ length (pairs_at pairs read.blocks)
+      → LeadsIn tree (kept_at known.pairs stops known.under) (listed_by known) → e.tree ≡ tree → e.level < 8
+      → (whole : List Seen) → skip_in (kept_at known.pairs stops known.under) (listed_by known) old.sup old.chunks e image ≡ Ok whole
+      → old_walk known stops (side_of image old) e ≡ Ok read → length read.blocks ≡ length (pairs_at pairs read.blocks)
       → old_visits known stops (side_of image old) e ≤ few_for (side_of image old) (pairs_at pairs read.blocks)
   unfolding old_walk
-  old_few tree stops e read leads of low is all =
+  old_few tree stops e read leads of low whole fine is all =
       let was = side_of image old in
       let kept = kept_at known.pairs stops known.under in
-      let s = step_ok (skip_in kept (listed_by known) old.sup old.chunks e image) (λ records. fine_step (gathered records)) read is in
-      let blocks : blocks_seen s.0 ≡ read.blocks = ap (λ (g : Gathers). g.blocks) (same_ok (gathered s.0) read s.2) in
-      let few = few_seen tree kept known.under was e s.0 leads of low s.1 in
-      joins (old_visits known stops was e) (entries_all stored (blocks_seen s.0)) (entries_of was (pairs_at pairs read.blocks))
-      (7 * length (blocks_seen s.0)) (7 * length (pairs_at pairs read.blocks)) few
+      let first = skip_firsts kept (listed_by known) old.sup old.chunks e image whole fine in
+      let blocks : blocks_seen whole ≡ read.blocks =
+      ap (λ (g : Gathers). g.blocks)
+      (same_ok (gathered whole) read (sym (ap (λ (step : Records). and_then step (λ records. fine_step (gathered records))) first) ∙ is)) in
+      let few = subst (λ n. n ≤ 1 + entries_all stored (blocks_seen whole) + 7 * length (blocks_seen whole))
+      (sym (visits_firsts kept (listed_by known) old.sup old.chunks e image whole fine)) (few_seen tree kept known.under was e whole leads of low fine) in
+      joins (old_visits known stops was e) (entries_all stored (blocks_seen whole)) (entries_of was (pairs_at pairs read.blocks))
+      (7 * length (blocks_seen whole)) (7 * length (pairs_at pairs read.blocks)) few
       (ap (entries_all stored) blocks ∙ entries_pairs was pairs pair_at read.blocks all)
       (ap (λ n. 7 * n) (ap length blocks ∙ all))
     where

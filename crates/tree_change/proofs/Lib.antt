@@ -1,4 +1,5 @@
 pub mod Gathering
+pub mod FirstCopies
 pub mod Telling
 pub mod Looking
 pub mod Ended
@@ -62,6 +63,7 @@ pub mod Entries
 pub mod MetVisits
 pub mod SomeRead
 pub mod OfTree
+pub mod WholeOld
 pub mod FewLooks
 pub mod TouchedRoot
 pub mod LedTree

@@ -32,6 +32,7 @@ use Rattle.shared_trees.specs.Stops.{is_stop}
 use Rattle.shared_trees.specs.Visits.{LooksFew, visits_in}
 use Rattle.shared_trees.specs.declared.keeps.Met.{Met}
 use Rattle.tree_change.specs.AllTrees.{has_id, named_at, root_named}
+use Rattle.tree_change.specs.Firsts.{first_copies}
 use Rattle.tree_change.specs.Gathered.{Gathers, blocks_seen}
 use Rattle.tree_change.specs.Looks.{LooksAtMost, gone_all_looks, gone_all_looks_in, gone_looks, gone_looks_in, is_expected, looks_in, met_by, named_looks, named_looks_in, new_visits, old_visits, old_visits_or, read_count, same_bound, stays_by, tree_looks}
 use Rattle.tree_change.specs.Making.{is_side, was_side}
@@ -52,13 +53,14 @@ visits_same pairs test stops under anew sup chunks e image same =
 
 -- so many looks at most are those of the walk that stops there
 pub old_few : (told : Option (List ℕ)) (pending : FinMap nat_cmp ℕ) (known : Known) (test : ℕ → Bool) (stops : List Expect) (sup : Super)
-    (chunks : List Chunk) (e : Expect) (before after : ℕ) → ((address : ℕ) → test address ≡ is_stop stops address)
-    → LooksFew told pending before after (λ image. visits_in (kept_among known.pairs test known.under) (listed_by known) sup chunks e image)
+    (chunks some : List Chunk) (e : Expect) (before after : ℕ) → some ≡ first_copies chunks → ((address : ℕ) → test address ≡ is_stop stops address)
+    → LooksFew told pending before after (λ image. visits_in (kept_among known.pairs test known.under) (listed_by known) sup some e image)
     → LooksFew told pending before after (λ image. old_visits known stops (record { sup = sup; chunks = chunks; image = image }) e)
-old_few None pending known test stops sup chunks e before after same few = tt
-old_few (Some image) pending known test stops sup chunks e before after same few =
+old_few None pending known test stops sup chunks some e before after once same few = tt
+old_few (Some image) pending known test stops sup chunks some e before after once same few =
     subst (λ n. after ≤ before + 3 * n)
-    (visits_same known.pairs test stops known.under (listed_by known) sup chunks e (overlaid pending 0 image) same) few
+    (visits_same known.pairs test stops known.under (listed_by known) sup some e (overlaid pending 0 image) same
+    ∙ ap (λ cs. visits_in (kept_at known.pairs stops known.under) (listed_by known) sup cs e (overlaid pending 0 image)) once) few
 
 -- no look, where no block is come to
 pub few_none : (told : Option (List ℕ)) (pending : FinMap nat_cmp ℕ) (looks : ℕ) → LooksFew told pending looks looks (λ image. 0)

@@ -1,5 +1,5 @@
 -- What changes in a tree where nothing is known of it as it was: the whole of it.
-use Rattle.std.proofs.Common.{◌≡◌, ℕ, ◌+◌, Bool, true, false, not, ◌&&◌, List, [], ◌⊎◌, inl, inr, length, refl, ap, sym, subst, ◌∙◌}
+use Rattle.std.proofs.Common.{◌≡◌, ℕ, ◌+◌, ◌*◌, Bool, true, false, not, ◌&&◌, List, [], ◌⊎◌, inl, inr, length, refl, ap, sym, subst, ◌∙◌}
 use Rattle.std.proofs.lemmas.List.Sorted.{IsPermutation-refl}
 use Rattle.std.specs.Prelude.{Option, Some, None, Result, Ok, Err, map}
 use Rattle.std.specs.List.{filter}
@@ -148,7 +148,7 @@ module _ (image : List ℕ) (pending : FinMap nat_cmp ℕ) (old : Walked) (trees
         of = λ shared free. record { blocks = refl; count = refl; items = refl };
       }
   old_is now (Some e) stops was all at =
-      let given = old_given known stops image old (stopped stops) e all at in
+      let given = old_given known stops image old (stopped stops) e (stands e was.1).each.fine all at in
       record {
         olds = given.0;
         records = given.1;
@@ -187,8 +187,8 @@ module _ (image : List ℕ) (pending : FinMap nat_cmp ℕ) (old : Walked) (trees
         old_items = was.items ∙ ap (λ lives. items_in lives o.olds) (sym old_blocks);
         new_items = came.items ∙ ap (λ lives. items_in lives n.news) (sym new_blocks);
         count =
-            ap (λ k. k + length (blocks_seen n.news)) (sym (count_seen o.olds) ∙ (was.count ∙ ap length (sym old_blocks)))
-            ∙ ap (λ k. length (pairs_at pairs (blocks_seen o.olds)) + k) (sym (count_seen n.news) ∙ (came.count ∙ ap length (sym new_blocks)));
+            ap (λ k. k + 2 * length (blocks_seen n.news)) (sym (count_seen o.olds) ∙ (was.count ∙ ap length (sym old_blocks)))
+            ∙ ap (λ k. length (pairs_at pairs (blocks_seen o.olds)) + 2 * k) (sym (count_seen n.news) ∙ (came.count ∙ ap length (sym new_blocks)));
         chunks = λ tree. in_order begins_before (chunks_left (chunks_seen o.olds) (items o.olds) (items n.news)) (chunks_seen n.news)
             (chunks_all o.olds n.news)
             (record { all = IsPermutation-refl (chunks_seen n.news); ascends = chunks_ascend shared f is.sup stored now n.news n.walk tree });

@@ -1,5 +1,5 @@
 -- The old trees of an image: their walks have no finding, and those that stop nowhere are whole walks.
-use Rattle.std.proofs.Common.{◌≡◌, ℕ, List, [], ◌∷◌, ◌⊎◌, inl, inr, refl, sym, subst, ◌∙◌}
+use Rattle.std.proofs.Common.{◌≡◌, ℕ, List, [], ◌∷◌, ◌⊎◌, inl, inr, refl, ap, sym, subst, ◌∙◌}
 use Rattle.std.specs.Prelude.{Result, Ok, Err}
 use Rattle.std.specs.List.{AllByRecursion}
 use Rattle.std.specs.Result.{IsOk}
@@ -17,11 +17,11 @@ use Rattle.shared_trees.specs.OldSide.{kept_at}
 use Rattle.shared_trees.specs.SharedLaw.{HasTrees}
 use Rattle.shared_trees.specs.TableLaw.{Tree}
 use Rattle.shared_trees.proofs.Forest.{tables_stand}
-use Rattle.shared_trees.proofs.Rooted.{step_ok}
 use Rattle.shared_trees.proofs.Treed.{trees_walk}
 use Rattle.tree_change.specs.Gathered.{Gathers, blocks_seen}
 use Rattle.tree_change.specs.OneTree.{IsAmong, old_tree, side_of}
 use Rattle.tree_change.specs.Walks.{Known, listed_by, old_walk}
+use Rattle.tree_change.proofs.FirstCopies.{skip_firsts}
 use Rattle.tree_change.proofs.Whole.{KeepsNone, skip_whole}
 
 -- what holds of each tree holds of one of them
@@ -51,9 +51,9 @@ ok_never value finding is = cc
 pub same_ok : {A : Type 0} (a b : A) → fine_step a ≡ fine_step b → a ≡ b
 same_ok a b is = cc
 
-never : (walk : Records) (finding : Finding) → IsOk walk → walk ≡ Err finding → ⊥
-never (Ok records) finding fine is = cc
-never (Err other) finding fine is = absurd (cc)
+pub fine_records : (walk : Records) → IsOk walk → (records : List Seen) × (walk ≡ Ok records)
+fine_records (Ok records) fine = (records, refl)
+fine_records (Err finding) fine = absurd (cc)
 
 -- what is gathered of records
 abbrev pub gathered : List Seen → Gathers
@@ -64,28 +64,25 @@ module _ (known : Known) (stops : List Expect) (image : List ℕ) (old : Walked)
   abbrev pub walk : Records
   walk = walk_of old.sup (old_tree image old e).0 e
 
-  old_skip : skip_in (kept_at known.pairs stops known.under) (listed_by known) old.sup old.chunks e image ≡ walk
+  pub old_skip : skip_in (kept_at known.pairs stops known.under) (listed_by known) old.sup old.chunks e image ≡ walk
   unfolding skip_in
   old_skip = skip_whole (kept_at known.pairs stops known.under) none old.sup (stored_in image old.chunks old.sup.nodesize) known.under e
 
-  -- the walk of an old tree that keeps nothing
-  pub old_given : (all : Gathers) → old_walk known stops (side_of image old) e ≡ Ok all
-      → (olds : List Seen) × (walk ≡ Ok olds) × (all ≡ gathered olds)
+  -- where the whole walk has these records, it gives them
+  old_gathers : (records : List Seen) → walk ≡ Ok records → old_walk known stops (side_of image old) e ≡ fine_step (gathered records)
   unfolding old_walk
-  old_given all is =
-      let s = step_ok (skip_in (kept_at known.pairs stops known.under) (listed_by known) old.sup old.chunks e image)
-      (λ records. fine_step (gathered records)) all is in
-      (s.0, sym old_skip ∙ s.1, sym (same_ok (gathered s.0) all s.2))
+  old_gathers records is =
+      ap (λ (step : Records). and_then step (λ some. fine_step (gathered some)))
+      (skip_firsts (kept_at known.pairs stops known.under) (listed_by known) old.sup old.chunks e image records (old_skip ∙ is))
+
+  -- the walk of an old tree that keeps nothing
+  pub old_given : IsOk walk → (all : Gathers) → old_walk known stops (side_of image old) e ≡ Ok all
+      → (olds : List Seen) × (walk ≡ Ok olds) × (all ≡ gathered olds)
+  old_given fine all is =
+      let whole = fine_records walk fine in
+      (whole.0, whole.1, sym (same_ok (gathered whole.0) all (sym (old_gathers whole.0 whole.1) ∙ is)))
 
   -- it has no finding
   pub old_fine : IsOk walk → (finding : Finding) → old_walk known stops (side_of image old) e ≡ Err finding → ⊥
-  unfolding old_walk
   old_fine fine finding is =
-      by (step_err (skip_in (kept_at known.pairs stops known.under) (listed_by known) old.sup old.chunks e image)
-      (λ records. fine_step (gathered records)) finding is)
-    where
-      by : (skip_in (kept_at known.pairs stops known.under) (listed_by known) old.sup old.chunks e image ≡ Err finding)
-          ⊎ ((records : List Seen) × (skip_in (kept_at known.pairs stops known.under) (listed_by known) old.sup old.chunks e image ≡ Ok records)
-          × (fine_step (gathered records) ≡ Err finding)) → ⊥
-      by (inl failed) = never walk finding fine (sym old_skip ∙ failed)
-      by (inr s) = ok_never (gathered s.0) finding s.2
+      let whole = fine_records walk fine in ok_never (gathered whole.0) finding (sym (old_gathers whole.0 whole.1) ∙ is)

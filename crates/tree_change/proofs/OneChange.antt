@@ -71,18 +71,18 @@ pub tree_told : {L : Type 0} (sides : Sides L) (told : Option (List ℕ)) (befor
     → IfSome told (λ image. new_walk (known_by sides.known) (is_side sides image) now ≡ Ok new)
     → IfSome told (λ image. old_or_none (known_by sides.known) new.met (side_with sides.was (overlaid sides.was.cache.now 0 image)) before ≡ Ok old)
     → IfSome told (λ _. middle ≤ first + 2 * length new.read.blocks)
-    → IfSome told (λ _. last ≤ middle + 2 * length old.blocks)
+    → IfSome told (λ _. last ≤ middle + length old.blocks)
     → old_start ≡ [] → old_blocks ≡ old_start ++ pairs_at (pairs_of sides.table.now) old.blocks
     → new_start ≡ [] → moved_start ≡ []
     → (new_blocks ≡ new_start ++ lives_of new.ended new.read.blocks) × (moved ≡ moved_start ++ moved_of (pairs_of sides.table.now) new.ended new.met)
     → IfSome told (λ image. (count : ℕ) × (parts_in sides before now image ≡ Ok (made_of old_blocks new_blocks moved old new.read count))
-    × (last ≤ first + 2 * count))
+    × (last ≤ first + count))
 tree_told sides None before now new old old_blocks old_start new_blocks new_start moved moved_start first middle last none new_is old_is few more a b c d e = tt
 tree_told sides (Some image) before now new old old_blocks old_start new_blocks new_start moved moved_start first middle last none new_is old_is few more a b c d e =
     let old_walk : old_or_none (known_by sides.known) new.met (was_side sides image) before ≡ Ok old =
     subst (λ side. old_or_none (known_by sides.known) new.met side before ≡ Ok old) (was_plain sides image none) old_is in
     let pairs = pairs_of sides.table.now in
-    let count = length old.blocks + length new.read.blocks in (
+    let count = length old.blocks + 2 * length new.read.blocks in (
       count,
       both_give pairs (known_by sides.known) (was_side sides image) (is_side sides image) before now new old new_is old_walk
           ∙ ap fine (sym (made_same old_blocks (pairs_at pairs old.blocks) new_blocks (lives_of new.ended new.read.blocks) moved

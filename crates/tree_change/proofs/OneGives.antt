@@ -1,6 +1,6 @@
 -- What changes in a tree, from what is known of its two walks.
-use Rattle.std.proofs.Common.{◌≡◌, ℕ, ◌+◌, true, not, List, [], ◌∷◌, length, suc, refl, ap, sym, subst, ◌∙◌}
-use Rattle.std.specs.Prelude.{Option, Result, Ok, Err, map}
+use Rattle.std.proofs.Common.{◌≡◌, ℕ, ◌+◌, ◌*◌, true, not, List, [], ◌∷◌, length, suc, refl, ap, sym, subst, ◌∙◌}
+use Rattle.std.specs.Prelude.{Option, Some, None, Result, Ok, Err, map}
 use Rattle.std.specs.List.{AllByRecursion, filter}
 use Rattle.std.specs.Ordering.{nat_cmp}
 use Rattle.std.specs.FinMap.{FinMap}
@@ -17,6 +17,7 @@ use Rattle.records.specs.WalkLaw.{visited}
 use Rattle.shared_trees.specs.Ending.{ends_in, ends_of}
 use Rattle.shared_trees.specs.Keeping.{live_at}
 use Rattle.shared_trees.specs.KeepingWalk.{skip_in}
+use Rattle.shared_trees.specs.OldSide.{kept_at}
 use Rattle.shared_trees.specs.LivePairs.{Walked, live_in}
 use Rattle.shared_trees.specs.Meeting.{met_in, met_of}
 use Rattle.shared_trees.specs.MergedLaw.{IsInOrder, begins_before, chunks_seen, items, roots_seen}
@@ -59,6 +60,12 @@ module _ (image : List ℕ) (pending : FinMap nat_cmp ℕ) (old : Walked) (pairs
     ended = (ends_of (kept_by known) (listed_by known) (lasts_by known) is.sup stored now).blocks;
   }
 
+  -- The walk of the tree as it was, if it was, has these records, also where both copies of its blocks are read.
+  abbrev pub WalksWhole : List Expect → Option Expect → List Seen → Type 0
+  WalksWhole stops None records = Unit {0}
+  WalksWhole stops (Some e) records =
+      skip_in (kept_at known.pairs stops known.under) (listed_by known) old.sup old.chunks e image ≡ Ok records
+
   -- What is known of the two walks of a tree, where the whole new one has these records.
   pub record AreBoth (news : List Seen) : Type 0 where
     pub new : IsNew pairs (kept_by known) (listed_by known) (lasts_by known) (shares image pending old is news) is.sup stored now news
@@ -66,6 +73,7 @@ module _ (image : List ℕ) (pending : FinMap nat_cmp ℕ) (old : Walked) (pairs
     pub gone : List Seen
     pub has : HasRecords image old before olds
     pub old_is : old_or_none known (stops_of (kept_by known) (listed_by known) is.sup stored now) (side_of image old) before ≡ Ok (gathered gone)
+    pub whole_is : WalksWhole (stops_of (kept_by known) (listed_by known) is.sup stored now) before gone
     pub old_pairs : AreOfPairs pairs (filter (λ live. not (shares image pending old is news live)) (live_in olds)) olds gone
     pub shifts : AllByRecursion (λ v. shares image pending old is news (live_at is.sup stored v) ≡ true
         → is_shifted (live_in olds) (live_at is.sup stored v) ≡ is_other_than (pairs v.tree v.address) (live_at is.sup stored v))
@@ -112,8 +120,8 @@ module _ (image : List ℕ) (pending : FinMap nat_cmp ℕ) (old : Walked) (pairs
             ∙ shifted_kept pairs (kept_by known) shared is.sup stored now (live_in both.olds) news new.is new.keeps both.shifts;
         old_items = both.old_pairs.items ∙ ap (λ lives. items_in lives both.olds) (sym old_are);
         new_items = here.items ∙ ap (λ lives. items_in lives news) (sym new_are);
-        count = ap (λ n. n + length (blocks_seen come)) (count_seen both.gone ∙ (both.old_pairs.count ∙ sym (ap length old_are)))
-            ∙ ap (λ n. length parts.old_blocks + n) (count_seen come ∙ (here.count ∙ sym (ap length new_are)));
+        count = ap (λ n. n + 2 * length (blocks_seen come)) (count_seen both.gone ∙ (both.old_pairs.count ∙ sym (ap length old_are)))
+            ∙ ap (λ n. length parts.old_blocks + 2 * n) (count_seen come ∙ (here.count ∙ sym (ap length new_are)));
         chunks = both.chunks come come_is;
         roots = both.roots come come_is;
       }

@@ -55,6 +55,7 @@ use Rattle.shared_trees.proofs.Sifting.{nil}
 use Rattle.tree_change.specs.Gathered.{blocks_seen}
 use Rattle.tree_change.specs.OneTree.{GivesTree, IsAmong, alone, old_tree, shares}
 use Rattle.tree_change.specs.Walks.{Known, Side, lasts_by, old_walk}
+use Rattle.tree_change.proofs.FirstCopies.{skip_firsts}
 use Rattle.tree_change.proofs.OneGives.{AreBoth, gives_tree}
 use Rattle.tree_change.proofs.OneKept.{was_kept}
 use Rattle.tree_change.proofs.OneNew.{IsKeptBlock, IsNew}
@@ -283,7 +284,10 @@ module _ (image : List ℕ) (pending : FinMap nat_cmp ℕ) (old : Walked) (trees
             olds = olds.0;
             gone = gone.0;
             has = olds.1;
-            old_is = ap (λ walk. and_then walk (λ records. Ok (record { blocks = blocks_seen records; items = items records }))) (old_gives ∙ gone.1);
+            old_is = ap (λ walk. and_then walk (λ records. Ok (record { blocks = blocks_seen records; items = items records })))
+                (skip_firsts (kept_at table (stops_of K (anew_of under) is.sup stored now) under) (anew_of under) old.sup old.chunks before image gone.0
+                (old_gives ∙ gone.1));
+            whole_is = old_gives ∙ gone.1;
             old_pairs = unshared_are pairs shared W old.sup was before olds.0 gone.0 pairs_stand
                 (kept_where_just shared old.sup was before o.stands.each.fine) olds.1 gone.1;
             shifts = each_map (λ v. v.tree ≡ now.tree) (λ v. shared (live_at is.sup stored v) ≡ true

@@ -26,6 +26,7 @@ use Rattle.shared_trees.specs.TableLaw.{Tree}
 use Rattle.shared_trees.specs.declared.starts.Start.{Start}
 use Rattle.shared_trees.proofs.Climbing.{some_live}
 use Rattle.shared_trees.proofs.Rooted.{step_ok}
+use Rattle.tree_change.specs.Firsts.{first_copies}
 use Rattle.tree_change.specs.Gathered.{Gathers}
 use Rattle.tree_change.specs.Looks.{met_by}
 use Rattle.tree_change.specs.LooksLaw.{IsRootTouched}
@@ -110,8 +111,8 @@ pub old_read : (tree : ℕ) (known : Known) (stops : List Expect) (was : Side) (
 unfolding old_walk skip_in
 old_read tree known stops was e read leads of none given =
     let kept = kept_at known.pairs stops known.under in
-    let stored = stored_in was.image was.chunks was.sup.nodesize in
-    let s = step_ok (skip_in kept (listed_by known) was.sup was.chunks e was.image) (λ records. fine_step (gathered records)) read given in
+    let stored = stored_in was.image (first_copies was.chunks) was.sup.nodesize in
+    let s = step_ok (skip_in kept (listed_by known) was.sup (first_copies was.chunks) e was.image) (λ records. fine_step (gathered records)) read given in
     subst (λ (g : Gathers). 1 ≤ length g.blocks) (same_ok (gathered s.0) read s.2)
     (read_in tree kept known.under was.sup stored e s.0 leads of (inl none) s.1)
 

@@ -116,6 +116,7 @@ module _ (image : List ℕ) (pending : FinMap nat_cmp ℕ) (old : Walked) (trees
         gone = [];
         has = refl;
         old_is = refl;
+        whole_is = tt;
         old_pairs = record { blocks = refl; count = refl; items = refl };
         shifts = each_map (λ v. shared (live_at is.sup stored v) ≡ false)
             (λ v. shared (live_at is.sup stored v) ≡ true

@@ -1,5 +1,5 @@
 -- What changes in all trees is what changes in each, one tree after the other.
-use Rattle.std.proofs.Common.{◌≡◌, ℕ, ◌+◌, ◌==◌, Bool, true, false, not, ◌&&◌, List, [], ◌∷◌, ◌++◌, length, length-append, refl, ap, sym, ◌∙◌}
+use Rattle.std.proofs.Common.{◌≡◌, ℕ, ◌+◌, ◌*◌, ◌==◌, Bool, true, false, not, ◌&&◌, List, [], ◌∷◌, ◌++◌, length, length-append, refl, ap, sym, ◌∙◌}
 use Rattle.std.proofs.Common.{arith}
 use Rattle.std.proofs.lemmas.Bool.{eqb-true}
 use Rattle.std.proofs.lemmas.Bool.Decides.{nat_tests}
@@ -47,7 +47,7 @@ pub record IsPiece (all : Parts) (id : ℕ) (parts : Parts) : Type 0 where
   pub moved : parts.moved ≡ of_id live_id id all.moved
   pub old_items : parts.old_items ≡ of_id item_id id all.old_items
   pub new_items : parts.new_items ≡ of_id item_id id all.new_items
-  pub count : parts.count ≡ length parts.old_blocks + length parts.new_blocks
+  pub count : parts.count ≡ length parts.old_blocks + 2 * length parts.new_blocks
 
 -- and those of some ids
 pub record ArePieces (all : Parts) (ids : List ℕ) (parts : Parts) : Type 0 where
@@ -56,7 +56,7 @@ pub record ArePieces (all : Parts) (ids : List ℕ) (parts : Parts) : Type 0 whe
   pub moved : parts.moved ≡ of_ids live_id ids all.moved
   pub old_items : parts.old_items ≡ of_ids item_id ids all.old_items
   pub new_items : parts.new_items ≡ of_ids item_id ids all.new_items
-  pub count : parts.count ≡ length parts.old_blocks + length parts.new_blocks
+  pub count : parts.count ≡ length parts.old_blocks + 2 * length parts.new_blocks
 
 pub pieces_none : (all : Parts) → ArePieces all [] no_parts
 pieces_none all = record { old_blocks = refl; new_blocks = refl; moved = refl; old_items = refl; new_items = refl; count = refl }
@@ -69,7 +69,8 @@ append_append : {A : Type 0} (a b c : List A) → (a ++ b) ++ c ≡ a ++ (b ++ c
 append_append [] b c = refl
 append_append (x ∷ a) b c = ap (λ more. x ∷ more) (append_append a b c)
 
-counts : (n m : ℕ) (a b c d : List Live) → n ≡ length a + length b → m ≡ length c + length d → n + m ≡ length (a ++ c) + length (b ++ d)
+counts : (n m : ℕ) (a b c d : List Live) → n ≡ length a + 2 * length b → m ≡ length c + 2 * length d
+    → n + m ≡ length (a ++ c) + 2 * length (b ++ d)
 counts n m a b c d x y = let u = length-append a c in let v = length-append b d in omega (arith, x, y, u, v)
 
 pub pieces_with : (all : Parts) (id : ℕ) (ids : List ℕ) (p q : Parts) → IsPiece all id p → ArePieces all ids q

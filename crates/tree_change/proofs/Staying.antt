@@ -28,6 +28,7 @@ use Rattle.shared_trees.specs.OldSide.{kept_at}
 use Rattle.shared_trees.specs.Skips.{Anew, Kept, is_below, next_of, nothing, skip_below, skip_of, skip_or}
 use Rattle.shared_trees.specs.TableLaw.{Tree}
 use Rattle.shared_trees.specs.declared.keeps.Ended.{Ended}
+use Rattle.tree_change.specs.Firsts.{first_copies}
 use Rattle.tree_change.specs.AllTrees.{has_id, named_at, no_parts, root_named}
 use Rattle.tree_change.specs.Making.{is_side, named_parts_in, parts_in, was_side}
 use Rattle.tree_change.specs.Merging.{root_at}
@@ -151,7 +152,7 @@ module _ (known : Known) (e : Expect) (live : Live) (low : e.low ≡ None) (high
   old_alone : (was : Side) → old_walk known (e ∷ []) was e ≡ Ok no_tree
   unfolding old_walk skip_in
   old_alone was =
-      let stored = stored_in was.image was.chunks was.sup.nodesize in
+      let stored = stored_in was.image (first_copies was.chunks) was.sup.nodesize in
       let reads = skip_none (kept_at known.pairs (e ∷ []) known.under) (listed_by known) was.sup stored e live.last root_stops none_below high in
       λ i. and_then (reads i) (λ records. fine_step (gathered records))
 

@@ -1,5 +1,5 @@
 -- What changes in the chunk tree and in the root tree, where the disk tells its bytes.
-use Rattle.std.proofs.Common.{◌≡◌, ℕ, ◌+◌, ◌*◌, ◌^◌, ◌<◌, ◌≤◌, ◌⊎◌, inr, List, map, ap, sym, ◌∙◌, Ok, Err}
+use Rattle.std.proofs.Common.{◌≡◌, ℕ, ◌+◌, ◌^◌, ◌<◌, ◌≤◌, ◌⊎◌, inr, List, map, ap, sym, ◌∙◌, Ok, Err}
 use Rattle.std.specs.Prelude.{Option, Some, None, IfSome}
 use Rattle.std.specs.List.{AllByRecursion}
 use Rattle.verdict.specs.declared.finding.Finding.{Finding}
@@ -21,7 +21,7 @@ module _ {L : Type 0} (sides : Sides L) where
   -- what changes in a tree is made, at so many reads
   abbrev pub IsMade : Expect → Expect → TreeParts → ℕ → ℕ → List ℕ → Type 0
   IsMade before now made first last image =
-      (count : ℕ) × (parts_in sides (Some before) now image ≡ Ok (parts_by made count)) × (last ≤ first + 2 * count)
+      (count : ℕ) × (parts_in sides (Some before) now image ≡ Ok (parts_by made count)) × (last ≤ first + count)
 
   -- the new chunks are merged of these
   abbrev pub IsMerged : TreeParts → List Chunk → Type 0

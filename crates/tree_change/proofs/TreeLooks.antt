@@ -39,12 +39,13 @@ use Rattle.tree_change.proofs.EachTree.{one_tree}
 use Rattle.tree_change.proofs.FewLooks.{entries_all, entries_lives, few_seen, old_few}
 use Rattle.tree_change.proofs.LedTree.{AreLed, led as led_tree}
 use Rattle.tree_change.proofs.MetVisits.{few_met, met_rest}
-use Rattle.tree_change.proofs.Olds.{among, fine_step, gathered, old_given, old_stands, same_ok}
+use Rattle.tree_change.proofs.Olds.{among, fine_records, fine_step, gathered, old_given, old_skip, old_stands, same_ok}
 use Rattle.tree_change.proofs.OneRead.{old_read, one_read}
 use Rattle.tree_change.proofs.OfTree.{LeadsIn, read_in}
 use Rattle.tree_change.proofs.TouchedRoot.{root_led}
 use Rattle.tree_change.proofs.Vanished.{blocks_count, pairs_seen}
 use Rattle.tree_change.proofs.Whole.{none_stopped, unkept_whole}
+use Rattle.tree_change.proofs.WholeOld.{walks_whole}
 
 -- what the new walk gives, of which these are the records
 module _ (known : Known) (is : Side) (now : Expect) where
@@ -112,17 +113,21 @@ module _ (image : List ℕ) (pending : FinMap nat_cmp ℕ) (old : Walked) (trees
       joins (length read.blocks) (length (pairs_at pairs read.blocks)) (length new.read.blocks) (length (lives_of new.ended new.read.blocks))
       parts.4.count (length-map new.read.blocks (λ (block : BlockAt). live_with block (last_at new.ended block.address)))
     where
-      joins : (o p n m : ℕ) → o + n ≡ p + m → m ≡ n → o ≡ p
+      joins : (o p n m : ℕ) → o + 2 * n ≡ p + 2 * m → m ≡ n → o ≡ p
       joins o p n m count same = omega arith
 
   -- the old walk comes to few blocks
-  few_old : (e : Option Expect) (read : Gathers) → IsOldOf image old trees now e → IfSome e (λ e. e.level < 8) → old_or_none known (met_by known is now) was e ≡ Ok read
+  few_old : (parts : Parts) → tree_parts pairs known was is before now ≡ Ok parts → (e : Option Expect) (read : Gathers) → before ≡ e
+      → IsOldOf image old trees now e → IfSome e (λ e. e.level < 8) → old_or_none known (met_by known is now) was e ≡ Ok read
       → length read.blocks ≡ length (pairs_at pairs read.blocks)
       → IfSome e (λ e. old_visits known (met_by known is now) was e ≤ few_for was (pairs_at pairs read.blocks))
-  few_old None read was_of low given all = tt
-  few_old (Some e) read was_of low given all =
+  unfolding walk_in
+  few_old parts made None read here was_of low given all = tt
+  few_old parts made (Some e) read here was_of low given all =
+      let news = (one_tree image pending old trees pairs is known before now t).parts parts made in
+      let whole = walks_whole image pending old trees pairs is known before now t e here news.1 news.3 in
       old_few image old pairs known t.pairs_are now.tree (met_by known is now) e read (led.old (met_by known is now) (rest known is now)) was_of.0 low
-      given all
+      whole.0 whole.1 given all
 
   -- the new walk reads a block where the root is touched
   some_new : (records : List Seen) (parts : Parts) → tree_parts pairs known was is before now ≡ Ok parts
@@ -170,7 +175,7 @@ module _ (image : List ℕ) (pending : FinMap nat_cmp ℕ) (old : Walked) (trees
           length-map (blocks_seen records) (λ (block : BlockAt). live_with block (last_at (new_of known is now records).ended block.address)) in
           subst (ComesToFew image old pairs is known before now) made (record {
             new_few = new_few known is now records led low skips;
-            old_few = few_old before read t.was low_old same count;
+            old_few = few_old parts given before read refl t.was low_old same count;
             met_few = met_few known is now;
             as_many = λ other other_is. ap (λ (g : Gathers). length g.blocks) (same_ok other read (sym other_is ∙ same)) ∙ count;
             reads_some = λ touched. subst (λ n. 1 ≤ n) (sym length_new) (some_new records parts given skips touched);
@@ -212,7 +217,7 @@ module _ (image : List ℕ) (old : Walked) (trees : List Tree) (pairs : Pairs) (
 
   pub read_gone : (read : Gathers) → old_walk known [] (side_of image old) e ≡ Ok read → length read.blocks ≡ length (pairs_at pairs read.blocks)
   read_gone read given =
-      let olds = old_given known [] image old (none_stopped known.pairs known.under) e read given in
+      let olds = old_given known [] image old (none_stopped known.pairs known.under) e stands_old.each.fine read given in
       subst (λ (g : Gathers). length g.blocks ≡ length (pairs_at pairs g.blocks)) (sym olds.2) (count_gone olds.0 olds.1)
 
 -- it keeps no block
@@ -230,8 +235,10 @@ gone_looks image old trees pairs known before parts has pairs_are is low given =
     (old_stands image old trees has) in
     let a = step_ok (old_walk known [] was before) (λ old. fine_step (parts_of pairs no_walk old)) parts given in
     let count = read_gone image old trees pairs known before pairs_are stands a.0 a.1 in
+    let whole = fine_records (walk_of old.sup (old_tree image old before).0 before) stands.each.fine in
     subst (GoesByFew image old known before) (same_ok (parts_of pairs no_walk a.0) parts a.2) (record {
-      old_few = old_few image old pairs known pairs_are before.tree [] before a.0 (none_lead known before.tree) refl low a.1 count;
+      old_few = old_few image old pairs known pairs_are before.tree [] before a.0 (none_lead known before.tree) refl low whole.0
+          (old_skip known [] image old (none_stopped known.pairs known.under) before ∙ whole.1) a.1 count;
       as_many = λ other other_is. ap (λ (g : Gathers). length g.blocks) (same_ok other a.0 (sym other_is ∙ a.1)) ∙ count;
       reads_some = subst (λ n. 1 ≤ n) count
           (old_read before.tree known [] was before a.0 (none_lead known before.tree) refl (none_stopped known.pairs known.under before) a.1);

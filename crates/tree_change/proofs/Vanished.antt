@@ -5,6 +5,7 @@ use Rattle.std.specs.Prelude.{Option, Some, None, is_some, Result, Ok}
 use Rattle.std.specs.List.{AllByRecursion, cons_option, filter, filter_map}
 use Rattle.std.specs.Ordering.{nat_cmp}
 use Rattle.std.specs.FinMap.{FinMap}
+use Rattle.verdict.specs.Rules.{and_then}
 use Rattle.verdict.specs.declared.finding.Finding.{Finding}
 use Rattle.verdict.specs.declared.key.Key.{Key}
 use Rattle.super_reader.specs.declared.Super.{Super}
@@ -14,7 +15,7 @@ use Rattle.node_reader.specs.Stored.{Stored, stored_in}
 use Rattle.node_reader.specs.declared.expect.Expect.{Expect}
 use Rattle.records.specs.Seen.{Seen}
 use Rattle.records.specs.Seen.Seen.{BlockSeen, ItemSeen, PointerSeen}
-use Rattle.records.specs.Walk.{walk_of}
+use Rattle.records.specs.Walk.{Records, walk_of}
 use Rattle.records.specs.WalkLaw.{visited}
 use Rattle.touched_pairs.specs.Touched.{written_in}
 use Rattle.shared_trees.specs.Keeping.{Comes, Stands, Under, anew_of, starts_of}
@@ -36,6 +37,8 @@ use Rattle.shared_trees.proofs.Skipping.{skips}
 use Rattle.tree_change.specs.Gathered.{Gathers, blocks_seen}
 use Rattle.tree_change.specs.OneTree.{IsAmong, old_tree, side_of}
 use Rattle.tree_change.specs.Walks.{Known, Parts, gone_parts, listed_by, no_walk, old_walk, pairs_at, parts_of}
+use Rattle.tree_change.proofs.FirstCopies.{skip_firsts}
+use Rattle.tree_change.proofs.OneSupers.{unkept_fine}
 use Rattle.tree_change.proofs.Piece.{IsPiece, changed, item_id, items_of_id, live_id}
 use Rattle.tree_change.proofs.Split.{IsOf, items_filter, none_of, of_trees, stands_in}
 use Rattle.tree_change.proofs.Unordered.{filter_swap, of_id}
@@ -150,14 +153,16 @@ module _ (image : List ℕ) (pending : FinMap nat_cmp ℕ) (old new : Walked) (t
       let whole = among (λ t. (r : List Seen) × (walk_of old.sup t.0 t.1 ≡ Ok r) × IsOf t.1.tree r old.seen) (old_tree image old e) trees is
       (of_trees old.sup trees old.seen apart walk) in
       let made = step_ok (old_walk known [] (side_of image old) e) (λ g. Ok (parts_of pairs no_walk g)) parts gives in
-      let read = step_ok (skip_of kept nothing (listed_by known) old.sup stored e)
-      (λ records. Ok (record { blocks = blocks_seen records; items = items records })) made.0 made.1 in
-      let left : unkept kept nothing old.sup stored e ≡ Ok read.0 =
-      sym (skips kept nothing (listed_by known) old.sup stored e (none_sound e.tree known.pairs known.under old.sup stored)) ∙ read.1 in
+      let left = unkept_fine kept old.sup stored e whole.0 whole.1 in
+      let read : skip_of kept nothing (listed_by known) old.sup stored e ≡ Ok left.0 =
+      skips kept nothing (listed_by known) old.sup stored e (none_sound e.tree known.pairs known.under old.sup stored) ∙ left.1 in
+      let first : old_walk known [] (side_of image old) e ≡ ok_one (record { blocks = blocks_seen left.0; items = items left.0 }) =
+      ap (λ (step : Records). and_then step (λ records. ok_one (record { blocks = blocks_seen records; items = items records })))
+      (skip_firsts kept (listed_by known) old.sup old.chunks e image left.0 read) in
       subst (IsPiece (changed old new (written_in pending) (length image)) e.tree) (ok_parts (parts_of pairs no_walk made.0) parts made.2)
       (subst (λ g. IsPiece (changed old new (written_in pending) (length image)) e.tree (parts_of pairs no_walk g))
-      (ok_gathers (record { blocks = blocks_seen read.0; items = items read.0 }) made.0 read.2)
-      (gone_are e read.0 whole.0 is none whole.1 whole.2 left))
+      (ok_gathers (record { blocks = blocks_seen left.0; items = items left.0 }) made.0 (sym first ∙ made.1))
+      (gone_are e left.0 whole.0 is none whole.1 whole.2 left.1))
     where
       ok_parts : (a b : Parts) → ok_one a ≡ Ok b → a ≡ b
       ok_parts a b is = cc

@@ -1,5 +1,5 @@
 -- What changes where a tree is gone, of the walk of the tree as it was.
-use Rattle.std.proofs.Common.{◌≡◌, ℕ, ◌+◌, ◌*◌, ◌≤◌, List, [], ◌++◌, length, map, Option, Some, None, Ok, Err, ap, sym, ◌∙◌, subst, arith}
+use Rattle.std.proofs.Common.{◌≡◌, ℕ, ◌+◌, ◌≤◌, List, [], ◌++◌, length, map, Option, Some, None, Ok, Err, ap, sym, ◌∙◌, subst, arith}
 use Rattle.std.specs.Prelude.{IfSome, Result}
 use Rattle.std.specs.FinMap.{empty}
 use Rattle.verdict.specs.Rules.{and_then}
@@ -44,10 +44,10 @@ made_gone sides made read start none blocks no_blocks no_moved items no_items =
 pub gone_ok : {L : Type 0} (told : Option (List ℕ)) (sides : Sides L) (e : Expect) (made : TreeParts) (read : Gathered) (before after : ℕ)
     (start : List Live) → sides.was.cache.now ≡ empty
     → IfSome told (λ image. walk_of sides e (overlaid sides.was.cache.now 0 image) ≡ Ok (gathers read))
-    → IfSome told (λ _. after ≤ before + 2 * length read.blocks.items) → start ≡ []
+    → IfSome told (λ _. after ≤ before + length read.blocks.items) → start ≡ []
     → made.old_blocks.items ≡ start ++ pairs_at (pairs_of sides.table.now) read.blocks.items → made.new_blocks.items ≡ [] → made.moved.items ≡ []
     → made.old_items.items ≡ read.items.items → made.new_items.items ≡ []
-    → IfSome told (λ image. (count : ℕ) × (gone_in sides e image ≡ Ok (parts_by made count)) × (after ≤ before + 2 * count))
+    → IfSome told (λ image. (count : ℕ) × (gone_in sides e image ≡ Ok (parts_by made count)) × (after ≤ before + count))
 unfolding gone_parts
 gone_ok None sides e made read before after start none walks few no_start blocks no_blocks no_moved items no_items = tt
 gone_ok (Some image) sides e made read before after start none walks few no_start blocks no_blocks no_moved items no_items = (

@@ -1,5 +1,5 @@
 -- What changes in all trees of an image, from what changes in each.
-use Rattle.std.specs.Prelude.{ℕ, ◌≡◌, ◌==◌, ◌+◌, ◌⊎◌, Bool, true, List, [], ◌∷◌, ◌++◌, length, map, Option, Some, None, Result, Ok, Err, if◌then◌else◌}
+use Rattle.std.specs.Prelude.{ℕ, ◌≡◌, ◌==◌, ◌+◌, ◌*◌, ◌⊎◌, Bool, true, List, [], ◌∷◌, ◌++◌, length, map, Option, Some, None, Result, Ok, Err, if◌then◌else◌}
 use Rattle.std.specs.List.{AllByRecursion, list_any}
 use Rattle.std.specs.List.Sorted.{IsPermutation}
 use Rattle.std.specs.Ordering.{nat_cmp}
@@ -144,7 +144,7 @@ pub record AreAllParts (old new : Walked) (pending : FinMap nat_cmp ℕ) (end : 
       → IsInOrder item_before (items_in (unshared_in old new (written_in pending) end old) old.seen) sorted
   pub new_items : (sorted : List Located) → IsSortedOf item_before parts.new_items sorted
       → IsInOrder item_before (items_in (unshared_in old new (written_in pending) end new) new.seen) sorted
-  pub count : parts.count ≡ length parts.old_blocks + length parts.new_blocks
+  pub count : parts.count ≡ length parts.old_blocks + 2 * length parts.new_blocks
 
 -- so it is
 abbrev pub AllTreesLaw : Type 0

@@ -66,10 +66,10 @@ pub record BasesStand (image : List ℕ) (sup : Super) (chunks : List Chunk) (ro
   pub walks : walked image ≡ Ok trees
   pub pairs_are : (tree address : ℕ) → pairs tree address ≡ table_of (live_in trees.seen) tree address
 
--- what a change costs: at most two reads for each block that is not shared
+-- what a change costs: at most one read for each old block that is not shared, and two for each new one
 abbrev pub ReadsFew : ℕ → ℕ → Diff → Type 0
 ReadsFew before after (Found finding) = Unit {0}
-ReadsFew before after (Changed change) = after ≤ before + 2 * (length change.old_blocks.items + length change.new_blocks.items)
+ReadsFew before after (Changed change) = after ≤ before + length change.old_blocks.items + 2 * length change.new_blocks.items
 
 -- What the call promises that finds the difference: where the disk tells the bytes of an image for which the bases stand, and the fresh
 -- superblock is that of the judged image, its answer is the difference, at so few reads; and the disk's bytes stay.

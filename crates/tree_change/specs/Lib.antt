@@ -1,4 +1,5 @@
 pub mod Gathered
+pub mod Firsts
 pub mod Walks
 pub mod Merging
 pub mod OneTree

@@ -11,6 +11,7 @@ use Rattle.shared_trees.specs.Meeting.{met_in}
 use Rattle.shared_trees.specs.OldSide.{kept_at}
 use Rattle.shared_trees.specs.Visits.{visits_in}
 use Rattle.tree_change.specs.AllTrees.{has_id, named_at, root_named}
+use Rattle.tree_change.specs.Firsts.{first_copies}
 use Rattle.tree_change.specs.Gathered.{Gathers}
 use Rattle.tree_change.specs.Making.{MakesRoots, is_side, was_side}
 use Rattle.tree_change.specs.Told.{known_by}
@@ -27,7 +28,8 @@ new_visits known is e = visits_in (kept_by known) (listed_by known) is.sup is.ch
 
 -- how many the walk of a tree as it was comes to, which stops at these blocks; none where the tree was not
 abbrev pub old_visits : Known → List Expect → Side → Expect → ℕ
-old_visits known stops was e = visits_in (kept_at known.pairs stops known.under) (listed_by known) was.sup was.chunks e was.image
+old_visits known stops was e =
+    visits_in (kept_at known.pairs stops known.under) (listed_by known) was.sup (first_copies was.chunks) e was.image
 
 abbrev pub old_visits_or : Known → List Expect → Side → Option Expect → ℕ
 old_visits_or known stops was None = 0

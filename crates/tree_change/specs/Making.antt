@@ -1,5 +1,5 @@
 -- What changes in trees, as private functions make it.
-use Rattle.std.specs.Prelude.{ℕ, ◌≡◌, ◌≤◌, ◌<◌, ◌+◌, ◌*◌, ◌^◌, ◌⊎◌, true, List, map, Option, Some, None, Result, Ok, Err, IfSome}
+use Rattle.std.specs.Prelude.{ℕ, ◌≡◌, ◌≤◌, ◌<◌, ◌+◌, ◌^◌, ◌⊎◌, true, List, map, Option, Some, None, Result, Ok, Err, IfSome}
 use Rattle.std.specs.List.{AllByRecursion}
 use Rattle.std.specs.FinMap.{empty}
 use Rattle.verdict.specs.Trees.{is_node_size}
@@ -54,7 +54,7 @@ named_parts_in sides olds news image =
 abbrev pub gone_parts_in : {L : Type 0} → Sides L → List RootAt → List RootAt → List ℕ → Result Parts Finding
 gone_parts_in sides news olds image = gone_all (pairs_of sides.table.now) (known_by sides.known) (was_side sides image) news olds
 
--- what changes in trees, as it is made of this many blocks that were read
+-- what changes in trees, as it is made by so many reads at most
 abbrev pub parts_by : TreeParts → ℕ → Parts
 parts_by made count = record {
   old_blocks = made.old_blocks.items;
@@ -65,17 +65,17 @@ parts_by made count = record {
   count = count;
 }
 
--- Where the disk tells its bytes, a step makes these parts, at two reads at most for each block; or it has their finding.
+-- Where the disk tells its bytes, a step makes these parts, at so many reads at most; or it has their finding.
 abbrev pub TellsParts : {D : Type 0} → (disk : Ghosts D) → D → D → Result TreeParts Halt → (List ℕ → Result Parts Finding) → Type 0
 TellsParts disk old new (Err (Found finding)) parts = IfSome (disk.bytes old) (λ image. parts image ≡ Err finding)
 TellsParts disk old new (Err other) parts = Unit {0}
 TellsParts disk old new (Ok made) parts =
-    IfSome (disk.bytes old) (λ image. (count : ℕ) × (parts image ≡ Ok (parts_by made count)) × (disk.reads new ≤ disk.reads old + 2 * count))
+    IfSome (disk.bytes old) (λ image. (count : ℕ) × (parts image ≡ Ok (parts_by made count)) × (disk.reads new ≤ disk.reads old + count))
 
--- parts are put behind others, of this many blocks
+-- parts are put behind others, at as many reads at most as these take
 pub record IsAdded (some all : TreeParts) (more : Parts) (before after : ℕ) : Type 0 where
   pub behind : (count : ℕ) → parts_by all (count + more.count) ≡ with_parts (parts_by some count) more
-  pub reads : after ≤ before + 2 * more.count
+  pub reads : after ≤ before + more.count
 
 -- the same of a step that puts the parts behind others
 abbrev pub AddsParts : {D A : Type 0} → (disk : Ghosts D) → D → D → TreeParts → TreeParts → Result A Halt → (List ℕ → Result Parts Finding) → Type 0

@@ -1,5 +1,5 @@
 -- What changes in one tree, by the definitions: its pairs that are not shared or that are shifted, and the items of the first.
-use Rattle.std.specs.Prelude.{ℕ, ◌≡◌, ◌==◌, ◌+◌, ◌⊎◌, Bool, ◌&&◌, true, false, not, List, [], ◌∷◌, length, map, Option, Some, None, IfSome, Ok, Err}
+use Rattle.std.specs.Prelude.{ℕ, ◌≡◌, ◌==◌, ◌+◌, ◌*◌, ◌⊎◌, Bool, ◌&&◌, true, false, not, List, [], ◌∷◌, length, map, Option, Some, None, IfSome, Ok, Err}
 use Rattle.std.specs.List.{AllByRecursion, filter}
 use Rattle.std.specs.Ordering.{nat_cmp}
 use Rattle.std.specs.FinMap.{FinMap}
@@ -93,7 +93,7 @@ pub record ChangesTree (image : List ℕ) (pending : FinMap nat_cmp ℕ) (old : 
   pub moved : parts.moved ≡ filter (λ live. shares image pending old is news live && is_shifted (live_in olds) live) (live_in news)
   pub old_items : parts.old_items ≡ items_in parts.old_blocks olds
   pub new_items : parts.new_items ≡ items_in parts.new_blocks news
-  pub count : parts.count ≡ length parts.old_blocks + length parts.new_blocks
+  pub count : parts.count ≡ length parts.old_blocks + 2 * length parts.new_blocks
   pub chunks : now.tree ≡ 3 → IsInOrder begins_before (chunks_left (chunks_seen olds) parts.old_items parts.new_items) (chunks_seen news)
   pub roots : now.tree ≡ 1
       → IsInOrder named_before (roots_left (map root_at (roots_seen olds)) parts.old_items parts.new_items) (map root_at (roots_seen news))

@@ -1,5 +1,5 @@
 -- What the walks of one tree give: that of the tree as it is, and that of the tree as it was.
-use Rattle.std.specs.Prelude.{ℕ, ◌+◌, ◌==◌, ◌&&◌, Bool, List, [], length, map, Option, Some, None, Result, Ok, if◌then◌else◌}
+use Rattle.std.specs.Prelude.{ℕ, ◌+◌, ◌*◌, ◌==◌, ◌&&◌, Bool, List, [], length, map, Option, Some, None, Result, Ok, if◌then◌else◌}
 use Rattle.std.specs.List.{filter_map, fold}
 use Rattle.verdict.specs.OnDisk.{key_same}
 use Rattle.verdict.specs.Rules.{and_then, no_key}
@@ -22,6 +22,7 @@ use Rattle.shared_trees.specs.MergedLaw.{items}
 use Rattle.shared_trees.specs.OldSide.{kept_at}
 use Rattle.shared_trees.specs.Skips.{Anew, Kept}
 use Rattle.shared_trees.specs.declared.keeps.Ended.{Ended}
+use Rattle.tree_change.specs.Firsts.{first_copies}
 use Rattle.tree_change.specs.Gathered.{Gathers, blocks_seen}
 
 -- What is known of trees as they were: live pairs, the marks of those that writes touch and of all above them, which blocks stand elsewhere
@@ -65,10 +66,10 @@ new_walk known is e =
       ended = (ends_in (kept_by known) (listed_by known) (lasts_by known) is.sup is.chunks e is.image).blocks;
     }))
 
--- what the walk of a tree as it was gives, which stops at these blocks
+-- what the walk of a tree as it was gives, which stops at these blocks and reads the first copy of each other one
 unfoldable pub old_walk : Known → List Expect → Side → Expect → Result Gathers Finding
 old_walk known stops was e =
-    and_then (skip_in (kept_at known.pairs stops known.under) (listed_by known) was.sup was.chunks e was.image) (λ records.
+    and_then (skip_in (kept_at known.pairs stops known.under) (listed_by known) was.sup (first_copies was.chunks) e was.image) (λ records.
     Ok (record { blocks = blocks_seen records; items = items records }))
 
 -- nothing, of a tree that was not
@@ -129,7 +130,7 @@ moved_of pairs ended met = filter_map (λ (e : Expect). moved_pair (pairs e.tree
 abbrev pub pairs_at : Pairs → List BlockAt → List Live
 pairs_at pairs blocks = filter_map (λ (block : BlockAt). pairs block.tree block.address) blocks
 
--- what changes in trees, and how many blocks are read for it
+-- what changes in trees, and how many reads it takes at most: one for each block as it was, two for each as it is
 pub record Parts : Type 0 where
   pub old_blocks : List Live
   pub new_blocks : List Live
@@ -146,7 +147,7 @@ parts_of pairs new old = record {
   moved = moved_of pairs new.ended new.met;
   old_items = old.items;
   new_items = new.read.items;
-  count = length old.blocks + length new.read.blocks;
+  count = length old.blocks + 2 * length new.read.blocks;
 }
 
 -- the same, or the first finding: of a tree that is, and that was or was not

@@ -54,6 +54,7 @@ pub(crate) fn change_map<D: Disk, L>(
     let moves = Move::new(both.was.map, array, nodesize, end);
     let sides = Sides {
         was: both.was,
+        firsts: both.firsts,
         is,
         table: both.table,
         known: KnownTrees {
@@ -89,6 +90,7 @@ pub(crate) fn change_rest<D: Disk, L>(
     let moves = Move::new(both.was.map, map, nodesize, end);
     let sides = Sides {
         was: both.was,
+        firsts: both.firsts,
         is: BlockSource {
             cache: both.cache,
             map,

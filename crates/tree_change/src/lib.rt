@@ -6,6 +6,7 @@ mod change;
 mod compared;
 mod differ;
 mod distinct;
+mod firsts;
 mod gather;
 mod lasts;
 mod laws;

@@ -1,6 +1,7 @@
 //! Blocks of walks as live pairs.
 
 ghost use Rattle.std.specs.Prelude.{◌≡◌, ◌+◌, ◌≤◌, ◌++◌, true, length, OnOk, option_to_list};
+ghost use Rattle.std.specs.Option.{option_copied};
 ghost use Rattle.live_index.specs.Table.{pairs_of};
 ghost use Rattle.shared_trees.specs.Known.{AreMetBy, blocks_met};
 ghost use Rattle.shared_trees.specs.LivePairs.{first_or_greatest};
@@ -92,12 +93,12 @@ fn moved_of<L>(
     ensures none { is_asked ≡ true → steps.new ≡ steps.old }
 {
     let e = &one.expect;
-    let live = if is_asked {
-        one.live
-    } else {
-        table.get(e.tree, e.address, steps)
-    };
-    moved_pair(live, e.parent, lasts.of(e.address))
+    let last = lasts.of(e.address);
+    if is_asked {
+        return moved_pair(one.live.as_ref(), e.parent, last);
+    }
+    let live = table.get(e.tree, e.address, steps);
+    moved_pair(live.as_ref(), e.parent, last)
 }
 
 /// Puts the pairs of blocks behind others, as the table has them. Each block looks once into the table.
@@ -160,8 +161,8 @@ fn first_or_greatest(first: Option<Key>) -> Key
 }
 
 // A known pair with its node above and its greatest key now, where either is another.
-fn moved_pair(live: Option<Live>, parent: u64, last: Key) -> Option<Live>
-    ensures { result ≡ moved_pair live parent last }
+fn moved_pair(live: Option<&Live>, parent: u64, last: Key) -> Option<Live>
+    ensures { result ≡ moved_pair (option_copied live.entry) parent last }
 {
     let live = live?;
     if live.parent == parent && live.last == last {
@@ -170,6 +171,6 @@ fn moved_pair(live: Option<Live>, parent: u64, last: Key) -> Option<Live>
     Some(Live {
         parent,
         last,
-        ..live
+        ..*live
     })
 }

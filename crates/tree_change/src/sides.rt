@@ -1,9 +1,11 @@
 //! The two images that are compared, and what is known of the first.
 
 ghost use Rattle.std.specs.Prelude.{◌≡◌, true};
+ghost use Rattle.tree_change.specs.Firsts.{first_copies};
 
 use crate::walks::KnownTrees;
 use block_source::BlockSource;
+use chunk_map::ChunkMap;
 use live_index::LiveIndex;
 use super_reader::Super;
 use touched_pairs::Marks;
@@ -15,6 +17,8 @@ use write_cache::WriteCache;
 pub(crate) struct Compared<'a, L> {
     /// The image as it was, by its superblock and its chunks, without pending writes.
     pub(crate) was: BlockSource<'a>,
+    /// Its chunks, each with its first copy alone.
+    pub(crate) firsts: &'a ChunkMap,
     /// The pending writes.
     pub(crate) cache: &'a WriteCache,
     /// The superblock of the new image.
@@ -30,6 +34,7 @@ pub(crate) struct Compared<'a, L> {
     /// Of these the pairs that a write touches, and all above them.
     pub(crate) marks: &'a Marks,
     ghost same: { is_same ≡ true → kept.now ≡ table.now },
+    ghost once: { firsts.now ≡ first_copies was.map.now },
 }
 
 /// An image and the image that pending writes make of it, by the chunks of each, and what is known of the first.
@@ -37,6 +42,8 @@ pub(crate) struct Compared<'a, L> {
 pub(crate) struct Sides<'a, L> {
     /// The image as it was.
     pub(crate) was: BlockSource<'a>,
+    /// Its chunks, each with its first copy alone.
+    pub(crate) firsts: &'a ChunkMap,
     /// The image as it is, with the pending writes.
     pub(crate) is: BlockSource<'a>,
     /// Its live pairs as it was.
@@ -46,4 +53,5 @@ pub(crate) struct Sides<'a, L> {
     /// Whether that is of the same table.
     pub(crate) is_same: bool,
     ghost same: { is_same ≡ true → known.table.now ≡ table.now },
+    ghost once: { firsts.now ≡ first_copies was.map.now },
 }

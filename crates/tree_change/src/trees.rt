@@ -105,7 +105,7 @@ fn walk_before<D: Disk, L>(
         (λ image. old_or_none (known_by (sides.now).known) (blocks_met met.now)
         (side_with (sides.now).was image) before) }
     ensures reads { IfOk result (λ read. IfSome (D.bytes disk.old) (λ _.
-        D.reads disk.new ≤ D.reads disk.old + 2 * length read.blocks.items)) }
+        D.reads disk.new ≤ D.reads disk.old + length read.blocks.items)) }
     ensures looks { OnOk result (
         LooksFew (D.bytes disk.old) (sides.now).was.cache.now steps.old steps.new
         (λ image. old_visits_or (known_by (sides.now).known) (blocks_met met.now)
@@ -113,7 +113,17 @@ fn walk_before<D: Disk, L>(
     ensures kept { Kept D.Disk disk.old disk.new (is_disk_halt result) }
 {
     match before {
-        Some(e) => walk_old(alloc, disk, &sides.was, &sides.known, met, steps, room, &e),
+        Some(e) => walk_old(
+            alloc,
+            disk,
+            &sides.was,
+            sides.firsts,
+            &sides.known,
+            met,
+            steps,
+            room,
+            &e,
+        ),
         None => Ok(Gathered::new(alloc)),
     }
 }
@@ -180,6 +190,7 @@ fn change_gone<D: Disk, L>(
         alloc,
         disk,
         &sides.was,
+        sides.firsts,
         &sides.known,
         &[],
         steps,

@@ -8,6 +8,7 @@ ghost use Rattle.shared_trees.specs.Known.{AreMetBy, blocks_met};
 ghost use Rattle.shared_trees.specs.Visits.{LooksFew};
 ghost use Rattle.block_source.specs.Gives.{Gives, is_disk_halt};
 ghost use Rattle.block_source.specs.Takes.{handing};
+ghost use Rattle.tree_change.specs.Firsts.{first_copies};
 ghost use Rattle.tree_change.specs.Gathered.{gathers};
 ghost use Rattle.tree_change.specs.Looks.{new_visits, old_visits};
 ghost use Rattle.tree_change.specs.Walks.{new_walk, old_walk};
@@ -15,6 +16,7 @@ ghost use Rattle.tree_change.specs.Told.{known_by, new_by, side_with};
 
 use crate::gather::Gathered;
 use block_source::{BlockSource, Halt};
+use chunk_map::ChunkMap;
 use live_index::LiveIndex;
 use node_reader::Expect;
 use recon_disk::{Disk, Steps};
@@ -96,13 +98,14 @@ pub(crate) fn walk_new<D: Disk, L>(
     Ok(NewTree { read, met, ended })
 }
 
-/// Walks a tree as it was, which stops at these blocks of the tree as it is. It looks at most three times into the table of live pairs
-/// for each block that it comes to.
+/// Walks a tree as it was, which stops at these blocks of the tree as it is. Of each block that it reads it reads the first copy alone, by
+/// chunks that have no other. It looks at most three times into the table of live pairs for each block that it comes to.
 #[tactic(auto, unfolding(crate::specs::Walks::old_walk))]
 pub(crate) fn walk_old<D: Disk, L>(
     alloc: Global,
     disk: &mut D,
     source: &BlockSource<'_>,
+    firsts: &ChunkMap,
     known: &KnownTrees<'_, L>,
     met: &[Met],
     steps: &mut Steps<L>,
@@ -111,12 +114,13 @@ pub(crate) fn walk_old<D: Disk, L>(
 ) -> Result<Gathered, Halt>
     requires size { is_node_size source.now.sup.now.nodesize ≡ true }
     requires end { source.now.end ≡ D.len disk.old }
+    requires once { firsts.now ≡ first_copies source.now.map.now }
     requires met { AreMetBy (pairs_of (known.now).table.now) met.now }
     ensures gives { Gives D.Disk disk.old source.now.cache.now (handing gathers result)
         (λ image. old_walk (known_by known.now) (blocks_met met.now)
         (side_with source.now image) e.now) }
     ensures reads { IfOk result (λ read. IfSome (D.bytes disk.old) (λ _.
-        D.reads disk.new ≤ D.reads disk.old + 2 * length read.blocks.items)) }
+        D.reads disk.new ≤ D.reads disk.old + length read.blocks.items)) }
     ensures looks { OnOk result (
         LooksFew (D.bytes disk.old) source.now.cache.now steps.old steps.new
         (λ image. old_visits (known_by known.now) (blocks_met met.now)
@@ -132,6 +136,12 @@ pub(crate) fn walk_old<D: Disk, L>(
         steps: &mut *steps,
         next: 0,
     };
-    walk_changed(alloc, disk, source, &mut keeps, e, room, &mut read)?;
+    let first = BlockSource {
+        cache: source.cache,
+        map: firsts,
+        sup: source.sup,
+        end: source.end,
+    };
+    walk_changed(alloc, disk, &first, &mut keeps, e, room, &mut read)?;
     Ok(read)
 }

@@ -36,7 +36,7 @@ returns-clause-looks g c =
     let sound = c.lie_apart.ensures (search rules) in
     let distinct = c.in_ok-some.ensures.apart sound.0 sound.1 in
     map_few c.args.both.now c.args.array (record { ref_ptr = c.args.both.ref_ptr; now = c.new-moves.result })
-    (record { ref_ptr = c.args.both.ref_ptr; now = c.in_ok-starts.starts }) c.args.both.now.same _ (g.D.Disk.bytes c.args.disk.now)
+    (record { ref_ptr = c.args.both.ref_ptr; now = c.in_ok-starts.starts }) c.args.both.now.same c.args.both.now.once _ (g.D.Disk.bytes c.args.disk.now)
     c.change_chunks.result c.in_ok-old_array.old_array c.in_ok-olds.olds c.in_ok-some.some
     c.in_ok-moving.moving c.args.steps.now c.moved_pairs_of.new.steps c.listed.new.steps c.change_chunks.new.steps
     (record { before = c.new-moves.ensures.old; after = c.new-moves.ensures.new; size = c.new-moves.ensures.nodesize; until = c.new-moves.ensures.end })
