@@ -6,7 +6,7 @@
 # - A made workload of 200 commits, replayed, beside a program in C that reads its trace, writes its bytes and flushes as often: the time that
 #   passes, which has the waits for the flushes in it, and the processor time; the least of five runs of each in turns.
 # Usage: bench/commits.sh [FOLDER]    FOLDER has, or gets, the two volumes few.img and many.img; PROGRAM names a built program that is
-# timed in place of that of this repository. It wants btrfs-progs, python3 and gcc.
+# timed in place of that of this repository. It needs btrfs-progs, python3 and gcc.
 set -eu
 cd "$(dirname "$0")/.."
 scratch=$(mktemp -d)

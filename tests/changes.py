@@ -8,8 +8,9 @@ Usage: tests/changes.py [PROGRAM]                 by default crates/changes/out/
 Prints one line, and ends with 1 at the first case that differs. The model reads every block of both images. It says by
 the definitions which live pairs the images share and what of the rest they hold, or the first finding of the new image.
 Compared are the finding, or the blocks, items and chunks; and the program reads at most once for each old block that is
-not shared, and twice for each new one. The rows are small images of 4096-byte nodes that are made tree by tree; the random cases are drawn from fixed
-seeds. With --real each commit of each trace of a directory is a case: NAME.img.xz with NAME.trace.xz."""
+not shared, and twice for each new one. The rows are small images of 4096-byte nodes that are made tree by tree; the random
+cases are drawn from fixed seeds. With --real each commit of each trace of a directory is a case: NAME.img.xz with
+NAME.trace.xz."""
 import collections
 import copy
 import functools
