@@ -4,10 +4,10 @@
 
 use change_records::pair;
 use fs_items::InodeItem;
-use records::{ItemAt, OwnedRec};
+use records::{ItemAt, ItemBytes, OwnedRec};
 use std::alloc::Global;
 use std::io;
-use verdict::{Bytes, Key, NoMemory};
+use verdict::{Key, NoMemory};
 
 /// Finds what changed among `count` items so many times.
 pub fn measure(rt: &HostRuntime, count: u64, rounds: u64) -> io::Result<()> {
@@ -79,6 +79,6 @@ fn entry(alloc: Global, key: Key, other: u8) -> Result<OwnedRec, NoMemory> {
     bytes[28] = 0;
     bytes[29] = 1;
     bytes[49] = other;
-    let bytes = Bytes::of(alloc, &bytes)?;
+    let bytes = ItemBytes::of(alloc, &bytes)?;
     Ok(OwnedRec::DirItem { key, bytes })
 }

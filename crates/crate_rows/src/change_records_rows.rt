@@ -4,11 +4,11 @@ use chunk_map::{Bases, Chunk, ChunkMap};
 use fs_items::{FileExtent, InodeItem};
 use live_index::{Live, LiveIndex};
 use recon_disk::Steps;
-use records::{ItemAt, OwnedRec};
+use records::{ItemAt, ItemBytes, OwnedRec};
 use span_index::{Span, SpanIndex, SpanSort};
 use std::alloc::Global;
 use super_reader::Super;
-use verdict::{Bytes, NoMemory};
+use verdict::NoMemory;
 use volume_items::RootAt;
 
 // The first byte of the data chunk and of the metadata chunk.
@@ -105,7 +105,7 @@ fn entry(alloc: Global, generation: u8) -> Result<ItemAt, NoMemory> {
     bytes[29] = 1;
     bytes[30] = 97;
     let key = key(256, 96, 2);
-    let bytes = Bytes::of(alloc, &bytes)?;
+    let bytes = ItemBytes::of(alloc, &bytes)?;
     let part = OwnedRec::DirItem { key, bytes };
     Ok(ItemAt {
         tree: 5,
