@@ -21,7 +21,7 @@ use Rattle.shared_trees.specs.ArrayLaw.{AreBoth, ArrayKeptLaw, EachByArray, IsAs
 use Rattle.shared_trees.specs.Keeping.{AreUntouched, Comes, Marks, Under, kept_of, last_if_same, live_at}
 use Rattle.shared_trees.specs.LivePairs.{Walked, live_in, table_of}
 use Rattle.shared_trees.specs.Shared.{is_shared}
-use Rattle.shared_trees.specs.SharedLaw.{IsBefore, KeepsShared, MarksTouched, moves_between, touches_old}
+use Rattle.shared_trees.specs.SharedLaw.{IsBefore, KeepsShared, MarksTouched, moves_between, stays_between, touches_old}
 use Rattle.shared_trees.specs.TableLaw.{Tree, is_other, trees_in}
 use Rattle.shared_trees.proofs.ArrayPlaces.{array_is, array_walk, as_by_all}
 use Rattle.shared_trees.proofs.Forest.{tables_stand}
@@ -63,7 +63,7 @@ module _ (image : List ℕ) (pending : FinMap nat_cmp ℕ) (old new : Walked) (p
       let news = trees_walk judged new after (has_trees judged new t both.is.walks) in
       let first = chunk_tree_by old.chunks old.sup image in
       let now = chunk_tree_by new.chunks new.sup judged in
-      keeps_tree old new before (written_in pending) end pairs marked under by_all (chunk_tree_root new.sup) olds.0 olds.1
+      keeps_tree (stays_between old new end) (touches_old old (written_in pending) end) old new before pairs marked under by_all (chunk_tree_root new.sup) olds.0 olds.1
       (tables_stand new.sup after new.seen news.0 news.1).0 refl both.alike pairs_are (
         λ same. record {
           marks = marks;
@@ -71,7 +71,7 @@ module _ (image : List ℕ) (pending : FinMap nat_cmp ℕ) (old new : Walked) (p
               (record { high = refl; stored = refl });
         },
         each_map (λ other. is_other first other ≡ true)
-            (λ (tree : Tree). tree.1.tree ≡ 3 → IsBefore old new (written_in pending) end marked by_all tree)
+            (λ (tree : Tree). tree.1.tree ≡ 3 → IsBefore (stays_between old new end) (touches_old old (written_in pending) end) old marked by_all tree)
             (others_in old.sup old.chunks s.roots image) (λ tree other same. absurd (no_other tree.1.tree other same)) olds.0.0,
       )
 
@@ -150,7 +150,7 @@ kept_by_array image pending old new array pairs marked under both pairs_are mark
         record {
           moves = moves_same image pending old new pairs marked under t.array both;
           untouched = untouched_by image pending old new pairs marked under t.array both;
-          tells = (tells_shared old new (written_in pending) (length image) kept new.sup trees
+          tells = (tells_shared (stays_between old new (length image)) (touches_old old (written_in pending) (length image)) old new kept new.sup trees
               (all_apart new.sup t.array new.chunks t.roots judged (roots_are new.sup new.chunks judged t.roots t.items))
               (all_walks new.sup t.array new.chunks t.roots judged ∙ t.records)).0
               (keeps_by image pending old new pairs marked under s t both pairs_are marks);

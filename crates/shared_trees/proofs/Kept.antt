@@ -18,11 +18,10 @@ use Rattle.records.specs.Walk.{child_of, children_of, high_of}
 use Rattle.records.specs.WalkLaw.{visited}
 use Rattle.shared_trees.specs.Keeping.{AreMarked, Marks, Stands, Under, bound_of, comes_to, first_in, is_first, is_same, kept_of, last_if_same, live_at}
 use Rattle.shared_trees.specs.LivePairs.{Walked, live_in, table_of}
-use Rattle.shared_trees.specs.Shared.{are_alike, are_read_alike, is_shared, stands_untouched}
-use Rattle.shared_trees.specs.SharedLaw.{IsBefore, KeepsShared, KeptTreeLaw, moves_between, touches_old}
+use Rattle.shared_trees.specs.Shared.{are_alike, are_read_alike, is_shared_by, stands_untouched}
+use Rattle.shared_trees.specs.SharedLaw.{IsBefore, KeepsSharedBy, KeptTreeLaw}
 use Rattle.shared_trees.specs.TableLaw.{AreApart, Tree}
 use Rattle.shared_trees.specs.declared.starts.Start.{Start}
-use Rattle.touched_pairs.specs.Touched.{Written, stays_in_place}
 use Rattle.shared_trees.proofs.Accepted.{Accepts, IsAs, accepts, visit_of, walk_accepted}
 use Rattle.shared_trees.proofs.Bounds.{and_parts}
 use Rattle.shared_trees.proofs.Forest.{lives_all, of_root, tables_stand, walks}
@@ -237,15 +236,12 @@ alike_there a b tree address first =
     ∙ (ap (λ x. a.level == b.level && (a.generation == b.generation && x)) (ap (key_same a.first) (sym first) ∙ key_itself a.first)
     ∙ turn a.level b.level a.generation b.generation true)
 
-module _ (old new : Walked) (written : Written) (end : ℕ) (pairs : Pairs) (marked : Marks) (under : Under) (stored : Stored) (root : Expect) where
+module _ (stays touched : ℕ → Bool) (old new : Walked) (pairs : Pairs) (marked : Marks) (under : Under) (stored : Stored) (root : Expect) where
   abbrev pub table : Pairs
   table = table_of (live_in old.seen)
 
-  abbrev pub touched : ℕ → Bool
-  touched = touches_old old written end
-
   abbrev pub moved : ℕ → Bool
-  moved = moves_between old new end
+  moved a = not (stays a)
 
   -- what is known of a block that the new walk comes to
   pub record NewBlock (v : Expect) : Type 0 where
@@ -304,7 +300,7 @@ module _ (old new : Walked) (written : Written) (end : ℕ) (pairs : Pairs) (mar
           (subst (λ l. is_first (live_at old.sup was w) l v.high ≡ true) is_low first)
 
   abbrev pub Before : Tree → Type 0
-  Before tree = tree.1.tree ≡ root.tree → IsBefore old new written end marked stored tree
+  Before tree = tree.1.tree ≡ root.tree → IsBefore stays touched old marked stored tree
 
   module _ (trees : List Tree) (apart : AreApart trees) (told : walks old.sup trees ≡ Ok old.seen) (before : AllByRecursion Before trees)
       (alike : are_read_alike old.sup new.sup ≡ true) (pairs_are : (address : ℕ) → pairs root.tree address ≡ table root.tree address) where
@@ -369,22 +365,21 @@ module _ (old new : Walked) (written : Written) (end : ℕ) (pairs : Pairs) (mar
         some_live : (a b : Live) → Some a ≡ Some b → a ≡ b
         some_live a b is = cc
 
-    keeps_one : (v : Expect) → NewBlock v → is_some (kept_of pairs marked moved under v) ≡ is_shared old new written end (live_at new.sup stored v)
-    unfolding kept_of is_shared
+    keeps_one : (v : Expect) → NewBlock v → is_some (kept_of pairs marked moved under v) ≡ is_shared_by stays touched old new (live_at new.sup stored v)
+    unfolding kept_of is_shared_by
     keeps_one v b =
         let live = live_at new.sup stored v in
-        let stays = stays_in_place old.chunks new.chunks old.sup.nodesize end v.address in
-        meets v live (under v.tree v.address) (marked v.tree v.address) stays (pairs v.tree v.address)
+        meets v live (under v.tree v.address) (marked v.tree v.address) (stays v.address) (pairs v.tree v.address)
         (λ one is mark still. same_known v b one is mark (ap not still))
         ∙ rw (alike, fresh v b, table_alike (live_in new.seen) v.tree v.address live b.known) refl
 
     keeps_shared : Stands (table_of (live_in new.seen)) new.sup stored root → root.high ≡ None
-        → KeepsShared old new written end pairs marked under stored root
+        → KeepsSharedBy stays touched old new pairs marked under stored root
     keeps_shared stands high =
-        each_map NewBlock (λ v. is_some (kept_of pairs marked moved under v) ≡ is_shared old new written end (live_at new.sup stored v))
+        each_map NewBlock (λ v. is_some (kept_of pairs marked moved under v) ≡ is_shared_by stays touched old new (live_at new.sup stored v))
         (visited new.sup stored root)
         (λ v b. keeps_one v b) (new_blocks stands high)
 
 pub keeps_tree : KeptTreeLaw
-keeps_tree old new trees written end pairs marked under stored root apart told stands high alike pairs_are before =
-    keeps_shared old new written end pairs marked under stored root trees apart told before alike pairs_are stands high
+keeps_tree stays touched old new trees pairs marked under stored root apart told stands high alike pairs_are before =
+    keeps_shared stays touched old new pairs marked under stored root trees apart told before alike pairs_are stands high

@@ -15,7 +15,7 @@ use Rattle.touched_pairs.specs.Touched.{written_in}
 use Rattle.shared_trees.specs.Keeping.{AreUntouched, Marks, Stands, Under}
 use Rattle.shared_trees.specs.LivePairs.{Walked, live_in, table_of}
 use Rattle.shared_trees.specs.Shared.{are_read_alike}
-use Rattle.shared_trees.specs.SharedLaw.{HasTrees, IsBefore, KeepsShared, KeptLaw, MarksTouched, moves_between, touches_old}
+use Rattle.shared_trees.specs.SharedLaw.{HasTrees, IsBefore, KeepsShared, KeptLaw, MarksTouched, moves_between, stays_between, touches_old}
 use Rattle.shared_trees.specs.TableLaw.{Tree}
 use Rattle.shared_trees.proofs.Bounds.{and_parts}
 use Rattle.shared_trees.proofs.Forest.{tables_stand}
@@ -74,10 +74,10 @@ module _ (image : List ℕ) (pending : FinMap nat_cmp ℕ) (old new : Walked) (b
       → (now : Tree) → Stands (table_of (live_in new.seen)) new.sup now.0 now.1 → IsOfImage judged new now → Keeps now
   one has alike pairs_are now stands is marks =
       let olds = trees_walk image old before has in
-      keeps_tree old new before (written_in pending) (length image) pairs marked under now.0 now.1 olds.0 olds.1 stands is.high alike
+      keeps_tree (stays_between old new (length image)) (touches_old old (written_in pending) (length image)) old new before pairs marked under now.0 now.1 olds.0 olds.1 stands is.high alike
       (λ address. pairs_are now.1.tree address)
       (each_map (λ tree. Marked now.1.tree tree × IsOfImage image old tree)
-      (λ tree. tree.1.tree ≡ now.1.tree → IsBefore old new (written_in pending) (length image) marked now.0 tree) before
+      (λ tree. tree.1.tree ≡ now.1.tree → IsBefore (stays_between old new (length image)) (touches_old old (written_in pending) (length image)) old marked now.0 tree) before
       (λ tree h same. record { marks = h.0 same; alike = was alike now tree is h.1 })
       (each_both (Marked now.1.tree) (IsOfImage image old) before marks (of_image image old before has)))
 

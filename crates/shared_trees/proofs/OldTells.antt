@@ -14,11 +14,10 @@ use Rattle.records.specs.Seen.{Seen}
 use Rattle.records.specs.Seen.Seen.{BlockSeen, ItemSeen, PointerSeen}
 use Rattle.records.specs.Walk.{walk_of}
 use Rattle.records.specs.WalkLaw.{visited}
-use Rattle.touched_pairs.specs.Touched.{Written, stays_in_place, touches_block}
 use Rattle.shared_trees.specs.Keeping.{Comes, OneOf, live_at}
 use Rattle.shared_trees.specs.LivePairs.{Walked, live_in, live_of}
 use Rattle.shared_trees.specs.OldSide.{GoneLaw, TellsLaw, TellsShared}
-use Rattle.shared_trees.specs.Shared.{are_alike, are_read_alike, at_or_below, is_shared, stands_untouched}
+use Rattle.shared_trees.specs.Shared.{are_alike, are_read_alike, at_or_below, is_shared_by, stands_untouched}
 use Rattle.shared_trees.specs.TableLaw.{AreApart, Tree, is_other}
 use Rattle.shared_trees.proofs.Bounds.{and_parts}
 use Rattle.shared_trees.proofs.Forest.{OfOthers, all_lives, lives_all, lives_of, of_other, others_after, others_all, then_ok, walks}
@@ -66,21 +65,20 @@ untouched_alike touched a b (PointerSeen one ∷ behind) same = untouched_alike 
 untouched_alike touched a b (ItemSeen one ∷ behind) same = untouched_alike touched a b behind same
 
 -- alike pairs are shared alike
-pub shared_alike : (old new : Walked) (written : Written) (end : ℕ) (a b : Live) → are_alike a b ≡ true → is_shared old new written end a ≡ is_shared old new written end b
-unfolding is_shared
-shared_alike old new written end a b alike =
+pub shared_alike : (stays touched : ℕ → Bool) (old new : Walked) (a b : Live) → are_alike a b ≡ true
+    → is_shared_by stays touched old new a ≡ is_shared_by stays touched old new b
+unfolding is_shared_by
+shared_alike stays touched old new a b alike =
     let same = has_same a b alike in
-    let touched = touches_block written old.chunks old.sup.nodesize end in
-    ap (λ address. are_read_alike old.sup new.sup && (stays_in_place old.chunks new.chunks old.sup.nodesize end address && (stands_untouched touched old.seen a && list_any (are_alike a) (live_in new.seen)))) same.address
-    ∙ (ap (λ t. are_read_alike old.sup new.sup && (stays_in_place old.chunks new.chunks old.sup.nodesize end b.address && (t && list_any (are_alike a) (live_in new.seen)))) (untouched_alike touched a b old.seen same)
-    ∙ ap (λ t. are_read_alike old.sup new.sup && (stays_in_place old.chunks new.chunks old.sup.nodesize end b.address && (stands_untouched touched old.seen b && t))) (any_alike a b (live_in new.seen) same))
+    ap (λ address. are_read_alike old.sup new.sup && (stays address && (stands_untouched touched old.seen a && list_any (are_alike a) (live_in new.seen)))) same.address
+    ∙ (ap (λ t. are_read_alike old.sup new.sup && (stays b.address && (t && list_any (are_alike a) (live_in new.seen)))) (untouched_alike touched a b old.seen same)
+    ∙ ap (λ t. are_read_alike old.sup new.sup && (stays b.address && (stands_untouched touched old.seen b && t))) (any_alike a b (live_in new.seen) same))
 
 -- a shared pair is alike to one of the new image
-shared_any : (old new : Walked) (written : Written) (end : ℕ) (live : Live) → is_shared old new written end live ≡ true → list_any (are_alike live) (live_in new.seen) ≡ true
-unfolding is_shared
-shared_any old new written end live is =
-    let touched = touches_block written old.chunks old.sup.nodesize end in
-    let place = stays_in_place old.chunks new.chunks old.sup.nodesize end live.address in
+shared_any : (stays touched : ℕ → Bool) (old new : Walked) (live : Live) → is_shared_by stays touched old new live ≡ true → list_any (are_alike live) (live_in new.seen) ≡ true
+unfolding is_shared_by
+shared_any stays touched old new live is =
+    let place = stays live.address in
     let any = list_any (are_alike live) (live_in new.seen) in
     let first = (and_parts (are_read_alike old.sup new.sup) (place && (stands_untouched touched old.seen live && any)) is).1 in
     (and_parts (stands_untouched touched old.seen live) any (and_parts place (stands_untouched touched old.seen live && any) first).1).1
@@ -156,32 +154,31 @@ all_map P Q [] f all = tt
 all_map P Q (t ∷ trees) f all = (f t all.0, all_map P Q trees f all.1)
 
 pub tells_shared : TellsLaw
-tells_shared old new written end kept sup trees apart walks_are =
-    let shared = is_shared old new written end in
+tells_shared stays touched old new kept sup trees apart walks_are =
+    let shared = is_shared_by stays touched old new in
     let P = λ (live : Live) (t : Tree). shared live ≡ true → live.tree ≡ t.1.tree → list_any (are_alike live) (lives_of sup t) ≡ true in
     let lives : live_in new.seen ≡ all_lives sup trees = lives_all sup trees new.seen apart walks_are in
     let each : AllByRecursion (λ t. (live : Live) → P live t) trees = all_then P trees
-    (λ live. spread live trees (λ is. any_of_tree sup live trees new.seen apart walks_are (subst (λ ls. list_any (are_alike live) ls ≡ true) lives (shared_any old new written end live is)))) in
+    (λ live. spread live trees (λ is. any_of_tree sup live trees new.seen apart walks_are (subst (λ ls. list_any (are_alike live) ls ≡ true) lives (shared_any stays touched old new live is)))) in
     all_map (λ t. (live : Live) → P live t) (λ t. Comes (λ v. is_some (kept v) ≡ shared (live_at sup t.0 v)) sup t.0 t.1 → TellsShared shared kept sup t.0 t.1) trees
     (λ t all comes. record {
       kept_is = comes;
-      alike = shared_alike old new written end;
+      alike = shared_alike stays touched old new;
       both = λ live of_tree is. any_one (are_alike live) (live_at sup t.0) (visited sup t.0 t.1) (all live is of_tree);
     }) each
   where
-    spread : (live : Live) (some : List Tree) → (is_shared old new written end live ≡ true → AllByRecursion (λ t. live.tree ≡ t.1.tree → list_any (are_alike live) (lives_of sup t) ≡ true) some)
-        → AllByRecursion (λ t. is_shared old new written end live ≡ true → live.tree ≡ t.1.tree → list_any (are_alike live) (lives_of sup t) ≡ true) some
+    spread : (live : Live) (some : List Tree) → (is_shared_by stays touched old new live ≡ true → AllByRecursion (λ t. live.tree ≡ t.1.tree → list_any (are_alike live) (lives_of sup t) ≡ true) some)
+        → AllByRecursion (λ t. is_shared_by stays touched old new live ≡ true → live.tree ≡ t.1.tree → list_any (are_alike live) (lives_of sup t) ≡ true) some
     spread live [] all = tt
     spread live (t ∷ some) all = ((λ is. (all is).0), spread live some (λ is. (all is).1))
 
 pub gone : GoneLaw
-unfolding is_shared
-gone old new written end sup trees live apart walks_are none =
-    let touched = touches_block written old.chunks old.sup.nodesize end in
+unfolding is_shared_by
+gone stays touched old new sup trees live apart walks_are none =
     let others : OfOthers live.tree (all_lives sup trees) = others_all sup trees new.seen live.tree walks_are none in
     let any : list_any (are_alike live) (live_in new.seen) ≡ false =
     ap (list_any (are_alike live)) (lives_all sup trees new.seen apart walks_are) ∙ none_alike live (all_lives sup trees) others in
-    last_fails (are_read_alike old.sup new.sup) (stays_in_place old.chunks new.chunks old.sup.nodesize end live.address) (stands_untouched touched old.seen live)
+    last_fails (are_read_alike old.sup new.sup) (stays live.address) (stands_untouched touched old.seen live)
     (list_any (are_alike live) (live_in new.seen)) any
   where
     last_fails : (a b c d : Bool) → d ≡ false → (a && (b && (c && d))) ≡ false

@@ -22,7 +22,7 @@ use Rattle.shared_trees.specs.Keeping.{Comes, Marks, Stands, Under, anew_of, kep
 use Rattle.shared_trees.specs.LivePairs.{Walked, live_in, table_of}
 use Rattle.shared_trees.specs.OldSide.{IsRoot, TellsShared, kept_at, kept_where}
 use Rattle.shared_trees.specs.Shared.{are_read_alike, is_shared}
-use Rattle.shared_trees.specs.SharedLaw.{HasTrees, KeepsShared, MarksTouched, moves_between, touches_old}
+use Rattle.shared_trees.specs.SharedLaw.{HasTrees, KeepsShared, MarksTouched, moves_between, stays_between, touches_old}
 use Rattle.shared_trees.specs.ShiftedLaw.{MovesListed}
 use Rattle.shared_trees.specs.SkipLaw.{IsSound}
 use Rattle.shared_trees.specs.Skips.{Kept, nothing, own_of, part_of, skip_of, unkept, where_new}
@@ -123,7 +123,7 @@ module _ (image : List ℕ) (pending : FinMap nat_cmp ℕ) (old new : Walked) (b
             (h.1.0 (each_map M (λ tree. tree.1.tree ≡ now.1.tree → M tree) before (λ tree m is. m) marks)));
       }))
       (each_both (λ now. Is now → Tells now) (λ now. KeepsIf now × New_stands now) after
-      (tells_shared old new (written_in pending) (length image) K old.sup after news.0 (walks_alike old.sup new.sup alike after ∙ news.1))
+      (tells_shared (stays_between old new (length image)) (touches_old old (written_in pending) (length image)) old new K old.sup after news.0 (walks_alike old.sup new.sup alike after ∙ news.1))
       (each_both KeepsIf New_stands after (keeps_image image pending old new before after pairs marked under has_old has_new alike pairs_are)
       (tables_stand new.sup after new.seen news.0 news.1)))
 
@@ -197,7 +197,7 @@ module _ (image : List ℕ) (pending : FinMap nat_cmp ℕ) (old new : Walked) (b
       (λ v of_tree.
       none_at pairs under v
       ∙ sym (ap (λ b. if b then Some no_key else None)
-      (gone old new (written_in pending) (length image) new.sup after (live_at old.sup tree.0 v) news.0 news.1
+      (gone (stays_between old new (length image)) (touches_old old (written_in pending) (length image)) old new new.sup after (live_at old.sup tree.0 v) news.0 news.1
       (subst (λ id. AllByRecursion (λ (now : Tree). (now.1.tree == id) ≡ false) after) (sym of_tree) others))))
       (of_root old.sup tree stands.each.fine).each))
       (tables_stand old.sup before old.seen olds.0 olds.1)

@@ -20,7 +20,7 @@ use Rattle.touched_pairs.specs.Touched.{Written, stays_in_place, written_in}
 use Rattle.shared_trees.specs.Keeping.{Marks, Stands, Under, anew_of, kept_of, last_if_same, live_at}
 use Rattle.shared_trees.specs.LivePairs.{Walked, live_in, live_of, table_of}
 use Rattle.shared_trees.specs.MovedLaw.{is_other_than, kept_in, shifted_by}
-use Rattle.shared_trees.specs.Shared.{are_alike, are_read_alike, at_or_below, is_shared, stands_untouched}
+use Rattle.shared_trees.specs.Shared.{are_alike, are_read_alike, at_or_below, is_shared, is_shared_by, stands_untouched}
 use Rattle.shared_trees.specs.SharedLaw.{KeepsShared, MarksTouched, moves_between, touches_old}
 use Rattle.shared_trees.specs.ShiftedLaw.{MovesListed, ShiftedLaw, is_shifted, shifted_met}
 use Rattle.shared_trees.specs.Skips.{Kept}
@@ -58,7 +58,7 @@ alike_some touched live (ItemSeen one ∷ behind) is = alike_some touched live b
 
 shared_some : (old new : Walked) (written : Written) (end : ℕ) (live : Live) → is_shared old new written end live ≡ true
     → list_any (λ one. are_alike one live) (live_in old.seen) ≡ true
-unfolding is_shared
+unfolding is_shared_by
 shared_some old new written end live is =
     let stays = stays_in_place old.chunks new.chunks old.sup.nodesize end live.address in
     let stands = stands_untouched (touches_old old written end) old.seen live in

@@ -10,9 +10,8 @@ use Rattle.node_reader.specs.declared.expect.Expect.{Expect}
 use Rattle.records.specs.Walk.{each, walk_of}
 use Rattle.records.specs.WalkLaw.{visited}
 use Rattle.shared_trees.specs.Keeping.{AreListed, AreMarked, AreUntouched, Comes, Marks, OneOf, Stands, Under, anew_of, kept_of, last_if_same, live_at}
-use Rattle.touched_pairs.specs.Touched.{Written}
 use Rattle.shared_trees.specs.LivePairs.{Walked}
-use Rattle.shared_trees.specs.Shared.{are_alike, is_shared}
+use Rattle.shared_trees.specs.Shared.{are_alike, is_shared_by}
 use Rattle.shared_trees.specs.Skips.{Kept, nothing, skip_of, unkept}
 use Rattle.shared_trees.specs.Stops.{is_stop, stops_of}
 use Rattle.shared_trees.specs.TableLaw.{AreApart, Tree}
@@ -56,13 +55,13 @@ OldSideLaw = (pairs : Pairs) (marked moving : Marks) (touched moved : ℕ → Bo
 -- Of trees of different ids whose walks have no finding: where the new image has the records of these walks, and in one tree just those
 -- blocks are kept of which the pairs are shared by the two images, that tells which pairs of it are shared.
 abbrev pub TellsLaw : Type 0
-TellsLaw = (old new : Walked) (written : Written) (end : ℕ) (kept : Kept) (sup : Super) (trees : List Tree)
+TellsLaw = (stays touched : ℕ → Bool) (old new : Walked) (kept : Kept) (sup : Super) (trees : List Tree)
     → AreApart trees → each (λ tree. walk_of sup tree.0 tree.1) trees ≡ Ok new.seen
-    → AllByRecursion (λ tree. Comes (λ v. is_some (kept v) ≡ is_shared old new written end (live_at sup tree.0 v)) sup tree.0 tree.1
-    → TellsShared (is_shared old new written end) kept sup tree.0 tree.1) trees
+    → AllByRecursion (λ tree. Comes (λ v. is_some (kept v) ≡ is_shared_by stays touched old new (live_at sup tree.0 v)) sup tree.0 tree.1
+    → TellsShared (is_shared_by stays touched old new) kept sup tree.0 tree.1) trees
 
 -- where the new image has the records of trees of different ids, no pair of another tree is shared
 abbrev pub GoneLaw : Type 0
-GoneLaw = (old new : Walked) (written : Written) (end : ℕ) (sup : Super) (trees : List Tree) (live : Live)
+GoneLaw = (stays touched : ℕ → Bool) (old new : Walked) (sup : Super) (trees : List Tree) (live : Live)
     → AreApart trees → each (λ tree. walk_of sup tree.0 tree.1) trees ≡ Ok new.seen
-    → AllByRecursion (λ tree. (tree.1.tree == live.tree) ≡ false) trees → is_shared old new written end live ≡ false
+    → AllByRecursion (λ tree. (tree.1.tree == live.tree) ≡ false) trees → is_shared_by stays touched old new live ≡ false

@@ -37,15 +37,21 @@ stands_untouched touched (BlockSeen block ∷ behind) live =
     (are_alike (live_of block behind) live && not (at_or_below touched block behind)) || stands_untouched touched behind live
 stands_untouched touched (other ∷ behind) live = stands_untouched touched behind live
 
--- Whether a live pair is shared: it is live in both images with the same level, generation and first key, its block stands at the same
--- place under both lists of chunks, and no write touches a byte of a copy of it or of a block that was below it, where the old list has
--- them. Nothing is shared where blocks are not read alike in both.
-unfoldable pub is_shared : Walked → Walked → Written → ℕ → Live → Bool
-is_shared old new written end live =
+-- Whether a live pair is shared, by two tests of addresses: it is live in both images with the same level, generation and first key, its
+-- address passes the first test, and neither it nor the address of a block that was below it passes the second. Nothing is shared where
+-- blocks are not read alike in both.
+unfoldable pub is_shared_by : (ℕ → Bool) → (ℕ → Bool) → Walked → Walked → Live → Bool
+is_shared_by stays touched old new live =
     are_read_alike old.sup new.sup
-    && (stays_in_place old.chunks new.chunks old.sup.nodesize end live.address
-    && (stands_untouched (touches_block written old.chunks old.sup.nodesize end) old.seen live
+    && (stays live.address
+    && (stands_untouched touched old.seen live
     && list_any (are_alike live) (live_in new.seen)))
+
+-- Whether a live pair is shared: its block stands at the same place under both lists of chunks, and no write touches a byte of a copy of it
+-- or of a block that was below it, where the old list has them.
+abbrev pub is_shared : Walked → Walked → Written → ℕ → Live → Bool
+is_shared old new written end =
+    is_shared_by (stays_in_place old.chunks new.chunks old.sup.nodesize end) (touches_block written old.chunks old.sup.nodesize end) old new
 
 -- the pairs of one of the two images that are not shared
 abbrev pub unshared_in : Walked → Walked → Written → ℕ → Walked → List Live

@@ -1,5 +1,5 @@
 -- The law that a block of a tree is kept just where it is shared.
-use Rattle.std.specs.Prelude.{ℕ, ◌≡◌, Bool, true, List, length, None, is_some, Ok}
+use Rattle.std.specs.Prelude.{ℕ, ◌≡◌, Bool, true, not, List, length, None, is_some, Ok}
 use Rattle.std.specs.List.{AllByRecursion}
 use Rattle.std.specs.Ordering.{nat_cmp}
 use Rattle.std.specs.FinMap.{FinMap}
@@ -16,45 +16,55 @@ use Rattle.records.specs.Contents.{chunk_tree_root, root_items_in}
 use Rattle.records.specs.Walk.{each, walk_of}
 use Rattle.records.specs.WalkLaw.{visited}
 use Rattle.touched_pairs.specs.Moves.{is_moved}
-use Rattle.touched_pairs.specs.Touched.{Written, touches_block, written_in}
+use Rattle.touched_pairs.specs.Touched.{Written, stays_in_place, touches_block, written_in}
 use Rattle.shared_trees.specs.Keeping.{AreMarked, AreUntouched, Marks, Stands, Under, kept_of, live_at}
 use Rattle.shared_trees.specs.LivePairs.{Walked, live_in, table_of, walked}
-use Rattle.shared_trees.specs.Shared.{are_read_alike, is_shared}
+use Rattle.shared_trees.specs.Shared.{are_read_alike, is_shared_by}
 use Rattle.shared_trees.specs.TableLaw.{AreApart, Tree, trees_in}
 
 -- whether a write touches the block at an address, where the old chunks have it
 abbrev pub touches_old : Walked → Written → ℕ → ℕ → Bool
 touches_old old written end = touches_block written old.chunks old.sup.nodesize end
 
--- whether that block stands elsewhere by the new chunks
+-- whether that block stands by the new chunks where it stood
+abbrev pub stays_between : Walked → Walked → ℕ → ℕ → Bool
+stays_between old new end = stays_in_place old.chunks new.chunks old.sup.nodesize end
+
+-- whether it stands elsewhere by them
 abbrev pub moves_between : Walked → Walked → ℕ → ℕ → Bool
 moves_between old new end = is_moved old.chunks new.chunks old.sup.nodesize end
 
--- of the blocks of a new tree just those are kept whose pair is shared
-abbrev pub KeepsShared : Walked → Walked → Written → ℕ → Pairs → Marks → Under → Stored → Expect → Type 0
-KeepsShared old new written end pairs marked under stored root =
-    AllByRecursion (λ v. is_some (kept_of pairs marked (moves_between old new end) under v) ≡ is_shared old new written end (live_at new.sup stored v))
+-- of the blocks of a new tree just those are kept whose pair is shared, by tests of which blocks stay and which are touched
+abbrev pub KeepsSharedBy : (ℕ → Bool) → (ℕ → Bool) → Walked → Walked → Pairs → Marks → Under → Stored → Expect → Type 0
+KeepsSharedBy stays touched old new pairs marked under stored root =
+    AllByRecursion (λ v. is_some (kept_of pairs marked (λ a. not (stays a)) under v) ≡ is_shared_by stays touched old new (live_at new.sup stored v))
     (visited new.sup stored root)
+
+-- the same, by what writes touch
+abbrev pub KeepsShared : Walked → Walked → Written → ℕ → Pairs → Marks → Under → Stored → Expect → Type 0
+KeepsShared old new written end = KeepsSharedBy (stays_between old new end) (touches_old old written end) old new
 
 -- just those blocks of an old tree are marked which writes touch, or which are above a touched one
 abbrev pub MarksTouched : Walked → Written → ℕ → Marks → Tree → Type 0
 MarksTouched old written end marked tree = AreMarked marked (touches_old old written end) old.sup tree.0 tree.1
 
--- the same, and what is stored now is what was stored where no write touches a block and it did not move
-pub record IsBefore (old new : Walked) (written : Written) (end : ℕ) (marked : Marks) (now : Stored) (tree : Tree) : Type 0 where
-  pub marks : MarksTouched old written end marked tree
-  pub alike : AreUntouched (touches_old old written end) (moves_between old new end) tree.0 now
+-- just those blocks of an old tree are marked which are touched, or which are above a touched one; and what is stored now is what was stored
+-- where a block is not touched and stays
+pub record IsBefore (stays touched : ℕ → Bool) (old : Walked) (marked : Marks) (now : Stored) (tree : Tree) : Type 0 where
+  pub marks : AreMarked marked touched old.sup tree.0 tree.1
+  pub alike : AreUntouched touched (λ a. not (stays a)) tree.0 now
 
--- Of a new tree just the shared blocks are kept. The old trees have different ids, and the old tree of the new one's id, if there is one,
--- is marked and stored now where it is untouched. The table has the old pairs of that id, and the new table stands for the new tree.
+-- Of a new tree just the shared blocks are kept, whatever tests say which blocks stay and which are touched. The old trees have different ids,
+-- and the old tree of the new one's id, if there is one, is marked and stored now where it is untouched. The table has the old pairs of that
+-- id, and the new table stands for the new tree.
 abbrev pub KeptTreeLaw : Type 0
-KeptTreeLaw = (old new : Walked) (trees : List Tree) (written : Written) (end : ℕ) (pairs : Pairs) (marked : Marks) (under : Under)
+KeptTreeLaw = (stays touched : ℕ → Bool) (old new : Walked) (trees : List Tree) (pairs : Pairs) (marked : Marks) (under : Under)
     (stored : Stored) (root : Expect)
     → AreApart trees → each (λ tree. walk_of old.sup tree.0 tree.1) trees ≡ Ok old.seen
     → Stands (table_of (live_in new.seen)) new.sup stored root → root.high ≡ None → are_read_alike old.sup new.sup ≡ true
     → ((address : ℕ) → pairs root.tree address ≡ table_of (live_in old.seen) root.tree address)
-    → AllByRecursion (λ tree. tree.1.tree ≡ root.tree → IsBefore old new written end marked stored tree) trees
-    → KeepsShared old new written end pairs marked under stored root
+    → AllByRecursion (λ tree. tree.1.tree ≡ root.tree → IsBefore stays touched old marked stored tree) trees
+    → KeepsSharedBy stays touched old new pairs marked under stored root
 
 -- a walk comes to the same blocks by what is stored and by what else is, and gives the same
 pub record WalksAlike (sup : Super) (stored other : Stored) (root : Expect) : Type 0 where
