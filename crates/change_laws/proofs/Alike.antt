@@ -21,7 +21,7 @@ use Rattle.records.specs.Walk.{entry_records, leaf_records, pointer_records}
 use Rattle.touched_pairs.specs.Touched.{Written, stays_in_place, touches_block, written_in}
 use Rattle.shared_trees.specs.LivePairs.{Walked, live_in, live_of, records_in}
 use Rattle.shared_trees.specs.MergedLaw.{items}
-use Rattle.shared_trees.specs.Shared.{are_alike, are_read_alike, at_or_below, is_block_where, is_shared, stands_untouched}
+use Rattle.shared_trees.specs.Shared.{are_alike, are_read_alike, at_or_below, is_block_where, is_shared, is_shared_by, stands_untouched}
 use Rattle.shared_trees.specs.Skips.{own_of}
 use Rattle.shared_trees.proofs.Accepted.{IsAs}
 use Rattle.shared_trees.proofs.Bounds.{and_parts}
@@ -141,7 +141,7 @@ pub record IsShared (old new : Walked) (written : Written) (end : ℕ) (live : L
 
 pub shared_is : (old new : Walked) (written : Written) (end : ℕ) (live : Live) → is_shared old new written end live ≡ true
     → IsShared old new written end live
-unfolding is_shared
+unfolding is_shared_by
 shared_is old new written end live is =
     let touched = touches_block written old.chunks old.sup.nodesize end in
     let stays = stays_in_place old.chunks new.chunks old.sup.nodesize end live.address in

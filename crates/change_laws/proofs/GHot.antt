@@ -9,7 +9,7 @@ use Rattle.live_index.specs.declared.live.Live.{Live}
 use Rattle.records.specs.Seen.{Seen}
 use Rattle.records.specs.Seen.Seen.{BlockSeen, ItemSeen, PointerSeen}
 use Rattle.shared_trees.specs.LivePairs.{Walked, live_in, live_of, records_in}
-use Rattle.shared_trees.specs.Shared.{are_alike, are_read_alike, at_or_below, is_block_where, is_shared, stands_untouched, unshared_in}
+use Rattle.shared_trees.specs.Shared.{are_alike, are_read_alike, at_or_below, is_block_where, is_shared, is_shared_by, stands_untouched, unshared_in}
 use Rattle.shared_trees.specs.SharedLaw.{touches_old}
 use Rattle.touched_pairs.specs.Touched.{Written, stays_in_place, touches_block}
 use Rattle.change_laws.specs.Flags.{HotLaw, is_hot}
@@ -50,7 +50,7 @@ pub record IsShared (old new : Walked) (written : Written) (end : ℕ) (live : L
 
 pub shared_is : (old new : Walked) (written : Written) (end : ℕ) (live : Live) → is_shared old new written end live ≡ true
     → IsShared old new written end live
-unfolding is_shared
+unfolding is_shared_by
 shared_is old new written end live is =
     let stays = stays_in_place old.chunks new.chunks old.sup.nodesize end live.address in
     let stands = stands_untouched (touches_old old written end) old.seen live in

@@ -18,6 +18,7 @@ use Rattle.shared_trees.specs.LivePairs.{Walked, live_in, walked}
 use Rattle.shared_trees.specs.MergedLaw.{items}
 use Rattle.shared_trees.specs.Shared.{are_alike, is_shared}
 use Rattle.shared_trees.specs.Unshared.{items_in}
+use Rattle.shared_trees.specs.SharedLaw.{stays_between, touches_old}
 use Rattle.shared_trees.proofs.OldTells.{shared_alike}
 use Rattle.shared_trees.proofs.Picking.{each_map}
 use Rattle.shared_trees.proofs.Trails.{Visit}
@@ -156,7 +157,7 @@ module _ (image : List ℕ) (pending : FinMap nat_cmp ℕ) (old new : Walked) (w
       (test judged new is shared) some g.blocks.visits g.blocks.own
       (subst (λ lives. list_any (are_alike (old_at p.v)) lives ≡ true) g.blocks.pairs s.is)
       (λ w own near. (
-        sym (shared_alike old new (written_in pending) (length image) (old_at p.v) (new_at w) near) ∙ p.passes,
+        sym (shared_alike (stays_between old new (length image)) (touches_old old (written_in pending) (length image)) old new (old_at p.v) (new_at w) near) ∙ p.passes,
         sym (block_same image pending old new p.v w p.has own near s) ∙ p.is,
       ))
 
@@ -174,7 +175,7 @@ module _ (image : List ℕ) (pending : FinMap nat_cmp ℕ) (old new : Walked) (w
       (subst (λ lives. list_any (λ one. are_alike one (new_at p.v)) lives ≡ true) f.blocks.pairs s.was)
       (λ v own near.
       let passes : shared (old_at v) ≡ true =
-      shared_alike old new (written_in pending) (length image) (old_at v) (new_at p.v) near ∙ p.passes in (
+      shared_alike (stays_between old new (length image)) (touches_old old (written_in pending) (length image)) old new (old_at v) (new_at p.v) near ∙ p.passes in (
         passes,
         block_same image pending old new v p.v own p.has near (shared_is old new (written_in pending) (length image) (old_at v) passes) ∙ p.is,
       ))

@@ -15,7 +15,7 @@ use Rattle.records.specs.Part.{Located}
 use Rattle.touched_pairs.specs.Touched.{Written, stays_in_place, touches_block, written_in}
 use Rattle.shared_trees.specs.LivePairs.{Walked, live_in, walked}
 use Rattle.shared_trees.specs.MergedLaw.{items}
-use Rattle.shared_trees.specs.Shared.{are_alike, are_read_alike, is_shared, stands_untouched, unshared_in}
+use Rattle.shared_trees.specs.Shared.{are_alike, are_read_alike, is_shared, is_shared_by, stands_untouched, unshared_in}
 use Rattle.shared_trees.specs.Unshared.{items_in}
 use Rattle.shared_trees.proofs.Trails.{Visit}
 use Rattle.change_laws.specs.Items.{items_of}
@@ -129,7 +129,7 @@ none_pass pass none (x ∷ xs) = rw (none x) (none_pass pass none xs)
 
 pub none_shared : (old new : Walked) (written : Written) (end : ℕ) → are_read_alike old.sup new.sup ≡ false → (live : Live)
     → is_shared old new written end live ≡ false
-unfolding is_shared
+unfolding is_shared_by
 none_shared old new written end other live =
     ap (λ b. b && (stays_in_place old.chunks new.chunks old.sup.nodesize end live.address
     && (stands_untouched (touches_block written old.chunks old.sup.nodesize end) old.seen live

@@ -30,7 +30,7 @@ use Rattle.touched_pairs.specs.Touched.{stays_in_place, written_in}
 use Rattle.shared_trees.specs.ArrayLaw.{EachByArray, HasArray, IsAsByAll, moves_by}
 use Rattle.shared_trees.specs.Keeping.{IsKnown, OneOf, Stands, comes_to, live_at}
 use Rattle.shared_trees.specs.LivePairs.{Walked, live_in, table_of, walked}
-use Rattle.shared_trees.specs.Shared.{are_alike, are_read_alike, is_shared, stands_untouched}
+use Rattle.shared_trees.specs.Shared.{are_alike, are_read_alike, is_shared, is_shared_by, stands_untouched}
 use Rattle.shared_trees.specs.SharedLaw.{HasTrees, MarksTouched, moves_between, touches_old}
 use Rattle.shared_trees.specs.TableLaw.{Tree, trees_in}
 use Rattle.shared_trees.proofs.Accepted.{accepts}
@@ -217,7 +217,7 @@ module _ (image : List ℕ) (pending : FinMap nat_cmp ℕ) (old new : Walked) wh
 
   -- a pair of which the block moved
   moved_apart : (live : Live) → moves_between old new (length image) live.address ≡ true → not (shares live) ≡ true
-  unfolding is_shared
+  unfolding is_shared_by
   moved_apart live is =
       by (are_read_alike old.sup new.sup) (stays_in_place old.chunks new.chunks old.sup.nodesize (length image) live.address)
       (stands_untouched (touches_old old (written_in pending) (length image)) old.seen live && list_any (are_alike live) (live_in new.seen)) is
@@ -230,7 +230,7 @@ module _ (image : List ℕ) (pending : FinMap nat_cmp ℕ) (old new : Walked) wh
   -- a pair that is alike to no untouched block
   touched_apart : (live : Live) → stands_untouched (touches_old old (written_in pending) (length image)) old.seen live ≡ false
       → not (shares live) ≡ true
-  unfolding is_shared
+  unfolding is_shared_by
   touched_apart live is =
       by (are_read_alike old.sup new.sup) (stays_in_place old.chunks new.chunks old.sup.nodesize (length image) live.address)
       (stands_untouched (touches_old old (written_in pending) (length image)) old.seen live) (list_any (are_alike live) (live_in new.seen)) is
@@ -388,7 +388,7 @@ module _ (image : List ℕ) (pending : FinMap nat_cmp ℕ) (old new : Walked) (p
   -- blocks are read alike where a pair is shared, and it is live in the new image
   live_too : (live : Live) → shares image pending old new live ≡ true
       → (are_read_alike old.sup new.sup ≡ true) × (list_any (are_alike live) (live_in new.seen) ≡ true)
-  unfolding is_shared
+  unfolding is_shared_by
   live_too live is =
       by (are_read_alike old.sup new.sup) (stays_in_place old.chunks new.chunks old.sup.nodesize (length image) live.address)
       (stands_untouched (touches_old old (written_in pending) (length image)) old.seen live) (list_any (are_alike live) (live_in new.seen)) is

@@ -23,7 +23,7 @@ use Rattle.touched_pairs.specs.Touched.{Written, same_place, stays_in_place, tou
 use Rattle.shared_trees.specs.ArrayLaw.{HasArray, IsAsByAll}
 use Rattle.shared_trees.specs.Keeping.{live_at}
 use Rattle.shared_trees.specs.LivePairs.{Walked, live_in}
-use Rattle.shared_trees.specs.Shared.{are_alike, are_read_alike, is_shared, stands_untouched}
+use Rattle.shared_trees.specs.Shared.{are_alike, are_read_alike, is_shared, is_shared_by, stands_untouched}
 use Rattle.shared_trees.specs.ShiftedLaw.{is_shifted}
 use Rattle.shared_trees.proofs.ArrayPlaces.{as_by_all}
 use Rattle.shared_trees.proofs.Bounds.{and_parts}
@@ -60,7 +60,7 @@ shifted_same id records seen of live is =
 pub alone_same : (image : List ℕ) (old new : Walked) (written : Written) (end id : ℕ) (news : List Seen) → IsOf id news new.seen
     → (live : Live) → live.tree ≡ id → is_shared old
     (alone (side_by image new new.chunks) news) written end live ≡ is_shared old new written end live
-unfolding is_shared
+unfolding is_shared_by
 alone_same image old new written end id news of live is =
     ap (λ t. are_read_alike old.sup new.sup && (stays_in_place old.chunks new.chunks old.sup.nodesize end live.address
     && (stands_untouched (touches_block written old.chunks old.sup.nodesize end) old.seen live && t)))
@@ -103,7 +103,7 @@ module _ (image : List ℕ) (pending : FinMap nat_cmp ℕ) (old new : Walked) (a
       → (live : Live) → live.tree ≡ 3
       → is_shared old (alone (side_by judged new array) news) (written_in pending) (length image) live
       ≡ is_shared old new (written_in pending) (length image) live
-  unfolding is_shared
+  unfolding is_shared_by
   array_same news walk of live is =
       ap (λ t. are_read_alike old.sup new.sup && (stays array && (untouched && t))) any
       ∙ by (are_read_alike old.sup new.sup) refl (list_any (are_alike live) (live_in new.seen)) refl

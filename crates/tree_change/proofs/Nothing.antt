@@ -22,7 +22,7 @@ use Rattle.shared_trees.specs.LivePairs.{Walked, live_in, table_of}
 use Rattle.shared_trees.specs.Meeting.{met_in}
 use Rattle.shared_trees.specs.MergedLaw.{IsInOrder, begins_before, chunks_seen, items, roots_seen}
 use Rattle.shared_trees.specs.OldSide.{IsRoot, kept_at}
-use Rattle.shared_trees.specs.Shared.{is_shared}
+use Rattle.shared_trees.specs.Shared.{is_shared_by}
 use Rattle.shared_trees.specs.SharedLaw.{HasTrees}
 use Rattle.shared_trees.specs.ShiftedLaw.{is_shifted}
 use Rattle.shared_trees.specs.TableLaw.{Tree}
@@ -118,7 +118,7 @@ module _ (image : List ℕ) (pending : FinMap nat_cmp ℕ) (old : Walked) (trees
     (nothing_is : KnowsNothing old is known) where
   -- no pair is shared
   free : (news : List Seen) (live : Live) → shares image pending old is news live ≡ false
-  unfolding is_shared
+  unfolding is_shared_by
   free news live = and_false _ _ nothing_is.other
 
   -- the old tree, or none

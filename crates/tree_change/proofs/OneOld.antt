@@ -19,8 +19,7 @@ use Rattle.records.specs.Contents.{named_root}
 use Rattle.records.specs.Seen.{Seen}
 use Rattle.records.specs.Walk.{Records, behind, each, then_records, walk_in, walk_of}
 use Rattle.records.specs.WalkLaw.{visited}
-use Rattle.touched_pairs.specs.Moves.{is_moved}
-use Rattle.touched_pairs.specs.Touched.{written_in}
+use Rattle.touched_pairs.specs.Touched.{stays_in_place, written_in}
 use Rattle.shared_trees.specs.Ending.{Ends}
 use Rattle.shared_trees.specs.KeepingWalk.{skip_in}
 use Rattle.shared_trees.specs.Keeping.{AreListed, AreMarked, AreUntouched, Marks, Stands, Under, anew_of, kept_of, live_at, starts_of}
@@ -127,8 +126,11 @@ module _ (image : List ℕ) (pending : FinMap nat_cmp ℕ) (old : Walked) (trees
   abbrev pub was : Stored
   was = stored_in image old.chunks old.sup.nodesize
 
+  abbrev pub stays : ℕ → Bool
+  stays = stays_in_place old.chunks is.chunks old.sup.nodesize (length image)
+
   abbrev pub moved : ℕ → Bool
-  moved = is_moved old.chunks is.chunks old.sup.nodesize (length image)
+  moved a = not (stays a)
 
   abbrev pub touched : ℕ → Bool
   touched = touches_old old (written_in pending) (length image)
@@ -207,12 +209,12 @@ module _ (image : List ℕ) (pending : FinMap nat_cmp ℕ) (old : Walked) (trees
 
       kept_shared : AllByRecursion (λ v. is_some (K v) ≡ shared (live_at is.sup stored v)) (visited is.sup stored now)
       kept_shared =
-          keeps_tree old (alone is news) trees (written_in pending) (length image) table marked under stored now o.apart o.walks
+          keeps_tree stays touched old (alone is news) trees table marked under stored now o.apart o.walks
           (tree_table is.sup stored now news walk) o.high o.alike (λ address. o.tables_are now.tree address)
-          (each_map (λ (t : Tree). t.1.tree ≡ before.tree → IsBefore old (alone is news) (written_in pending) (length image) marked stored t)
-          (λ (t : Tree). t.1.tree ≡ now.tree → IsBefore old (alone is news) (written_in pending) (length image) marked stored t) trees
+          (each_map (λ (t : Tree). t.1.tree ≡ before.tree → IsBefore stays touched old marked stored t)
+          (λ (t : Tree). t.1.tree ≡ now.tree → IsBefore stays touched old marked stored t) trees
           (λ t h id. h (id ∙ o.same))
-          (only_one (IsBefore old (alone is news) (written_in pending) (length image) marked stored) (old_tree image old before) trees o.apart o.among
+          (only_one (IsBefore stays touched old marked stored) (old_tree image old before) trees o.apart o.among
           (record { marks = o.marks; alike = o.alike_stored })))
 
       new : IsNew pairs K (anew_of under) (lasts_by known) shared is.sup stored now news
@@ -237,7 +239,7 @@ module _ (image : List ℕ) (pending : FinMap nat_cmp ℕ) (old : Walked) (trees
       tells : TellsShared shared K old.sup stored now
       tells =
           let alike = give_alike old.sup is.sup o.alike in
-          (tells_shared old (alone is news) (written_in pending) (length image) K old.sup ((stored, now) ∷ []) (tt, tt)
+          (tells_shared stays touched old (alone is news) K old.sup ((stored, now) ∷ []) (tt, tt)
           (one_walk (walk_of old.sup stored now) news walk_old)).0
           (record {
             fine = rw walk_old refl;

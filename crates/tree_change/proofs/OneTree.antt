@@ -21,7 +21,7 @@ use Rattle.shared_trees.specs.LivePairs.{Walked, live_in, table_of}
 use Rattle.shared_trees.specs.MovedLaw.{is_other_than}
 use Rattle.shared_trees.specs.OldSide.{IsRoot}
 use Rattle.shared_trees.specs.Shared.{are_read_alike}
-use Rattle.shared_trees.specs.SharedLaw.{HasTrees, IsBefore}
+use Rattle.shared_trees.specs.SharedLaw.{HasTrees, IsBefore, stays_between, touches_old}
 use Rattle.shared_trees.specs.ShiftedLaw.{is_shifted}
 use Rattle.shared_trees.specs.Skips.{Kept}
 use Rattle.shared_trees.specs.TableLaw.{Tree}
@@ -93,13 +93,13 @@ module _ (image : List ℕ) (pending : FinMap nat_cmp ℕ) (old : Walked) (trees
   none_shared news walk =
       let all = trees_walk image old trees has in
       let shared = shares image pending old is news in
-      let B = IsBefore old (alone is news) (written_in pending) (length image) marked stored in
+      let B = IsBefore (stays_between old (alone is news) (length image)) (touches_old old (written_in pending) (length image)) old marked stored in
       each_map (λ v. (v.tree ≡ now.tree) × (is_some (K v) ≡ shared (live_at is.sup stored v))) (λ v. shared (live_at is.sup stored v) ≡ false)
       (visited is.sup stored now)
       (λ v h. sym h.1 ∙ ap (λ (k : Option Key). is_some k) (none_kept v h.0))
       (each_both (λ v. v.tree ≡ now.tree) (λ v. is_some (K v) ≡ shared (live_at is.sup stored v)) (visited is.sup stored now)
       (of_root is.sup (stored, now) (rw walk refl)).each
-      (keeps_tree old (alone is news) trees (written_in pending) (length image) table marked under stored now all.0 all.1
+      (keeps_tree (stays_between old (alone is news) (length image)) (touches_old old (written_in pending) (length image)) old (alone is news) trees table marked under stored now all.0 all.1
       (tree_table is.sup stored now news walk) high alike (λ address. tables_are now.tree address)
       (each_map (λ (t : Tree). (t.1.tree == now.tree) ≡ false) (λ t. t.1.tree ≡ now.tree → B t) trees
       (λ t other same. absurd (other_id t.1.tree now.tree other same)) others)))

@@ -29,6 +29,7 @@ use Rattle.shared_trees.specs.Skips.{Kept, nothing, skip_of, unkept}
 use Rattle.shared_trees.specs.TableLaw.{AreApart, Tree}
 use Rattle.shared_trees.specs.Unshared.{is_block_seen, items_in, pair_seen}
 use Rattle.shared_trees.specs.declared.starts.Start.{Start}
+use Rattle.shared_trees.specs.SharedLaw.{stays_between, touches_old}
 use Rattle.shared_trees.proofs.Forest.{NoneOf, stands_as, tables_stand, walks}
 use Rattle.shared_trees.proofs.OldBlocks.{unshared_are}
 use Rattle.shared_trees.proofs.OldTells.{gone}
@@ -129,7 +130,7 @@ module _ (image : List ℕ) (pending : FinMap nat_cmp ℕ) (old new : Walked) (t
 
       gone_one : (live : Live) → live.tree ≡ e.tree → shared live ≡ false
       gone_one live at =
-          gone old new (written_in pending) (length image) new.sup afters live afters_apart afters_walk
+          gone (stays_between old new (length image)) (touches_old old (written_in pending) (length image)) old new new.sup afters live afters_apart afters_walk
           (subst (λ id. NoneOf new.sup id afters) (sym at) none)
 
       stands : Stands pairs old.sup stored e
