@@ -95,6 +95,38 @@ fn the_items_that_differ_are_paired(rt: HostRuntime) -> Result<(), NoMemory> {
     Ok(())
 }
 
+// The entry of a directory, a file, whose name of twenty bytes ends with this byte.
+fn long_entry(alloc: Global, last: u8) -> Result<ItemAt, NoMemory> {
+    let mut bytes = [97; 50];
+    bytes[8] = 1;
+    bytes[27] = 20;
+    bytes[28] = 0;
+    bytes[29] = 1;
+    bytes[49] = last;
+    let key = key(256, 96, 2);
+    let bytes = ItemBytes::of(alloc, &bytes)?;
+    let part = OwnedRec::DirItem { key, bytes };
+    Ok(ItemAt {
+        tree: 5,
+        block: 0,
+        key,
+        part,
+    })
+}
+
+#[test]
+fn the_last_byte_of_a_longer_item_is_compared(rt: HostRuntime) -> Result<(), NoMemory> {
+    let old = [long_entry(rt.alloc(), 98)?];
+    let new = [long_entry(rt.alloc(), 99)?];
+    let changes = pair(rt.alloc(), &old, &new)?;
+    assert_eq!(rt;
+        changes.as_slice(),
+        [ItemChange::Altered { old: 0, new: 0 }].as_slice()
+    );
+    assert_eq!(rt; pair(rt.alloc(), &old, &old)?.len(), 0);
+    Ok(())
+}
+
 // The entry `a` of a directory, a file, with this byte where the generation stands.
 fn entry(alloc: Global, generation: u8) -> Result<ItemAt, NoMemory> {
     let mut bytes = [0; 31];
