@@ -3,8 +3,8 @@
 # - A settle that rewrites one leaf of the file tree with its own bytes, on a volume of 2,000 small files and on one of 200,000: microseconds
 #   each, and the ratio.
 # - The start of a replay beside `recon check`: seconds, peak memory, and the ratio; the bytes of the index beside those of the metadata.
-# - A made workload of 200 commits, replayed, beside a program in C that reads its trace, writes its bytes and flushes as often: the time that
-#   passes, which has the waits for the flushes in it, and the processor time; the least of five runs of each in turns.
+# - Ten made workloads of 200 commits each, replayed, beside a program in C that reads their traces, writes their bytes and flushes as often:
+#   the time that passes, which has the waits for flushes in it, and the processor time; the sums of the least of five runs of each in turns.
 # Usage: bench/commits.sh [FOLDER]    FOLDER has, or gets, the two volumes few.img and many.img; PROGRAM names a built program that is
 # timed in place of that of this repository. It needs btrfs-progs, python3 and gcc.
 set -eu
@@ -128,32 +128,37 @@ for name in ('few', 'many'):
           f'{start / max(check, 0.01):.2f} times; index {(peak - check_peak) / 2**20:.1f} MiB more than the check, metadata {blocks * BLOCK / 2**20:.1f} MiB', flush=True)
 print(f"a settle of one leaf: {each['many'] / each['few']:.2f} times on the larger volume")
 image, trace = f'{scratch}/made.img', f'{scratch}/made.trace'
-with open(image, 'wb') as out:
-    out.truncate(32 << 20)
-with open(trace, 'wb') as out:
-    subprocess.run([program, 'make', '7', '200', image], stdout=out, check=True)
-with open(image, 'rb') as given:
-    first = given.read()
-least = {}
-for _ in range(5):
-    for side, words in ('replay', [program, 'replay', image]), ('plain', [f'{scratch}/plain', image]):
-        with open(image, 'wb') as out:
-            out.write(first)
-        with open(trace, 'rb') as given:
-            began = time.monotonic()
-            child = subprocess.Popen(words, stdin=given, stdout=subprocess.DEVNULL)
-            used = os.wait4(child.pid, 0)
-            passed = time.monotonic() - began
-        if used[1]:
-            sys.exit(f'commits.sh: {side} ended with {used[1]}')
-        spent = used[2].ru_utime + used[2].ru_stime
-        least[side] = min(least.get(side, spent), spent)
-        least[side + ' passed'] = min(least.get(side + ' passed', passed), passed)
-        with open(image, 'rb') as left:
-            least[side + ' left'] = left.read()
-if least['replay left'] != least['plain left']:
-    sys.exit('commits.sh: the two sides left other images')
-print(f'200 commits of a made workload: {least["replay passed"]:.3f} s, a plain reader and writer {least["plain passed"]:.3f}: '
-      f'{least["replay passed"] / least["plain passed"]:.2f} times; of processor time {least["replay"]:.3f} s and {least["plain"]:.3f}: '
-      f'{least["replay"] / least["plain"]:.2f} times; trace of {os.path.getsize(trace) / 2**20:.1f} MiB')
+total, size = {}, 0
+for seed in range(1, 11):
+    with open(image, 'wb') as out:
+        out.truncate(32 << 20)
+    with open(trace, 'wb') as out:
+        subprocess.run([program, 'make', str(seed), '200', image], stdout=out, check=True)
+    with open(image, 'rb') as given:
+        first = given.read()
+    size += os.path.getsize(trace)
+    least = {}
+    for _ in range(5):
+        for side, words in ('replay', [program, 'replay', image]), ('plain', [f'{scratch}/plain', image]):
+            with open(image, 'wb') as out:
+                out.write(first)
+            with open(trace, 'rb') as given:
+                began = time.monotonic()
+                child = subprocess.Popen(words, stdin=given, stdout=subprocess.DEVNULL)
+                used = os.wait4(child.pid, 0)
+                passed = time.monotonic() - began
+            if used[1]:
+                sys.exit(f'commits.sh: {side} ended with {used[1]}')
+            spent = used[2].ru_utime + used[2].ru_stime
+            least[side] = min(least.get(side, spent), spent)
+            least[side + ' passed'] = min(least.get(side + ' passed', passed), passed)
+            with open(image, 'rb') as left:
+                least[side + ' left'] = left.read()
+    if least['replay left'] != least['plain left']:
+        sys.exit('commits.sh: the two sides left other images')
+    for side in 'replay', 'plain', 'replay passed', 'plain passed':
+        total[side] = total.get(side, 0) + least[side]
+print(f'2,000 commits of made workloads: {total["replay passed"]:.3f} s, a plain reader and writer {total["plain passed"]:.3f}: '
+      f'{total["replay passed"] / total["plain passed"]:.2f} times; of processor time {total["replay"]:.3f} s and {total["plain"]:.3f}: '
+      f'{total["replay"] / total["plain"]:.2f} times; traces of {size / 2**20:.1f} MiB')
 PYTHON
