@@ -14,6 +14,7 @@ trap 'rm -rf "$scratch"' EXIT
 folder=${1:-$scratch}
 program=${PROGRAM:-}
 if [ -z "$program" ]; then
+  echo "check.sh: builds the program, which takes up to an hour where none of its crates is built" >&2
   (cd crates/recon && rt run -- check data/short.img < /dev/null > /dev/null 2>&1) || true
   program=$PWD/crates/recon/out/recon
 fi

@@ -8,6 +8,7 @@ folder=$(mktemp -d)
 trap 'rm -rf "$folder"' EXIT
 program=${RECON:-$PWD/crates/recon/out/recon}
 if [ ! -x "$program" ]; then
+  echo "fetch.sh: builds the program, which takes up to an hour where none of its crates is built" >&2
   (cd crates/recon && rt run -- check data/short.img < /dev/null > /dev/null 2>&1) || true
 fi
 python3 examples/base_image.py "$folder/small.img"
