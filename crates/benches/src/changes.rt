@@ -4,6 +4,7 @@
 
 use change_records::pair;
 use fs_items::InodeItem;
+use image_maker::dir_entry;
 use records::{ItemAt, ItemBytes, OwnedRec};
 use std::alloc::Global;
 use std::io;
@@ -73,12 +74,9 @@ fn inode(key: Key, other: u8) -> OwnedRec {
 
 /// A directory entry with a name of 20 bytes.
 fn entry(alloc: Global, key: Key, other: u8) -> Result<OwnedRec, NoMemory> {
-    let mut bytes = [97; 50];
-    bytes[8] = 1;
-    bytes[27] = 20;
-    bytes[28] = 0;
-    bytes[29] = 1;
-    bytes[49] = other;
-    let bytes = ItemBytes::of(alloc, &bytes)?;
+    let mut name = [97; 20];
+    name[19] = other;
+    let bytes = dir_entry(alloc, key, 0, 1, &name)?;
+    let bytes = ItemBytes::of(alloc, bytes.as_slice())?;
     Ok(OwnedRec::DirItem { key, bytes })
 }

@@ -1,7 +1,10 @@
+ghost use Rattle.std.specs.Prelude.{◌<◌, ◌^◌, length};
+
 use crate::common::key;
 use change_records::{ItemChange, ItemRef, affected, pair};
 use chunk_map::{Bases, Chunk, ChunkMap};
 use fs_items::{FileExtent, InodeItem};
+use image_maker::dir_entry;
 use live_index::{Live, LiveIndex};
 use recon_disk::Steps;
 use records::{ItemAt, ItemBytes, OwnedRec};
@@ -95,16 +98,13 @@ fn the_items_that_differ_are_paired(rt: HostRuntime) -> Result<(), NoMemory> {
     Ok(())
 }
 
-// The entry of a directory, a file, whose name of twenty bytes ends with this byte.
-fn long_entry(alloc: Global, last: u8) -> Result<ItemAt, NoMemory> {
-    let mut bytes = [97; 50];
-    bytes[8] = 1;
-    bytes[27] = 20;
-    bytes[28] = 0;
-    bytes[29] = 1;
-    bytes[49] = last;
+// The entry of a directory with this name, which leads to inode 256 and has this generation.
+fn entry(alloc: Global, generation: u64, name: &[u8]) -> Result<ItemAt, NoMemory>
+    requires { length name.now < 2 ^ 16 }
+{
+    let bytes = dir_entry(alloc, key(256, 1, 0), generation, 1, name)?;
+    let bytes = ItemBytes::of(alloc, bytes.as_slice())?;
     let key = key(256, 96, 2);
-    let bytes = ItemBytes::of(alloc, &bytes)?;
     let part = OwnedRec::DirItem { key, bytes };
     Ok(ItemAt {
         tree: 5,
@@ -116,8 +116,8 @@ fn long_entry(alloc: Global, last: u8) -> Result<ItemAt, NoMemory> {
 
 #[test]
 fn the_last_byte_of_a_longer_item_is_compared(rt: HostRuntime) -> Result<(), NoMemory> {
-    let old = [long_entry(rt.alloc(), 98)?];
-    let new = [long_entry(rt.alloc(), 99)?];
+    let old = [entry(rt.alloc(), 7, b"a name of 20 bytes 1")?];
+    let new = [entry(rt.alloc(), 7, b"a name of 20 bytes 2")?];
     let changes = pair(rt.alloc(), &old, &new)?;
     assert_eq!(rt;
         changes.as_slice(),
@@ -127,30 +127,10 @@ fn the_last_byte_of_a_longer_item_is_compared(rt: HostRuntime) -> Result<(), NoM
     Ok(())
 }
 
-// The entry `a` of a directory, a file, with this byte where the generation stands.
-fn entry(alloc: Global, generation: u8) -> Result<ItemAt, NoMemory> {
-    let mut bytes = [0; 31];
-    bytes[1] = 1;
-    bytes[8] = 1;
-    bytes[17] = generation;
-    bytes[27] = 1;
-    bytes[29] = 1;
-    bytes[30] = 97;
-    let key = key(256, 96, 2);
-    let bytes = ItemBytes::of(alloc, &bytes)?;
-    let part = OwnedRec::DirItem { key, bytes };
-    Ok(ItemAt {
-        tree: 5,
-        block: 0,
-        key,
-        part,
-    })
-}
-
 #[test]
 fn bytes_that_no_reader_looks_at_are_no_change(rt: HostRuntime) -> Result<(), NoMemory> {
-    let old = [entry(rt.alloc(), 7)?];
-    let new = [entry(rt.alloc(), 8)?];
+    let old = [entry(rt.alloc(), 7, b"a")?];
+    let new = [entry(rt.alloc(), 8, b"a")?];
     assert_eq!(rt; pair(rt.alloc(), &old, &new)?.len(), 0);
     Ok(())
 }
