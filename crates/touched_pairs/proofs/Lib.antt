@@ -13,3 +13,4 @@ pub mod Moving
 pub mod Adding
 pub mod Gaps
 pub mod Telling
+pub mod Putting

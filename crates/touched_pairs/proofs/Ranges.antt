@@ -29,7 +29,7 @@ use Rattle.touched_pairs.proofs.Writing.{and_true, either, left_of, right_of}
 same_refl : (p : PairPlace) → same_pair p p ≡ true
 same_refl p = grind (arith, nat_tests)
 
-same_symm : (p q : PairPlace) → same_pair p q ≡ same_pair q p
+pub same_symm : (p q : PairPlace) → same_pair p q ≡ same_pair q p
 same_symm p q = grind (arith, nat_tests)
 
 same_congr : (p q r : PairPlace) → same_pair p q ≡ true → same_pair p r ≡ same_pair q r
@@ -39,7 +39,7 @@ same_congr p q r same =
     one : (p q : PairPlace) → p.tree ≡ q.tree → p.address ≡ q.address → p ≡ q
     one p q e f = ap (λ t. pair_place t p.address) e ∙ ap (λ a. pair_place q.tree a) f
 
-same_laws : IsEquivalence same_pair
+pub same_laws : IsEquivalence same_pair
 same_laws = record { refl = same_refl; symm = same_symm; congr = same_congr }
 
 any_alike : (f g : PairPlace → Bool) → ((p : PairPlace) → f p ≡ g p) → (places : List PairPlace) → list_any f places ≡ list_any g places

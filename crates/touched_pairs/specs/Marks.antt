@@ -1,5 +1,5 @@
 -- Marks on pairs of a tree and a block.
-use Rattle.std.specs.Prelude.{ℕ, ◌≡◌, Bool, true, false, ◌&&◌, ◌==◌, List, if◌then◌else◌}
+use Rattle.std.specs.Prelude.{ℕ, ◌≡◌, Bool, true, false, not, ◌&&◌, ◌==◌, List, if◌then◌else◌}
 use Rattle.std.specs.List.{list_any}
 use Rattle.std.specs.Ordering.{nat_cmp, ordering_then}
 use Rattle.std.specs.declared.cmp.Ordering.{Ordering}
@@ -51,3 +51,7 @@ AreAmong marked lives = (tree address : ℕ) → marked tree address ≡ true �
 -- these marks and that of one pair more
 abbrev pub with_mark : Marked → ℕ → ℕ → Marked
 with_mark marked t a tree address = if is_pair t a tree address then true else marked tree address
+
+-- these marks but for others
+abbrev pub left_of : Marked → Marked → Marked
+left_of others marked tree address = marked tree address && not (others tree address)

@@ -1,9 +1,9 @@
 //! Marks on pairs of a tree and a block.
 
-ghost use Rattle.std.specs.Prelude.{◌≡◌, ℕ, ◌+◌, ◌≤◌, ◌<◌, ◌^◌, false, List, length, vec_len, if◌then◌else◌, IfOk, OnOk, OnErr};
+ghost use Rattle.std.specs.Prelude.{◌≡◌, ℕ, ◌+◌, ◌≤◌, ◌<◌, ◌^◌, ◌||◌, false, List, length, vec_len, if◌then◌else◌, IfOk, OnOk, OnErr};
 ghost use Rattle.std.specs.List.Sorted.{IsStrictlySortedBy};
 ghost use Rattle.live_index.specs.declared.live.Live.{Live};
-ghost use Rattle.touched_pairs.specs.Marks.{AreAmong, by_pair, count_of, marked_by, marked_in, pair_place, with_mark};
+ghost use Rattle.touched_pairs.specs.Marks.{AreAmong, by_pair, count_of, left_of, marked_by, marked_in, pair_place, with_mark};
 
 use std::alloc::Global;
 use std::collections::BTreeSet;
@@ -56,6 +56,22 @@ impl Marks {
             Ok(_) => Ok(()),
             Err(_) => Err(NoMemory),
         }
+    }
+
+    /// Puts other marks to these. A list of the other marks meanwhile takes its memory from this allocator. Out of memory, some of them may
+    /// have been put.
+    pub fn join(&mut self, alloc: Global, other: &Marks) -> Result<(), NoMemory>
+        ensures ok { OnOk result ((tree address : ℕ) → marked_by self.new tree address ≡
+            (marked_by self.old tree address || marked_by other.now tree address)) }
+        ensures few { OnOk result ((lives : List Live) →
+            AreAmong (left_of (marked_by self.old) (marked_by other.now)) lives →
+            count_of self.new ≤ count_of self.old + length lives) }
+    {
+        let places = other.places(alloc)?;
+        for place in &places {
+            self.put(place.tree, place.address)?;
+        }
+        Ok(())
     }
 
     /// The marks are at most as many as live pairs among which each marked pair is. It costs no pass over the marks.

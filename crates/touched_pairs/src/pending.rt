@@ -1,7 +1,8 @@
 //! Pending writes, and the blocks of which they touch a copy.
 
+ghost use Rattle.std.specs.Prelude.{◌≡◌};
 ghost use Rattle.touched_pairs.specs.Spots.{AreSpotsOf};
-ghost use Rattle.touched_pairs.specs.Touched.{written_in};
+ghost use Rattle.touched_pairs.specs.Touched.{any_written, touches_block, written_in};
 
 use crate::spot::Spot;
 use crate::test::AddressTest;
@@ -33,22 +34,33 @@ impl<'a> AddressTest for Pending<'a> {
     /// Whether one of the writes touches a byte of a copy of the block at a logical address.
     #[tactic(auto, unfolding(crate::specs::Pending::touches))]
     fn passes(&self, address: u64) -> bool {
-        match self.map.place(address, u64::from(self.nodesize), self.end) {
-            Place::Nowhere => false,
-            Place::One(first) => self.touches_copy(first),
-            Place::Two(first, second) => self.touches_copy(first) || self.touches_copy(second),
+        is_touched(self.cache, self.map, self.nodesize, self.end, address)
+    }
+}
+
+/// Whether one of pending writes touches a byte of a copy of the block at a logical address. A block has `nodesize` bytes, and its copies
+/// stand by the chunks of `map` on a device of `end` bytes. It costs a search among the chunks, and one among the writes for each copy.
+pub(crate) fn is_touched(
+    cache: &WriteCache,
+    map: &ChunkMap,
+    nodesize: u32,
+    end: u64,
+    address: u64,
+) -> bool
+    ensures { result ≡ touches_block (written_in cache.now) map.now nodesize end address }
+{
+    match map.place(address, u64::from(nodesize), end) {
+        Place::Nowhere => false,
+        Place::One(first) => touches_copy(cache, nodesize, first),
+        Place::Two(first, second) => {
+            touches_copy(cache, nodesize, first) || touches_copy(cache, nodesize, second)
         }
     }
 }
 
-impl<'a> Pending<'a> {
-    ghost use Rattle.std.specs.Prelude.{◌≡◌};
-    ghost use Rattle.touched_pairs.specs.Touched.{any_written, written_in};
-
-    // Whether one of the writes touches a byte of the block that stands at an offset of the device.
-    fn touches_copy(&self, at: u64) -> bool
-        ensures { result ≡ any_written (written_in (self.now).cache.now) at (self.now).nodesize }
-    {
-        self.cache.touches(at, u64::from(self.nodesize))
-    }
+// Whether one of the writes touches a byte of the block that stands at an offset of the device.
+fn touches_copy(cache: &WriteCache, nodesize: u32, at: u64) -> bool
+    ensures { result ≡ any_written (written_in cache.now) at nodesize }
+{
+    cache.touches(at, u64::from(nodesize))
 }
