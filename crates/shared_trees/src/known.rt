@@ -19,15 +19,15 @@ use recon_disk::Steps;
 use touched_pairs::{AddressTest, Marks, Move};
 use verdict::{Key, NoMemory};
 
-/// What is known of a tree as it was: its live pairs, the marks of those that writes touch and of all above them, which blocks stand at
-/// another place now, and the children that moved or are above one that did. Each block that is asked for looks at most three times into
+/// What is known of a tree as it was: its live pairs, marks on those that are not kept, which blocks stand at another place now, and the
+/// children that are walked below kept blocks. Each block that is asked for looks at most three times into
 /// the table. Where it is kept its pair is at hand then: to meet it, and to tell its greatest key before another block is asked for, takes
 /// no look. The children of a node are asked for in the order of their keys: most look once, at the pair behind the one that was found last.
 #[derive(Drop)]
 pub struct KnownTree<'a, 's, L> {
     /// The live pairs.
     pub table: &'a LiveIndex<L>,
-    /// The pairs that a write touches, and all above them.
+    /// The pairs of which no block is kept.
     pub marks: &'a Marks,
     /// Which blocks stand at another place.
     pub moves: &'a Move<'a>,

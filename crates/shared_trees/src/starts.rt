@@ -48,7 +48,7 @@ impl Starts {
         }
     }
 
-    /// The children by a table of live pairs and by marks on those that moved and on all above them: each marked pair stands below
+    /// The children by a table of live pairs and by marks on some of them and on all above these: each marked pair stands below
     /// the node above it, in the order of the keys. It looks into the table up to three times for each mark. The children, and a
     /// list of the marks meanwhile, take their memory from this allocator.
     #[tactic(auto, using(crate::proofs::Listed::list_steps))]
