@@ -183,7 +183,7 @@ module _ (image : List ℕ) (old : Walked) (pairs : Pairs) (is : IsWalked image 
 -- ---- what is not shared
 
 -- what is left of a list has a pair of a tree and an address where the list has one and each such pair is left
-in_left : (keep : Live → Bool) (tree address : ℕ) (lives : List Live) → list_any (is_there tree address) lives ≡ true
+pub in_left : (keep : Live → Bool) (tree address : ℕ) (lives : List Live) → list_any (is_there tree address) lives ≡ true
     → ((live : Live) → live.tree ≡ tree → live.address ≡ address → keep live ≡ true) → in_lives (filter keep lives) tree address ≡ true
 in_left keep tree address [] some each = absurd (cc)
 in_left keep tree address (live ∷ lives) some each = by (is_there tree address live) (keep live) refl refl some (λ more. in_left keep tree address lives more each)
@@ -295,7 +295,7 @@ module _ (image : List ℕ) (pending : FinMap nat_cmp ℕ) (old new : Walked) wh
       none_all (tree ∷ trees) all = rw (none_free tree all.0) (none_all trees all.1)
 
     -- a pair to which the nodes above lead is one of the table
-    climbed : (tree to from : ℕ) → ClimbsTo pairs tree to from → is_some (pairs tree from) ≡ true → is_some (pairs tree to) ≡ true
+    pub climbed : (tree to from : ℕ) → ClimbsTo pairs tree to from → is_some (pairs tree from) ≡ true → is_some (pairs tree to) ≡ true
     climbed tree to _ Here some = some
     climbed tree to _ (Up from live up known above way) some = climbed tree to live.parent way (up_some (pairs tree live.parent) above)
       where

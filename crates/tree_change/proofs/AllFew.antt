@@ -1,9 +1,9 @@
 -- The looks for all that changes from an accepted image to another are few, by what changes.
-use Rattle.std.proofs.Common.{◌≡◌, ℕ, ◌+◌, ◌*◌, ◌≤◌, ◌<◌, ◌==◌, ◌⊎◌, inl, inr, not, Bool, true, false, List, [], ◌∷◌, length, refl, ap, sym, subst, ◌∙◌, arith, if◌then◌else◌}
+use Rattle.std.proofs.Common.{◌≡◌, ℕ, ◌+◌, ◌*◌, ◌≤◌, ◌<◌, ◌==◌, ◌⊎◌, inl, inr, ◌&&◌, ◌^◌, not, Bool, true, false, List, [], ◌∷◌, length, refl, ap, sym, subst, ◌∙◌, arith, if◌then◌else◌}
 use Rattle.std.proofs.lemmas.Bool.{eqb-true}
 use Rattle.std.proofs.lemmas.List.Sorted.{length_permutation, sum_by-IsPermutation}
 use Rattle.std.specs.Prelude.{Option, Some, None, Result, Ok, Err, is_some, map}
-use Rattle.std.specs.List.{AllByRecursion, fold, sum_by}
+use Rattle.std.specs.List.{AllByRecursion, filter, fold, sum_by}
 use Rattle.std.specs.List.Sorted.{IsPermutation}
 use Rattle.verdict.specs.Chunks.{place}
 use Rattle.verdict.specs.Items.{is_multiple}
@@ -11,7 +11,7 @@ use Rattle.verdict.specs.Rules.{finding_or}
 use Rattle.verdict.specs.declared.finding.Finding.{Finding}
 use Rattle.verdict.specs.declared.place.Chunk.{Chunk}
 use Rattle.write_cache.specs.Pieces.{ArePiecesOf, Piece}
-use Rattle.live_index.specs.Pairs.{Pairs, no_pairs}
+use Rattle.live_index.specs.Pairs.{AreNarrow, Pairs, no_pairs}
 use Rattle.live_index.specs.Table.{pairs_of}
 use Rattle.live_index.specs.declared.live.Live.{Live}
 use Rattle.node_reader.specs.Stored.{bytes_at, stored_in}
@@ -28,14 +28,14 @@ use Rattle.touched_pairs.specs.Looks.{ArePlaced, NoneMeet, copies_of, has_place}
 use Rattle.touched_pairs.specs.Marking.{AreLow, AreMarked, ClimbsTo, HaveEach, marks_for}
 use Rattle.touched_pairs.specs.Marks.{AreAmong, count_of, in_lives, marked_by, no_mark}
 use Rattle.touched_pairs.specs.Moves.{AreApart, is_moved}
-use Rattle.touched_pairs.specs.OneTree.{of_tree}
+use Rattle.touched_pairs.specs.OneTree.{in_tree, of_tree}
 use Rattle.touched_pairs.specs.Spots.{at_address}
 use Rattle.touched_pairs.specs.Touched.{same_place, touches_block, written_in}
 use Rattle.shared_trees.specs.ArrayLaw.{HasArray, IsAsByAll}
 use Rattle.shared_trees.specs.Keeping.{live_at}
 use Rattle.shared_trees.specs.LivePairs.{Walked, live_in, walked}
-use Rattle.shared_trees.specs.Shared.{are_read_alike, unshared_in}
-use Rattle.shared_trees.specs.ShiftedLaw.{shifted_in}
+use Rattle.shared_trees.specs.Shared.{are_read_alike, is_shared, unshared_in}
+use Rattle.shared_trees.specs.ShiftedLaw.{is_shifted, shifted_in}
 use Rattle.shared_trees.specs.TableLaw.{Tree, trees_in}
 use Rattle.shared_trees.specs.VisitsLaw.{entries_at, entries_in}
 use Rattle.shared_trees.proofs.ArrayPlaces.{as_by_all}
@@ -52,9 +52,11 @@ use Rattle.tree_change.specs.FewLooks.{few_looks}
 use Rattle.tree_change.specs.Looks.{gone_all_looks, named_looks, tree_looks}
 use Rattle.tree_change.specs.LooksLaw.{entries_of}
 use Rattle.tree_change.specs.Merging.{IsSortedOf, named_before, root_at, roots_left}
-use Rattle.tree_change.specs.OneTree.{IsTree, KnowsNothing, KnowsTree, shares, side_of}
+use Rattle.tree_change.specs.OneTree.{IsTree, KnowsNothing, KnowsTree, side_of, unchanged}
 use Rattle.tree_change.specs.Stays.{RootsStand}
 use Rattle.tree_change.specs.Told.{side_with}
+use Rattle.tree_change.specs.Rising.{MarksAll}
+use Rattle.tree_change.specs.Unchanged.{changed_in, is_unchanged, unchanged_shifted}
 use Rattle.tree_change.specs.Walks.{Known, Parts, Side, tree_parts}
 use Rattle.tree_change.specs.declared.change.Change.{Change}
 use Rattle.tree_change.specs.declared.sides.Compared.{Compared}
@@ -71,9 +73,12 @@ use Rattle.tree_change.proofs.Entries.{few_for_none, few_marks_for}
 use Rattle.tree_change.proofs.Gone.{gone as gone_law}
 use Rattle.tree_change.proofs.Levels.{IsLow, roots_low, supers_low}
 use Rattle.tree_change.proofs.MovedSums.{moved_all_joins, moved_cost, moved_gone, moved_named, moved_tree}
+use Rattle.tree_change.proofs.MarksKnown.{marks_all}
+use Rattle.tree_change.proofs.MovesFew.{among_others, fewer, have_those, looks_few, moves_marked, others, passes, split_marks, those, tree_moves_marked}
 use Rattle.tree_change.proofs.Named.{named as named_law}
 use Rattle.tree_change.proofs.Olds.{same_ok}
 use Rattle.tree_change.proofs.Readable.{readable}
+use Rattle.tree_change.proofs.RisenShared.{shared_is}
 use Rattle.tree_change.proofs.RootItems.{roots_made}
 use Rattle.tree_change.proofs.TreeSums.{all_cost, gone_all_sum, joined_cost, named_sum, tree_cost, tree_sum}
 use Rattle.tree_change.proofs.Unordered.{all_filter}
@@ -133,6 +138,9 @@ all_mapped : {A B : Type 0} (P : B → Type 0) (make : A → B) (list : List A) 
 all_mapped P make [] all = tt
 all_mapped P make (a ∷ list) all = (all.0, all_mapped P make list all.1)
 
+fewer_as : {n m l : ℕ} → m ≡ n → n ≤ l → m ≤ l
+fewer_as {n} {m} {l} x y = omega (arith, x, y)
+
 most : {n m l : ℕ} → n ≤ m → m ≤ l → n ≤ l
 most {n} {m} {l} x y = omega (arith, x, y)
 
@@ -150,14 +158,34 @@ trees_total : (t r n g a b x1 x2 x3 x4 x34 x234 x : ℕ) → t ≤ 7 + a → r �
     → x1 + x234 ≤ x → t + (r + n + g) ≤ 14 + x
 trees_total t r n g a b x1 x2 x3 x4 x34 x234 x i1 i2 i3 i4 i5 i6 i7 i8 i9 = omega (arith, i1, i2, i3, i4, i5, i6, i7, i8, i9)
 
-all_total : (before middle later after t m1 m2 k p cw co cn oa sa tc tr e o n b e' o' n' b' : ℕ)
-    → middle ≤ before + 2 * t + p + 2 * cw → later ≤ middle + 5 * m1 + 2 * oa + sa + tc → after ≤ later + 5 * m2 + 2 * cw + cn + tr
-    → cw ≡ co → t ≤ b' → m1 ≤ k → m2 ≤ k → oa ≤ 21 → sa ≤ 21
+all_total : (before middle later last after t m1 a1 m2 a2 k p cw co cn oa sa tc tr e o n b e' o' n' b' : ℕ)
+    → middle ≤ before + 2 * t + p + 2 * cw → later ≤ middle + 2 * m1 + 3 * a1 + 2 * oa + sa + tc → last ≤ later + 2 * m2 + 3 * a2 + 2 * cw + cn + tr
+    → after + b ≤ last + b'
+    → cw ≡ co → t ≤ b' → 2 * m1 + 3 * a1 ≤ 5 * k → 2 * m2 + 3 * a2 ≤ 5 * k → oa ≤ 21 → sa ≤ 21
     → tc + tr ≤ 14 + (4 * e + 3 * o + 35 * n + 29 * b)
-    → e ≡ e' → o ≡ o' → n ≡ n' → b ≡ b' → 10 * k ≤ 27 * b' + 53 * o'
+    → e ≤ e' → o ≤ o' → n ≤ n' → b ≤ b' → 10 * k ≤ 27 * b' + 53 * o'
     → after ≤ before + (p + 4 * co + cn + 77 + 58 * b' + 35 * n' + 56 * o' + 4 * e')
-all_total before middle later after t m1 m2 k p cw co cn oa sa tc tr e o n b e' o' n' b' i1 i2 i3 i4 i5 i6 i7 i8 i9 i10 i11 i12 i13 i14 i15 =
-    omega (arith, i1, i2, i3, i4, i5, i6, i7, i8, i9, i10, i11, i12, i13, i14, i15)
+all_total before middle later last after t m1 a1 m2 a2 k p cw co cn oa sa tc tr e o n b e' o' n' b' i1 i2 i3 i4 i5 i6 i7 i8 i9 i10 i11 i12 i13 i14 i15 i16 =
+    omega (arith, i1, i2, i3, i4, i5, i6, i7, i8, i9, i10, i11, i12, i13, i14, i15, i16)
+
+-- by lists of which one has fewer there are fewer entries
+entries_fewer : (side : Side) (p q : Live → Bool) → ((live : Live) → p live ≡ true → q live ≡ true) → (lives : List Live)
+    → entries_of side (filter p lives) ≤ entries_of side (filter q lives)
+entries_fewer side p q through [] = omega arith
+entries_fewer side p q through (live ∷ lives) = by (p live) (q live) refl refl (entries_fewer side p q through lives)
+  where
+    more : (n m l : ℕ) → m ≤ l → m ≤ n + l
+    more n m l few = omega (arith, few)
+
+    both : (n m l : ℕ) → m ≤ l → n + m ≤ n + l
+    both n m l few = omega (arith, few)
+
+    by : (a b : Bool) → p live ≡ a → q live ≡ b → entries_of side (filter p lives) ≤ entries_of side (filter q lives)
+        → entries_of side (if a then live ∷ filter p lives else filter p lives) ≤ entries_of side (if b then live ∷ filter q lives else filter q lives)
+    by true true a b few = both _ (entries_of side (filter p lives)) (entries_of side (filter q lives)) few
+    by true false a b few = let must = through live a in absurd (cc)
+    by false true a b few = more _ (entries_of side (filter p lives)) (entries_of side (filter q lives)) few
+    by false false a b few = few
 
 as_change : (before after k l m o e l' m' o' e' : ℕ) → after ≤ before + (k + 58 * l + 35 * m + 56 * o + 4 * e) → l' ≡ l → m' ≡ m → o' ≡ o → e' ≡ e
     → after ≤ before + (k + 58 * l' + 35 * m' + 56 * o' + 4 * e')
@@ -196,7 +224,7 @@ module _ {L : Type 0} (both : Compared L) (image : List ℕ) (c : IsCompared bot
   abbrev fm : FewForMap both array image f.middle f.looks.middle
   fm = f.looks.for_map
 
-  abbrev fr : FewForRest both chunks image f.looks.middle after
+  abbrev fr : FewForRest both chunks image f.looks.middle f.looks.later
   fr = f.looks.for_rest
 
   abbrev left : List Live
@@ -252,9 +280,9 @@ module _ {L : Type 0} (both : Compared L) (image : List ℕ) (c : IsCompared bot
       by (inl k) = subst AreLow (sym k.1) formed.low
       by (inr k) = λ tree address live is. elim (no_pair k.1 tree address (ap is_some is)) [ ]
 
-  -- no more pairs are marked that writes touch than are not shared
-  touched_few : count_of both.marks.now ≤ length left
-  touched_few = f.few_marks left (by f.fits.keeps)
+  -- the pairs that are marked since writes touch them, or one below, are not shared
+  touched_among : AreAmong (marked_by both.marks.now) left
+  touched_among = by f.fits.keeps
     where
       touched : kept ≡ pairs → AreMarkedTouched image both.cache.now old pairs (marked_by both.marks.now)
       touched same =
@@ -272,6 +300,10 @@ module _ {L : Type 0} (both : Compared L) (image : List ℕ) (c : IsCompared bot
           one tree address (inl was) = absurd (cc)
           one tree address (inr h) = elim (no_pair k.1 tree h.0 h.2) [ ]
 
+  -- so no more are marked than these
+  touched_few : count_of both.marks.now ≤ length left
+  touched_few = f.few_marks left touched_among
+
   -- how many marks are enough for these, by their entries
   marks_few : 10 * marks_for kept left ≤ 27 * length left + 53 * entries_of (side_of image old) left
   marks_few = by f.fits.keeps
@@ -284,15 +316,51 @@ module _ {L : Type 0} (both : Compared L) (image : List ℕ) (c : IsCompared bot
           subst (λ (ps : Pairs). 10 * marks_for ps left ≤ 27 * length left + 53 * entries_of (side_of image old) left) (sym k.1)
           (few_for_none (side_of image old) left)
 
-  -- no more are marked that move by all chunks
-  rest_moves : fr.marks ≤ marks_for kept left
-  rest_moves = fr.moves.few low left (by f.fits.keeps)
+  -- a marked pair is one of those by which blocks are kept, which have ids and addresses of 64 bits
+  marked_known : (tree address : ℕ) → marked_by both.marks.now tree address ≡ true → is_some (kept tree address) ≡ true
+  marked_known tree address here = by f.fits.keeps
     where
-      by : KeepsBy both.was.sup.now both.fresh.now pairs kept → HaveEach kept (is_moved both.was.map.now chunks nodesize both.was.end) left
-      by (inl k) tree address moves some =
-          unshared.moved tree address (at_old (λ sup map n. is_moved map chunks sup.nodesize n address ≡ true) moves)
-          (kept_some k.1 tree address some)
-      by (inr k) tree address moves some = elim (no_pair k.1 tree address some) [ ]
+      known : MarksAll image both.cache.now old new (trees_in old.sup old.chunks old.chunks c.based.olds image) pairs (marked_by both.marks.now)
+      known = marks_all both both.was.end image f.fits c new refl
+
+      by : KeepsBy both.was.sup.now both.fresh.now pairs kept → is_some (kept tree address) ≡ true
+      by (inl k) = subst (λ (ps : Pairs). is_some (ps tree address) ≡ true) (sym k.1) (known.known tree address here)
+      by (inr k) =
+          absurd (yes_no (are_read_alike both.was.sup.now both.fresh.now)
+          (ap (λ s. are_read_alike s both.fresh.now) c.based.super_is ∙ known.only tree address here) k.0)
+
+  narrow : AreNarrow kept
+  narrow tree address some = by f.fits.keeps
+    where
+      by : KeepsBy both.was.sup.now both.fresh.now pairs kept → (tree < 2 ^ 64) × (address < 2 ^ 64)
+      by (inl k) = c.narrow tree address (kept_some k.1 tree address some)
+      by (inr k) = elim (no_pair k.1 tree address some) [ ]
+
+  -- the looks to mark what moves by all chunks and to list it are few
+  rest_moves : AreApart chunks → 2 * fr.moved + 3 * fr.marks ≤ 5 * marks_for kept left
+  rest_moves apart_new =
+      looks_few fr.moved fr.marks (marks_for kept (those at left)) (length (others at left)) (marks_for kept left)
+      (fr.moves.few low (those at left) (have_those at left kept moves each (λ tree address is some. is)))
+      (fr.moves.more (others at left)
+      (among_others at left (marked_by both.marks.now) fr.moving touched_among
+      (λ tree address here is. moves_marked kept both.was.map.now chunks nodesize both.was.end fr.moving narrow placed (fr.moves.moved apart_new sized)
+      tree address (marked_known tree address here) is)))
+      (split_marks kept (passes at left) left)
+    where
+      moves : ℕ → Bool
+      moves = is_moved both.was.map.now chunks nodesize both.was.end
+
+      at : ℕ → ℕ → Bool
+      at tree address = moves address
+
+      each : HaveEach kept moves left
+      each tree address is some = by f.fits.keeps
+        where
+          by : KeepsBy both.was.sup.now both.fresh.now pairs kept → in_lives left tree address ≡ true
+          by (inl k) =
+              unshared.moved tree address (at_old (λ sup map n. is_moved map chunks sup.nodesize n address ≡ true) is)
+              (kept_some k.1 tree address some)
+          by (inr k) = elim (no_pair k.1 tree address some) [ ]
 
   module _ (walks : walked judged ≡ Ok new) where
     abbrev steps : Steps judged new
@@ -344,10 +412,30 @@ module _ {L : Type 0} (both : Compared L) (image : List ℕ) (c : IsCompared bot
             (ap has_place (distinct.1 address old.sup.nodesize (length image) ∙ stands address here) ∙ formed.placed 3 address here)
         by address some (inr k) = elim (no_pair k.1 3 address some) [ ]
 
-    -- nor of the chunk tree that move by the chunks of the system arrays
-    map_moves : fm.marks ≤ marks_for kept left
-    map_moves = fm.moves.few low left each
+    -- so are those for the chunk tree, by the chunks of the system arrays
+    map_moves : 2 * fm.moved + 3 * fm.marks ≤ 5 * marks_for kept left
+    map_moves =
+        looks_few fm.moved fm.marks (marks_for kept (those at left)) (length (others at left)) (marks_for kept left)
+        (fm.moves.few low (those at left) (have_those at left (of_tree 3 kept) moves each here))
+        (fm.moves.more (others at left)
+        (among_others at left (marked_by both.marks.now) fm.moving touched_among
+        (λ tree address mark is. tree_moves_marked 3 kept fm.olds fm.some nodesize both.was.end fm.moving narrow map_placed
+        (fm.moves.moved fm.apart sized) tree address (marked_known tree address mark) is)))
+        (split_marks kept (passes at left) left)
       where
+        moves : ℕ → Bool
+        moves = is_moved fm.olds fm.some nodesize both.was.end
+
+        at : ℕ → ℕ → Bool
+        at = in_tree 3 moves
+
+        here : (tree address : ℕ) → moves address ≡ true → is_some (of_tree 3 kept tree address) ≡ true → at tree address ≡ true
+        here tree address is some = by (tree == 3) some
+          where
+            by : (b : Bool) → is_some (if b then kept tree address else None) ≡ true → (b && moves address) ≡ true
+            by true some = is
+            by false some = absurd (cc)
+
         three : (address : ℕ) → is_moved fm.olds fm.some nodesize both.was.end address ≡ true → is_some (kept 3 address) ≡ true
             → KeepsBy both.was.sup.now both.fresh.now pairs kept → in_lives left 3 address ≡ true
         three address moves some (inl k) =
@@ -401,9 +489,9 @@ module _ {L : Type 0} (both : Compared L) (image : List ℕ) (c : IsCompared bot
       was = (refl, inl refl);
       known_is =
           subst (λ k. KnowsTree image both.cache.now old array_side k (Some (chunk_tree_root old.sup)) ⊎ KnowsNothing old array_side k)
-          (known_same fm.known kept (marked_by both.marks.now) (is_moved both.was.map.now array nodesize both.was.end) fm.by_kept fm.marked_is fm.moved_is)
+          (known_same fm.known kept (marked_by both.touched.now) (is_moved both.was.map.now array nodesize both.was.end) fm.by_kept fm.marked_is fm.moved_is)
           (array_known both array fm.old_array fm.olds fm.some fm.moving fm.known.under both.was.end f.fits image c fm.array_is fm.homes
-          fm.same_place (fm.moves.marked fm.apart sized) fm.moves.listed);
+          fm.same_place (fm.moves.moved fm.apart sized) fm.moves.listed);
     }
 
     abbrev chunk_result : Result Parts Finding
@@ -418,8 +506,8 @@ module _ {L : Type 0} (both : Compared L) (image : List ℕ) (c : IsCompared bot
     over : IsOver image both.cache.now old olds trees pairs side fr.known
     over =
         subst (λ k. IsOver image both.cache.now old olds trees pairs side k)
-        (known_same fr.known kept (marked_by both.marks.now) fr.known.moved fr.by_kept fr.marked_is refl)
-        (over_by both image chunks c both.was.end fr.moving fr.known.under fr.known.moved f.fits has_map fr.moves.marked fr.moves.listed fr.moved_is)
+        (known_same fr.known kept (marked_by both.touched.now) fr.known.moved fr.by_kept fr.marked_is refl)
+        (over_by both image chunks c both.was.end fr.moving fr.known.under fr.known.moved f.fits has_map fr.moves.moved fr.moves.listed fr.moved_is)
 
     root_is : IsTree image both.cache.now old trees pairs side fr.known (Some (root_tree_root old.sup)) (root_tree_root both.fresh.now)
     root_is = root_tree both image chunks c fr.known over
@@ -549,7 +637,7 @@ module _ {L : Type 0} (both : Compared L) (image : List ℕ) (c : IsCompared bot
         (all_mapped IsSame (live_at both.fresh.now stored) (visited both.fresh.now stored root) each) in
         entries_as array_side side chunk_made.0.new_blocks
         (subst (AllByRecursion IsSame) (sym gives.4.new_blocks)
-        (all_filter IsSame (λ live. not (shares image both.cache.now old array_side gives.1 live)) (live_in gives.1) lives))
+        (all_filter IsSame (λ live. not (unchanged image both.cache.now old array_side gives.1 live)) (live_in gives.1) lives))
 
     -- ---- all
 
@@ -575,24 +663,64 @@ module _ {L : Type 0} (both : Compared L) (image : List ℕ) (c : IsCompared bot
         (both_cost was side named_made.0 gone_made.0) (both_cost was side q (with_parts named_made.0 gone_made.0))
         (both_cost was side p (with_parts q (with_parts named_made.0 gone_made.0)))
 
+    -- of what is not shared a part changed
+    abbrev gone : List Live
+    gone = changed_in old new (written_in both.cache.now) (length image) old
+
+    abbrev came : List Live
+    came = changed_in old new (written_in both.cache.now) (length image) new
+
+    abbrev shared : Live → Bool
+    shared = is_shared old new (written_in both.cache.now) (length image)
+
+    abbrev same : Live → Bool
+    same = is_unchanged old new (written_in both.cache.now) (length image)
+
+    -- a shared pair is unchanged
+    same_if : (live : Live) → shared live ≡ true → same live ≡ true
+    same_if live is =
+        first (same live) (not (marked_by both.marks.now live.tree live.address))
+        (sym (shared_is image both.cache.now old new trees c.based.has (marked_by both.marks.now)
+        (marks_all both both.was.end image f.fits c new refl).trees_are live) ∙ is)
+      where
+        first : (a b : Bool) → (a && b) ≡ true → a ≡ true
+        first true b is = refl
+        first false b is = is
+
+    unshared_if : (live : Live) → not (same live) ≡ true → not (shared live) ≡ true
+    unshared_if live is = by (shared live) refl is
+      where
+        by : (b : Bool) → shared live ≡ b → not (same live) ≡ true → not b ≡ true
+        by false here is = refl
+        by true here is = let must = same_if live here in absurd (cc)
+
     pub few_all : (pieces : List Piece) → ArePiecesOf both.cache.now pieces
         → after ≤ before + (length pieces + 4 * length old.chunks + length chunks + 77 + 58 * length left + 35 * length come
         + 56 * entries_of was left + 4 * entries_of side come)
     few_all pieces are =
-        all_total before f.middle f.looks.middle after (count_of both.marks.now) fm.marks fr.marks (marks_for kept left) (length pieces)
-        (length both.was.map.now) (length old.chunks) (length chunks) (length fm.olds) (length fm.some) _ _
+        let p : Live → Bool = λ live. not (same live) in
+        let q : Live → Bool = λ live. not (shared live) in
+        all_total before f.middle f.looks.middle f.looks.later after (count_of both.marks.now) fm.moved fm.marks fr.moved fr.marks (marks_for kept left)
+        (length pieces) (length both.was.map.now) (length old.chunks) (length chunks) (length fm.olds) (length fm.some) _ _
         (entries_of side parts.new_blocks) (entries_of was parts.old_blocks) (length parts.new_blocks) (length parts.old_blocks)
         (entries_of side come) (entries_of was left) (length come) (length left)
         (f.touched pieces are placed apart sized unmet)
         (fm.looks map_placed distinct.0 fm.apart sized)
         (fr.looks placed apart (new_apart both image chunks c has_map) sized)
-        (ap length c.based.chunks_are) touched_few map_moves rest_moves
+        (rewrote (length gone) (length parts.old_blocks) (length_permutation gone parts.old_blocks all_parts.old_blocks)
+        (f.looks.to_rise c new walks))
+        (ap length c.based.chunks_are) touched_few map_moves (rest_moves (new_apart both image chunks c has_map))
         (most fm.few_olds (array_few (array_place both.was.sup.now) both.was.sup.now.array both.was.sup.now.array_size fm.old_array f.fits.was_array fm.array_is))
         (most fm.few_some (array_few (array_place both.fresh.now) both.fresh.now.array both.fresh.now.array_size array
         (readable judged both.fresh.now c.super_is).array f.looks.array_is))
         trees_cost
-        (entries_permuted side come parts.new_blocks all_parts.new_blocks) (entries_permuted was left parts.old_blocks all_parts.old_blocks)
-        (length_permutation come parts.new_blocks all_parts.new_blocks) (length_permutation left parts.old_blocks all_parts.old_blocks) marks_few
+        (fewer_as (entries_permuted side came parts.new_blocks all_parts.new_blocks) (entries_fewer side p q unshared_if (live_in new.seen)))
+        (fewer_as (entries_permuted was gone parts.old_blocks all_parts.old_blocks) (entries_fewer was p q unshared_if (live_in old.seen)))
+        (fewer_as (length_permutation came parts.new_blocks all_parts.new_blocks) (fewer p q unshared_if (live_in new.seen)))
+        (fewer_as (length_permutation gone parts.old_blocks all_parts.old_blocks) (fewer p q unshared_if (live_in old.seen))) marks_few
+      where
+        rewrote : (g b : ℕ) → b ≡ g → after + g ≤ f.looks.later + length left → after + b ≤ f.looks.later + length left
+        rewrote g b here few = omega (arith, here, few)
 
     -- ---- the shared pairs that are shifted
 
@@ -618,16 +746,30 @@ module _ {L : Type 0} (both : Compared L) (image : List ℕ) (c : IsCompared bot
 
     pub moved_few : length (shifted_in old new (written_in both.cache.now) (length image)) ≤ 2 + (entries_of side come + 8 * length come + length left)
     moved_few =
-        sums (length parts.moved) (length (shifted_in old new (written_in both.cache.now) (length image))) (entries_of side parts.new_blocks)
+        let p : Live → Bool = λ live. not (same live) in
+        let q : Live → Bool = λ live. not (shared live) in
+        let shifts : Live → Bool = is_shifted (live_in old.seen) in
+        sums (length parts.moved) (length (unchanged_shifted old new (written_in both.cache.now) (length image)))
+        (length (shifted_in old new (written_in both.cache.now) (length image))) (entries_of side parts.new_blocks)
         (length parts.new_blocks) (length parts.old_blocks) (entries_of side come) (length come) (length left) parts_moved
-        (length_permutation (shifted_in old new (written_in both.cache.now) (length image)) parts.moved
+        (length_permutation (unchanged_shifted old new (written_in both.cache.now) (length image)) parts.moved
         (moved_all one_tree image both.cache.now old new olds roots.news trees afters array pairs fm.known fr.known chunk_made.0 fr.parts
         named_made.0 gone_made.0 all_is))
-        (entries_permuted side come parts.new_blocks all_parts.new_blocks)
-        (length_permutation come parts.new_blocks all_parts.new_blocks) (length_permutation left parts.old_blocks all_parts.old_blocks)
+        (fewer (λ live. shared live && shifts live) (λ live. same live && shifts live) (λ live is. both_if live is) (live_in new.seen))
+        (fewer_as (entries_permuted side came parts.new_blocks all_parts.new_blocks) (entries_fewer side p q unshared_if (live_in new.seen)))
+        (fewer_as (length_permutation came parts.new_blocks all_parts.new_blocks) (fewer p q unshared_if (live_in new.seen)))
+        (fewer_as (length_permutation gone parts.old_blocks all_parts.old_blocks) (fewer p q unshared_if (live_in old.seen)))
       where
-        sums : (m s e n o e' n' o' : ℕ) → m ≤ 2 + (e + 8 * n + o) → m ≡ s → e ≡ e' → n ≡ n' → o ≡ o' → s ≤ 2 + (e' + 8 * n' + o')
-        sums m s e n o e' n' o' x y z w u = omega (arith, x, y, z, w, u)
+        sums : (m u s e n o e' n' o' : ℕ) → m ≤ 2 + (e + 8 * n + o) → m ≡ u → s ≤ u → e ≤ e' → n ≤ n' → o ≤ o' → s ≤ 2 + (e' + 8 * n' + o')
+        sums m u s e n o e' n' o' x y z w v t = omega (arith, x, y, z, w, v, t)
+
+        both_if : (live : Live) → (shared live && is_shifted (live_in old.seen) live) ≡ true → (same live && is_shifted (live_in old.seen) live) ≡ true
+        both_if live is = by (shared live) refl is
+          where
+            by : (b : Bool) → shared live ≡ b → (b && is_shifted (live_in old.seen) live) ≡ true
+                → (same live && is_shifted (live_in old.seen) live) ≡ true
+            by true here is = ap (λ b. b && is_shifted (live_in old.seen) live) (same_if live here) ∙ is
+            by false here is = absurd (cc)
 
 -- What changes is what all parts have, in some order. So the looks are few by it, and the shared pairs that are shifted.
 pub few_change : {L : Type 0} (both : Compared L) (image : List ℕ) (c : IsCompared both image) (before after : ℕ) (f : FewFromOld both image before after)

@@ -19,7 +19,6 @@ use Rattle.records.specs.Walk.{walk_in}
 use Rattle.touched_pairs.specs.Touched.{written_in}
 use Rattle.shared_trees.specs.LivePairs.{Walked, live_in}
 use Rattle.shared_trees.specs.MergedLaw.{items}
-use Rattle.shared_trees.specs.Shared.{is_shared, unshared_in}
 use Rattle.shared_trees.specs.ShiftedLaw.{is_shifted}
 use Rattle.shared_trees.specs.TableLaw.{AreApart, Tree, trees_in}
 use Rattle.shared_trees.specs.Unshared.{items_in}
@@ -29,7 +28,8 @@ use Rattle.shared_trees.proofs.Treed.{chunk_tree, trees_walk}
 use Rattle.tree_change.specs.AllTrees.{AllTreesLaw, AreAllParts, IsAll, has_id, named_at, root_named, side_by, with_parts}
 use Rattle.tree_change.specs.Change.{is_before, item_before}
 use Rattle.tree_change.specs.Merging.{root_at}
-use Rattle.tree_change.specs.OneTree.{IsAmong, IsOldOf, IsTree, OneTreeLaw, shares, side_of}
+use Rattle.tree_change.specs.OneTree.{IsAmong, IsOldOf, IsTree, OneTreeLaw, unchanged, side_of}
+use Rattle.tree_change.specs.Unchanged.{changed_in, is_unchanged}
 use Rattle.tree_change.specs.Walks.{Known, Parts, Side, gone_parts, tree_parts}
 use Rattle.tree_change.proofs.Alone.{alone_same, array_same}
 use Rattle.tree_change.proofs.Apart.{pairs_apart}
@@ -99,7 +99,7 @@ module _ (law : OneTreeLaw) (image : List ℕ) (pending : FinMap nat_cmp ℕ) (o
   abbrev Alike : Side → Expect → Type 0
   Alike is now =
       (records : List Seen) → walk_in is.sup is.chunks now is.image ≡ Ok records → IsOf now.tree records new.seen
-      × ((live : Live) → live.tree ≡ now.tree → shares image pending old is records live ≡ is_shared old new (written_in pending)
+      × ((live : Live) → live.tree ≡ now.tree → unchanged image pending old is records live ≡ is_unchanged old new (written_in pending)
       (length image) live)
 
   alike_of : (now : Expect) → IsAmong (is_stored, now) afters → Alike side now
@@ -282,29 +282,29 @@ module _ (law : OneTreeLaw) (image : List ℕ) (pending : FinMap nat_cmp ℕ) (o
   pub moved_all : IsPermutation all.moved parts.moved
   moved_all =
       subst (IsPermutation all.moved) (sym pieces.moved)
-      (lives_listed (λ live. is_shared old new (written_in pending) (length image) live && is_shifted (live_in old.seen) live) new.seen new_listed)
+      (lives_listed (λ live. is_unchanged old new (written_in pending) (length image) live && is_shifted (live_in old.seen) live) new.seen new_listed)
 
   all_parts : AreAllParts old new pending (length image) parts
   all_parts = record {
     old_blocks = subst (IsPermutation all.old_blocks) (sym pieces.old_blocks)
-        (lives_listed (λ live. not (is_shared old new (written_in pending) (length image) live)) old.seen old_listed);
+        (lives_listed (λ live. not (is_unchanged old new (written_in pending) (length image) live)) old.seen old_listed);
     new_blocks = subst (IsPermutation all.new_blocks) (sym pieces.new_blocks)
-        (lives_listed (λ live. not (is_shared old new (written_in pending) (length image) live)) new.seen new_listed);
+        (lives_listed (λ live. not (is_unchanged old new (written_in pending) (length image) live)) new.seen new_listed);
     moved = λ sorted sort. in_order is_before all.moved parts.moved sorted
         (subst (IsPermutation all.moved) (sym pieces.moved)
-        (lives_listed (λ live. is_shared old new (written_in pending) (length image) live && is_shifted
+        (lives_listed (λ live. is_unchanged old new (written_in pending) (length image) live && is_shifted
         (live_in old.seen) live) new.seen new_listed)) sort
         (pairs_apart new.sup afters new.seen
-        (λ live. is_shared old new (written_in pending) (length image) live && is_shifted (live_in old.seen) live)
+        (λ live. is_unchanged old new (written_in pending) (length image) live && is_shifted (live_in old.seen) live)
         is_all.0 is_all.1);
     old_items = λ sorted sort. in_order item_before all.old_items parts.old_items sorted
         (subst (IsPermutation all.old_items) (sym pieces.old_items)
-        (items_listed (unshared_in old new (written_in pending) (length image) old) old.seen old_listed)) sort
-        (items_apart old.sup trees old.seen (unshared_in old new (written_in pending) (length image) old) was_all.0 was_all.1);
+        (items_listed (changed_in old new (written_in pending) (length image) old) old.seen old_listed)) sort
+        (items_apart old.sup trees old.seen (changed_in old new (written_in pending) (length image) old) was_all.0 was_all.1);
     new_items = λ sorted sort. in_order item_before all.new_items parts.new_items sorted
         (subst (IsPermutation all.new_items) (sym pieces.new_items)
-        (items_listed (unshared_in old new (written_in pending) (length image) new) new.seen new_listed)) sort
-        (items_apart new.sup afters new.seen (unshared_in old new (written_in pending) (length image) new) is_all.0 is_all.1);
+        (items_listed (changed_in old new (written_in pending) (length image) new) new.seen new_listed)) sort
+        (items_apart new.sup afters new.seen (changed_in old new (written_in pending) (length image) new) is_all.0 is_all.1);
     count = pieces.count;
   }
 

@@ -19,11 +19,11 @@ use Rattle.records.specs.Contents.{chunk_tree_root}
 use Rattle.records.specs.Seen.{Seen}
 use Rattle.records.specs.Walk.{walk_of}
 use Rattle.records.specs.WalkLaw.{visited}
-use Rattle.touched_pairs.specs.Touched.{Written, same_place, stays_in_place, touches_block, written_in}
+use Rattle.touched_pairs.specs.Touched.{Written, same_place, touches_block, written_in}
 use Rattle.shared_trees.specs.ArrayLaw.{HasArray, IsAsByAll}
 use Rattle.shared_trees.specs.Keeping.{live_at}
 use Rattle.shared_trees.specs.LivePairs.{Walked, live_in}
-use Rattle.shared_trees.specs.Shared.{are_alike, are_read_alike, is_shared, is_shared_by, stands_untouched}
+use Rattle.shared_trees.specs.Shared.{are_alike, are_read_alike, is_shared_by, stands_untouched}
 use Rattle.shared_trees.specs.ShiftedLaw.{is_shifted}
 use Rattle.shared_trees.proofs.ArrayPlaces.{as_by_all}
 use Rattle.shared_trees.proofs.Bounds.{and_parts}
@@ -32,6 +32,7 @@ use Rattle.shared_trees.proofs.OldTells.{has_same}
 use Rattle.shared_trees.proofs.Picking.{one_of}
 use Rattle.tree_change.specs.AllTrees.{side_by}
 use Rattle.tree_change.specs.OneTree.{alone}
+use Rattle.tree_change.specs.Unchanged.{is_unchanged, none_touched, stays_unchanged}
 use Rattle.tree_change.proofs.Split.{IsOf}
 use Rattle.tree_change.proofs.Unordered.{any_filter}
 
@@ -58,12 +59,12 @@ shifted_same id records seen of live is =
 
 -- so by the chunks of the image
 pub alone_same : (image : List ℕ) (old new : Walked) (written : Written) (end id : ℕ) (news : List Seen) → IsOf id news new.seen
-    → (live : Live) → live.tree ≡ id → is_shared old
-    (alone (side_by image new new.chunks) news) written end live ≡ is_shared old new written end live
+    → (live : Live) → live.tree ≡ id → is_unchanged old
+    (alone (side_by image new new.chunks) news) written end live ≡ is_unchanged old new written end live
 unfolding is_shared_by
 alone_same image old new written end id news of live is =
-    ap (λ t. are_read_alike old.sup new.sup && (stays_in_place old.chunks new.chunks old.sup.nodesize end live.address
-    && (stands_untouched (touches_block written old.chunks old.sup.nodesize end) old.seen live && t)))
+    ap (λ t. are_read_alike old.sup new.sup && (stays_unchanged old new.chunks written end live.address
+    && (stands_untouched none_touched old.seen live && t)))
     (alike_any id news new.seen of live is)
 
 nodesize_same : (a b : Super) → are_read_alike a b ≡ true → a.nodesize ≡ b.nodesize
@@ -101,18 +102,18 @@ module _ (image : List ℕ) (pending : FinMap nat_cmp ℕ) (old new : Walked) (a
 
   pub array_same : (news : List Seen) → walk_of new.sup stored (chunk_tree_root new.sup) ≡ Ok news → IsOf 3 news new.seen
       → (live : Live) → live.tree ≡ 3
-      → is_shared old (alone (side_by judged new array) news) (written_in pending) (length image) live
-      ≡ is_shared old new (written_in pending) (length image) live
+      → is_unchanged old (alone (side_by judged new array) news) (written_in pending) (length image) live
+      ≡ is_unchanged old new (written_in pending) (length image) live
   unfolding is_shared_by
   array_same news walk of live is =
       ap (λ t. are_read_alike old.sup new.sup && (stays array && (untouched && t))) any
       ∙ by (are_read_alike old.sup new.sup) refl (list_any (are_alike live) (live_in new.seen)) refl
     where
       stays : List Chunk → Bool
-      stays chunks = stays_in_place old.chunks chunks old.sup.nodesize (length image) live.address
+      stays chunks = stays_unchanged old chunks (written_in pending) (length image) live.address
 
       untouched : Bool
-      untouched = stands_untouched (touches_block (written_in pending) old.chunks old.sup.nodesize (length image)) old.seen live
+      untouched = stands_untouched none_touched old.seen live
 
       any : list_any (are_alike live) (live_in news) ≡ list_any (are_alike live) (live_in new.seen)
       any = alike_any 3 news new.seen of live is
@@ -135,5 +136,6 @@ module _ (image : List ℕ) (pending : FinMap nat_cmp ℕ) (old new : Walked) (a
           let there : Stands live =
           subst (λ a. place array a old.sup.nodesize (length image) ≡ place new.chunks a old.sup.nodesize (length image))
           (sym (has_same live one.0 one.2).address) one.1 in
-          ap (λ p. are_read_alike old.sup new.sup && (same_place (place old.chunks live.address old.sup.nodesize (length image)) p
+          ap (λ p. are_read_alike old.sup new.sup && ((same_place (place old.chunks live.address old.sup.nodesize (length image)) p
+          && not (touches_block (written_in pending) old.chunks old.sup.nodesize (length image) live.address))
           && (untouched && list_any (are_alike live) (live_in new.seen)))) there

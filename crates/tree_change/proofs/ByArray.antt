@@ -42,6 +42,7 @@ use Rattle.shared_trees.specs.MergedLaw.{begins_before}
 use Rattle.tree_change.specs.Merging.{IsSortedOf, chunks_left}
 use Rattle.tree_change.specs.OneTree.{IsTree, KnowsNothing, KnowsTree, side_of}
 use Rattle.tree_change.specs.Told.{known_by}
+use Rattle.tree_change.specs.Unchanged.{either_mark}
 use Rattle.tree_change.specs.Walks.{Known, Parts, Side, tree_parts}
 use Rattle.tree_change.specs.declared.sides.Compared.{Compared}
 use Rattle.tree_change.specs.declared.sides.Sides.{Sides}
@@ -50,7 +51,7 @@ use Rattle.tree_change.proofs.Chunks.{chunks_found, chunks_made}
 use Rattle.tree_change.proofs.EachTree.{one_tree}
 use Rattle.tree_change.proofs.ArraySound.{array_sound}
 use Rattle.tree_change.proofs.DistinctChunks.{held_left, left_alike}
-use Rattle.tree_change.proofs.Knowing.{IsMovedBy, AreTouched, known_of, knows_chunk_tree, marked_as}
+use Rattle.tree_change.proofs.Knowing.{AreOwn, AreTouched, IsMovedBy, known_of, knows_chunk_tree, marked_as}
 
 -- a step that stops for want of chunks tells the finding of the new chunk map
 pub refused : {D L : Type 0} (disk : Ghosts D) (old new : D) (some all : TreeParts) (both : Compared L) (array : List Chunk)
@@ -99,7 +100,7 @@ module _ {L : Type 0} (both : Compared L) (array old_array olds some : List Chun
   abbrev pub known_array : Known
   known_array = record {
     pairs = pairs_of both.kept.now;
-    marked = marked_by both.marks.now;
+    marked = marked_by both.touched.now;
     moved = is_moved both.was.map.now array both.was.sup.now.nodesize both.was.end;
     under = under;
   }
@@ -115,7 +116,7 @@ module _ {L : Type 0} (both : Compared L) (array old_array olds some : List Chun
       → AllByRecursion (λ (c : Chunk). (0 < c.length) × (c.start + c.length < 2 ^ 64)) old_array
       → (address n : ℕ) → home olds address n ≡ home old_array address n)
       → ((address n end : ℕ) → place some address n end ≡ place array address n end) → AreMoving
-      → AreListedBy (pairs_of both.kept.now) moving under
+      → AreListedBy (pairs_of both.kept.now) (either_mark moving (marked_by both.marks.now)) under
       → KnowsTree image both.cache.now is.based.old (side_to both image array) known_array (Some (chunk_tree_root is.based.old.sup))
       ⊎ KnowsNothing is.based.old (side_to both image array) known_array
   array_known fit image is old_is distinct same moved listed = by fit.keeps
@@ -147,6 +148,15 @@ module _ {L : Type 0} (both : Compared L) (array old_array olds some : List Chun
           (subst (λ sup. P (pairs_of both.table.now) sup both.was.map.now both.was.end) based.super_is
           (subst (λ pairs. P pairs both.was.sup.now both.was.map.now both.was.end) kept fit.marked)))
 
+      own : AreOwn image both.cache.now old (marked_by both.marks.now) (marked_by both.touched.now)
+      own =
+          let P = λ (sup : Super) (chunks : List Chunk) (n : ℕ).
+          (tree address : ℕ) → marked_by both.touched.now tree address
+          ≡ (marked_by both.marks.now tree address && touches_block (written_in both.cache.now) chunks sup.nodesize n address) in
+          subst (λ n. P old.sup old.chunks n) is.end
+          (subst (λ chunks. P old.sup chunks both.was.end) based.chunks_are
+          (subst (λ sup. P sup both.was.map.now both.was.end) based.super_is fit.touched))
+
       moves : (pairs_of both.kept.now ≡ pairs_of both.table.now) → IsMovedBy image old old_array some (pairs_of both.table.now) moving
       moves kept =
           let P = λ (pairs : Pairs) (sup : Super) (n : ℕ).
@@ -164,7 +174,7 @@ module _ {L : Type 0} (both : Compared L) (array old_array olds some : List Chun
           (subst (λ pairs. P pairs both.was.sup.now both.was.end) kept moved)))
 
       known_is : (pairs_of both.kept.now ≡ pairs_of both.table.now)
-          → known_of image old (pairs_of both.table.now) (marked_by both.marks.now) under is_side_to ≡ known_array
+          → known_of image old (pairs_of both.table.now) (marked_by both.touched.now) under is_side_to ≡ known_array
       known_is kept =
           let K = λ (pairs : Pairs) (sup : Super) (chunks : List Chunk) (n : ℕ). known_with pairs (is_moved chunks array sup.nodesize n) in
           ap (λ pairs. K pairs old.sup old.chunks (length image)) (sym kept)
@@ -173,17 +183,17 @@ module _ {L : Type 0} (both : Compared L) (array old_array olds some : List Chun
           ∙ ap (λ n. K (pairs_of both.kept.now) both.was.sup.now both.was.map.now n) (sym is.end)
         where
           known_with : Pairs → (ℕ → Bool) → Known
-          known_with pairs moved = record { pairs = pairs; marked = marked_by both.marks.now; moved = moved; under = under }
+          known_with pairs moved = record { pairs = pairs; marked = marked_by both.touched.now; moved = moved; under = under }
 
       by : KeepsBy both.was.sup.now both.fresh.now (pairs_of both.table.now) (pairs_of both.kept.now)
           → KnowsTree image both.cache.now old is_side_to known_array (Some (chunk_tree_root old.sup)) ⊎ KnowsNothing old is_side_to known_array
       by (inl kept) =
           inl (subst (λ k. KnowsTree image both.cache.now old is_side_to k (Some (chunk_tree_root old.sup))) (known_is kept.1)
-          (knows_chunk_tree image both.cache.now old based.olds old_array some (pairs_of both.table.now) (marked_by both.marks.now) moving under
-          is_side_to is.narrow has based.has based.pairs_are
-          (ap (λ s. are_read_alike s both.fresh.now) (sym based.super_is) ∙ kept.0) (touched kept.1)
+          (knows_chunk_tree image both.cache.now old based.olds old_array some (pairs_of both.table.now) (marked_by both.marks.now)
+          (marked_by both.touched.now) moving under is_side_to is.narrow has based.has based.pairs_are
+          (ap (λ s. are_read_alike s both.fresh.now) (sym based.super_is) ∙ kept.0) (touched kept.1) own
           (λ address. same address old.sup.nodesize (length image)) (moves kept.1)
-          (subst (λ pairs. AreListedBy pairs moving under) kept.1 listed)))
+          (subst (λ pairs. AreListedBy pairs (either_mark moving (marked_by both.marks.now)) under) kept.1 listed)))
       by (inr none) =
           inr (record {
             other = ap (λ s. are_read_alike s both.fresh.now) (sym based.super_is) ∙ none.0;

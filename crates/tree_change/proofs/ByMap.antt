@@ -1,5 +1,5 @@
 -- What changes in all trees but the chunk tree, by the new chunks.
-use Rattle.std.proofs.Common.{◌≡◌, ℕ, zero, suc, ◌<◌, ◌⊎◌, inl, inr, Bool, true, List, length, Bor, refl, ap, sym, subst, ◌∙◌, arith}
+use Rattle.std.proofs.Common.{◌≡◌, ℕ, zero, suc, ◌<◌, ◌⊎◌, inl, inr, Bool, true, ◌&&◌, ◌||◌, List, length, Bor, refl, ap, sym, subst, ◌∙◌, arith}
 use Rattle.std.specs.Prelude.{Option, Some, None, Result, Ok, Err, IfSome, map}
 use Rattle.std.specs.Ordering.{nat_cmp}
 use Rattle.std.specs.FinMap.{FinMap}
@@ -42,6 +42,7 @@ use Rattle.tree_change.specs.Merging.{IsSortedOf, named_before, root_at, roots_l
 use Rattle.tree_change.specs.OneTree.{IsTree, KnowsNothing, side_of}
 use Rattle.tree_change.specs.Stays.{RootsStand}
 use Rattle.tree_change.specs.Told.{side_with}
+use Rattle.tree_change.specs.Unchanged.{either_mark}
 use Rattle.tree_change.specs.Walks.{Known, Parts, Side, tree_parts}
 use Rattle.tree_change.specs.declared.sides.Compared.{Compared}
 use Rattle.tree_change.specs.declared.sides.Sides.{Sides}
@@ -49,6 +50,7 @@ use Rattle.tree_change.specs.declared.trees.TreeParts.{TreeParts}
 use Rattle.tree_change.proofs.EachTree.{one_tree}
 use Rattle.tree_change.proofs.EveryTree.{knows_one}
 use Rattle.tree_change.proofs.Gone.{gone}
+use Rattle.tree_change.proofs.Changing.{listed_either}
 use Rattle.tree_change.proofs.Knowing.{knows_trees}
 use Rattle.tree_change.proofs.Named.{named}
 use Rattle.tree_change.proofs.Olds.{old_stands}
@@ -60,30 +62,38 @@ abbrev pub known_with : Pairs → Marked → (ℕ → Bool) → Under → Known
 known_with pairs marked moved under = record { pairs = pairs; marked = marked; moved = moved; under = under }
 
 -- All old trees are known by the table by which blocks are kept, by its marks and by its moved children; or nothing is.
-module _ (image : List ℕ) (pending : FinMap nat_cmp ℕ) (old : Walked) (trees : List Tree) (pairs kept : Pairs) (marked moving : Marked)
+module _ (image : List ℕ) (pending : FinMap nat_cmp ℕ) (old : Walked) (trees : List Tree) (pairs kept : Pairs) (marked own moving : Marked)
     (under : Under) (is : Side) (moved : ℕ → Bool) where
   -- the same by a superblock, chunks and an end
   abbrev KnowsBy : Super → List Chunk → ℕ → Type 0
   KnowsBy sup chunks end =
       KeepsBy sup is.sup pairs kept
       → AreMarked kept (at_address (touches_block (written_in pending) chunks sup.nodesize end)) no_mark marked
+      → ((tree address : ℕ) → own tree address ≡ (marked tree address && touches_block (written_in pending) chunks sup.nodesize end address))
       → AreMarkedFrom kept (at_address (held_and_moved chunks is.chunks sup.nodesize end))
       (at_address (is_moved chunks is.chunks sup.nodesize end)) no_mark moving
       → moved ≡ is_moved chunks is.chunks sup.nodesize end
-      → KnowsTrees image pending old trees is (known_with kept marked moved under) ⊎ KnowsNothing old is (known_with kept marked moved under)
+      → KnowsTrees image pending old trees is (known_with kept own moved under) ⊎ KnowsNothing old is (known_with kept own moved under)
 
   knows_plain : AreNarrow pairs → HasTrees image old trees → ((tree address : ℕ) → pairs tree address ≡ table_of (live_in old.seen) tree address)
-      → AreListedBy kept moving under → KnowsBy old.sup old.chunks (length image)
-  knows_plain narrow has pairs_are listed (inl keeps) touched moves same =
-      let k = knows_trees image pending old trees kept marked moving under is (subst AreNarrow (sym keeps.1) narrow) has
-      (λ tree address. ap (λ (p : Pairs). p tree address) keeps.1 ∙ pairs_are tree address) keeps.0 touched moves listed in
-      inl (record { alike = k.alike; pairs_are = k.pairs_are; moved_is = same; marks = k.marks; moving = k.moving; moves = k.moves })
-  knows_plain narrow has pairs_are listed (inr keeps) touched moves same =
+      → AreListedBy kept (either_mark moving marked) under → KnowsBy old.sup old.chunks (length image)
+  knows_plain narrow has pairs_are listed (inl keeps) touched own_are moves same =
+      let k = knows_trees image pending old trees kept marked own moving under is (subst AreNarrow (sym keeps.1) narrow) has
+      (λ tree address. ap (λ (p : Pairs). p tree address) keeps.1 ∙ pairs_are tree address) keeps.0 touched own_are moves listed in
+      inl (record {
+        alike = k.alike;
+        pairs_are = k.pairs_are;
+        moved_is = same;
+        marked_is = k.marked_is;
+        changing = k.changing;
+        changes = k.changes;
+      })
+  knows_plain narrow has pairs_are listed (inr keeps) touched own_are moves same =
       inr (record { other = keeps.0; none = λ tree address. ap (λ (p : Pairs). p tree address) keeps.1 })
 
   knows_by : (sup : Super) (chunks : List Chunk) (end : ℕ) → sup ≡ old.sup → chunks ≡ old.chunks → end ≡ length image
       → AreNarrow pairs → HasTrees image old trees → ((tree address : ℕ) → pairs tree address ≡ table_of (live_in old.seen) tree address)
-      → AreListedBy kept moving under → KnowsBy sup chunks end
+      → AreListedBy kept (either_mark moving marked) under → KnowsBy sup chunks end
   knows_by sup chunks end a b c narrow has pairs_are listed =
       subst (λ s. KnowsBy s chunks end) (sym a)
       (subst (λ cs. KnowsBy old.sup cs end) (sym b)
@@ -136,17 +146,18 @@ module _ {L : Type 0} (both : Compared L) (image : List ℕ) (chunks : List Chun
       → (AreApart chunks → 0 < both.was.sup.now.nodesize
       → AreMarkedFrom (pairs_of both.kept.now) (at_address (held_and_moved both.was.map.now chunks both.was.sup.now.nodesize both.was.end))
       (at_address (is_moved both.was.map.now chunks both.was.sup.now.nodesize both.was.end)) no_mark moving)
-      → AreListedBy (pairs_of both.kept.now) moving under
+      → AreListedBy (pairs_of both.kept.now) (either_mark moving (marked_by both.marks.now)) under
       → moved ≡ is_moved both.was.map.now chunks both.was.sup.now.nodesize both.was.end
-      → Over (known_with (pairs_of both.kept.now) (marked_by both.marks.now) moved under)
+      → Over (known_with (pairs_of both.kept.now) (marked_by both.touched.now) moved under)
   over_by end moving under moved fits has moves listed same = record {
     has = c.based.has;
     trees_are = refl;
     pairs_are = c.based.pairs_are;
     over = refl;
-    known_is = knows_by image both.cache.now old trees pairs (pairs_of both.kept.now) (marked_by both.marks.now) moving under side moved
+    known_is = knows_by image both.cache.now old trees pairs (pairs_of both.kept.now) (marked_by both.marks.now) (marked_by both.touched.now) moving under side
+        moved
         both.was.sup.now both.was.map.now both.was.end c.based.super_is c.based.chunks_are c.end c.narrow c.based.has c.based.pairs_are listed
-        fits.keeps fits.marked (moves (new_apart has) (size_some both.was.sup.now.nodesize fits.was_size)) same;
+        fits.keeps fits.marked fits.touched (moves (new_apart has) (size_some both.was.sup.now.nodesize fits.was_size)) same;
   }
 
   module _ (known : Known) (over : Over known) where
@@ -237,14 +248,14 @@ module _ {L : Type 0} (both : Compared L) (new : Bor (List Chunk)) (moves : Bor 
     firsts = both.firsts;
     is = record { cache = both.cache; map = new; sup = both.fresh; end = both.was.end };
     table = both.table;
-    known = record { table = both.kept; marks = both.marks; moves = moves; starts = starts };
+    known = record { table = both.kept; marks = both.touched; moves = moves; starts = starts };
     is_same = both.is_same;
     same = same;
     once = once;
   }
 
   abbrev known_now : Known
-  known_now = known_with (pairs_of both.kept.now) (marked_by both.marks.now) (move_passes moves.now) (under_of starts.now)
+  known_now = known_with (pairs_of both.kept.now) (marked_by both.touched.now) (move_passes moves.now) (under_of starts.now)
 
   pub record IsMove : Type 0 where
     pub before : moves.now.old.now ≡ both.was.map.now
@@ -307,19 +318,22 @@ module _ {L : Type 0} (both : Compared L) (new : Bor (List Chunk)) (moves : Bor 
     finds finding (InGone roots failed) =
         elim (found_gone both image new.now c known_now over roots finding (gone_at roots (Err finding) failed)) [ ]
 
-  pub rest_told : {D A : Type 0} (disk : Ghosts D) (first last : D) (some all : TreeParts) (moving : Marks) (end : ℕ) (result : Result A Halt)
+  pub rest_told : {D A : Type 0} (disk : Ghosts D) (first last : D) (some all : TreeParts) (moving joined : Marks) (end : ℕ) (result : Result A Halt)
       → FitsCompared both end → IsMove
       → (AreApart new.now → 0 < both.was.sup.now.nodesize
       → AreMarkedFrom (pairs_of both.kept.now) (at_address (held_and_moved both.was.map.now new.now both.was.sup.now.nodesize both.was.end))
       (at_address (is_moved both.was.map.now new.now both.was.sup.now.nodesize both.was.end)) no_mark (marked_by moving))
-      → AreListedBy (pairs_of both.kept.now) (marked_by moving) (under_of starts.now)
+      → ((tree address : ℕ) → marked_by joined tree address ≡ (marked_by moving tree address || marked_by both.marks.now tree address))
+      → AreListedBy (pairs_of both.kept.now) (marked_by joined) (under_of starts.now)
       → (RootsStand (pairs_of both.table.now) both.roots.now → TellsOthers disk first last some all sides_by both.roots.now result)
       → TellsRest disk first last some all both new.now result
-  rest_told {D} {A} disk first last some all moving end result fits is moved listed tells = by result tells
+  rest_told {D} {A} disk first last some all moving joined end result fits is moved joins listed tells = by result tells
     where
       over : (image : List ℕ) (c : IsCompared both image) → HasNewMap both image new.now → Over both image new.now c known_now
       over image c has =
-          over_by both image new.now c end (marked_by moving) (under_of starts.now) (move_passes moves.now) fits has moved listed (moves_same is)
+          over_by both image new.now c end (marked_by moving) (under_of starts.now) (move_passes moves.now) fits has moved
+          (listed_either (pairs_of both.kept.now) (marked_by joined) (marked_by moving) (marked_by both.marks.now) (under_of starts.now) joins listed)
+          (moves_same is)
 
       Stand : Type 0
       Stand = RootsStand (pairs_of both.table.now) both.roots.now

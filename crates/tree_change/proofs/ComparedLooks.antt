@@ -27,7 +27,7 @@ use Rattle.shared_trees.specs.Shared.{are_read_alike}
 use Rattle.shared_trees.specs.Under.{under_of}
 use Rattle.shared_trees.specs.declared.starts.Starts.{Starts}
 use Rattle.tree_change.specs.Firsts.{first_copies}
-use Rattle.tree_change.specs.AllLooks.{AreDistinctOf, AreMoves, AreTreeMoves, HaveHomesOf, LooksForMap, LooksForRest, LooksFromOld, LooksToCompare, MovesLookAtMost}
+use Rattle.tree_change.specs.AllLooks.{AreDistinctOf, AreMoves, AreTreeMoves, FewToRise, HaveHomesOf, LooksForMap, LooksForRest, LooksFromOld, LooksToCompare, MovesLookAtMost}
 use Rattle.records.specs.Contents.{chunk_map_in}
 use Rattle.tree_change.specs.Compared.{FitsCompared, HasNewArray, IsCompared, MakesMap, TellsMap, judged_by}
 use Rattle.tree_change.specs.Looks.{LooksAtMost, OthersLookAtMost, chunk_looks_in, other_looks_in}
@@ -44,37 +44,38 @@ moves_same : (move : Move) (old new : List Chunk) (nodesize end : ℕ) → move.
 unfolding move_passes
 moves_same move old new nodesize end a b c d = λ i. is_moved (a i) (b i) (c i) (d i)
 
--- the looks to mark what moves, to list it, and for trees
-moves_sum : (first at next last marks old new trees : ℕ) → at ≤ first + 2 * marks + 2 * old + new → next ≤ at + 3 * marks → last ≤ next + trees
-    → last ≤ first + 5 * marks + 2 * old + new + trees
-moves_sum first at next last marks old new trees a b c = omega (arith, a, b, c)
+-- the looks to mark what moves, to list it with what is touched, and for trees
+moves_sum : (first at next last moves all old new trees : ℕ) → at ≤ first + 2 * moves + 2 * old + new → next ≤ at + 3 * all → last ≤ next + trees
+    → last ≤ first + 2 * moves + 3 * all + 2 * old + new + trees
+moves_sum first at next last moves all old new trees a b c = omega (arith, a, b, c)
 
-moves_few : (pairs : Pairs) (old new : List Chunk) (nodesize end marks first at next last trees : ℕ)
-    → (ArePlaced pairs old nodesize end → AreApart old → AreApart new → 0 < nodesize → at ≤ first + 2 * marks + 2 * length old + length new)
-    → next ≤ at + 3 * marks → last ≤ next + trees → MovesLookAtMost pairs old new nodesize end marks first last trees
-moves_few pairs old new nodesize end marks first at next last trees moved listed few = λ placed apart new_apart some.
-    moves_sum first at next last marks (length old) (length new) trees (moved placed apart new_apart some) listed few
+moves_few : (pairs : Pairs) (old new : List Chunk) (nodesize end moves all first at next last trees : ℕ)
+    → (ArePlaced pairs old nodesize end → AreApart old → AreApart new → 0 < nodesize → at ≤ first + 2 * moves + 2 * length old + length new)
+    → next ≤ at + 3 * all → last ≤ next + trees → MovesLookAtMost pairs old new nodesize end moves all first last trees
+moves_few pairs old new nodesize end moves all first at next last trees moved listed few = λ placed apart new_apart some.
+    moves_sum first at next last moves all (length old) (length new) trees (moved placed apart new_apart some) listed few
 
 module _ {L : Type 0} (both : Compared L) (new : Bor (List Chunk)) (moves : Bor Move) (starts : Bor Starts)
     (same : both.is_same ≡ true → both.kept.now ≡ both.table.now) (once : both.firsts.now ≡ first_copies both.was.map.now) where
   -- the looks for all trees but the chunk tree
-  pub rest_few : (A : Type 0) (told : Option (List ℕ)) (result : Result A Halt) (moving : Marks) (first at next last : ℕ) → IsMove both new moves starts same once
-      → AreMoves (pairs_of both.kept.now) both.was.map.now new.now both.was.sup.now.nodesize both.was.end (marked_by moving) (under_of starts.now)
-      (count_of moving)
+  pub rest_few : (A : Type 0) (told : Option (List ℕ)) (result : Result A Halt) (moving joined : Marks) (first at next last : ℕ) → IsMove both new moves starts same once
+      → AreMoves (pairs_of both.kept.now) (marked_by both.marks.now) both.was.map.now new.now both.was.sup.now.nodesize both.was.end (marked_by moving)
+      (under_of starts.now) (count_of moving) (count_of joined)
       → (ArePlaced (pairs_of both.kept.now) both.was.map.now both.was.sup.now.nodesize both.was.end → AreApart both.was.map.now → AreApart new.now
       → 0 < both.was.sup.now.nodesize → at ≤ first + 2 * count_of moving + 2 * length both.was.map.now + length new.now)
-      → next ≤ at + 3 * count_of moving
+      → next ≤ at + 3 * count_of joined
       → OnOk result (OthersLookAtMost told next last (sides_by both new moves starts same once) both.roots.now)
       → OnOk result (LooksForRest told first last both new.now)
-  rest_few A told (Err halt) moving first at next last is are moved listed others = tt
-  rest_few A told (Ok value) moving first at next last is are moved listed others = by told others
+  rest_few A told (Err halt) moving joined first at next last is are moved listed others = tt
+  rest_few A told (Ok value) moving joined first at next last is are moved listed others = by told others
     where
       by : (t : Option (List ℕ)) → OthersLookAtMost t next last (sides_by both new moves starts same once) both.roots.now
           → LooksForRest t first last both new.now
       by None others = tt
       by (Some image) others = record {
         moving = marked_by moving;
-        marks = count_of moving;
+        moved = count_of moving;
+        marks = count_of joined;
         known = known_by (sides_by both new moves starts same once).known;
         by_kept = refl;
         marked_is = refl;
@@ -84,24 +85,27 @@ module _ {L : Type 0} (both : Compared L) (new : Bor (List Chunk)) (moves : Bor 
         roots = others.1;
         tree = others.2.tree;
         merged = others.2.merged;
-        looks = moves_few (pairs_of both.kept.now) both.was.map.now new.now both.was.sup.now.nodesize both.was.end (count_of moving) first at next last
+        looks = moves_few (pairs_of both.kept.now) both.was.map.now new.now both.was.sup.now.nodesize both.was.end (count_of moving) (count_of joined)
+            first at next last
             (other_looks_in (sides_by both new moves starts same once) both.roots.now others.1 image) moved listed others.3;
       }
 
   -- the looks for the chunk tree
-  pub map_few : (A : Type 0) (told : Option (List ℕ)) (result : Result A Halt) (old_array olds some : List Chunk) (moving : Marks) (first at next last : ℕ)
+  pub map_few : (A : Type 0) (told : Option (List ℕ)) (result : Result A Halt) (old_array olds some : List Chunk) (moving joined : Marks)
+      (first at next last : ℕ)
       → IsMove both new moves starts same once
       → array_chunks (array_place both.was.sup.now) both.was.sup.now.array both.was.sup.now.array_size ≡ Ok old_array
       → AreDistinctOf old_array olds → HaveHomesOf old_array olds → length olds ≤ length old_array → length some ≤ length new.now
       → AreApart some → ((address n end : ℕ) → place some address n end ≡ place new.now address n end)
-      → AreTreeMoves 3 (pairs_of both.kept.now) olds some both.was.sup.now.nodesize both.was.end (marked_by moving) (under_of starts.now) (count_of moving)
+      → AreTreeMoves 3 (pairs_of both.kept.now) (marked_by both.marks.now) olds some both.was.sup.now.nodesize both.was.end (marked_by moving)
+      (under_of starts.now) (count_of moving) (count_of joined)
       → (ArePlaced (of_tree 3 (pairs_of both.kept.now)) olds both.was.sup.now.nodesize both.was.end → AreApart olds → AreApart some
       → 0 < both.was.sup.now.nodesize → at ≤ first + 2 * count_of moving + 2 * length olds + length some)
-      → next ≤ at + 3 * count_of moving
+      → next ≤ at + 3 * count_of joined
       → OnOk result (LooksAtMost told next last (chunk_looks_in (sides_by both new moves starts same once)))
       → OnOk result (LooksForMap told first last both new.now)
-  map_few A told (Err halt) old_array olds some moving first at next last is array_is distinct homes few_olds few_some apart place_is are moved listed tree = tt
-  map_few A told (Ok value) old_array olds some moving first at next last is array_is distinct homes few_olds few_some apart place_is are moved listed tree = by told tree
+  map_few A told (Err halt) old_array olds some moving joined first at next last is array_is distinct homes few_olds few_some apart place_is are moved listed tree = tt
+  map_few A told (Ok value) old_array olds some moving joined first at next last is array_is distinct homes few_olds few_some apart place_is are moved listed tree = by told tree
     where
       by : (t : Option (List ℕ)) → LooksAtMost t next last (chunk_looks_in (sides_by both new moves starts same once)) → LooksForMap t first last both new.now
       by None tree = tt
@@ -117,23 +121,27 @@ module _ {L : Type 0} (both : Compared L) (new : Bor (List Chunk)) (moves : Bor 
         apart = apart;
         same_place = place_is;
         moving = marked_by moving;
-        marks = count_of moving;
+        moved = count_of moving;
+        marks = count_of joined;
         known = known_by (sides_by both new moves starts same once).known;
         by_kept = refl;
         marked_is = refl;
         moved_is = moves_same moves.now both.was.map.now new.now both.was.sup.now.nodesize both.was.end is.before is.after is.size is.until;
         moves = are;
-        looks = moves_few (of_tree 3 (pairs_of both.kept.now)) olds some both.was.sup.now.nodesize both.was.end (count_of moving) first at next last
+        looks = moves_few (of_tree 3 (pairs_of both.kept.now)) olds some both.was.sup.now.nodesize both.was.end (count_of moving) (count_of joined)
+            first at next last
             (chunk_looks_in (sides_by both new moves starts same once) image) moved listed tree;
       }
 
--- the looks for both
-pub both_few : {D L : Type 0} (disk : Ghosts D) (start second : D) (some all : TreeParts) (both : Compared L) (array chunks : List Chunk)
-    (first at last : ℕ) → HasNewArray both array → disk.bytes second ≡ disk.bytes start → TellsMap disk start second some all both array (Ok chunks)
-    → LooksForMap (disk.bytes start) first at both array → LooksForRest (disk.bytes second) at last both chunks
+-- the looks for all
+pub all_few : {D L : Type 0} (disk : Ghosts D) (start second : D) (some all : TreeParts) (both : Compared L) (array chunks : List Chunk)
+    (first at next last : ℕ) → HasNewArray both array → disk.bytes second ≡ disk.bytes start
+    → TellsMap disk start second some all both array (Ok chunks)
+    → LooksForMap (disk.bytes start) first at both array → LooksForRest (disk.bytes second) at next both chunks
+    → IfSome (disk.bytes start) (λ image. FewToRise both image next last)
     → LooksToCompare (disk.bytes start) first last both
-both_few {D} {L} disk start second some all both array chunks first at last array_is same tells for_map for_rest =
-    by (disk.bytes start) chunks_of for_map (subst (λ told. LooksForRest told at last both chunks) same for_rest)
+all_few {D} {L} disk start second some all both array chunks first at next last array_is same tells for_map for_rest to_rise =
+    by (disk.bytes start) chunks_of for_map (subst (λ told. LooksForRest told at next both chunks) same for_rest) to_rise
   where
     Are : List ℕ → Type 0
     Are image = IsCompared both image → chunk_map_in both.fresh.now array (judged_by both image) ≡ Ok chunks
@@ -147,17 +155,19 @@ both_few {D} {L} disk start second some all both array chunks first at last arra
     chunks_of : IfSome (disk.bytes start) Are
     chunks_of = chunks_at (disk.bytes start) tells
 
-    by : (told : Option (List ℕ)) → IfSome told Are → LooksForMap told first at both array → LooksForRest told at last both chunks
-        → LooksToCompare told first last both
-    by None are a b = tt
-    by (Some image) are a b = record {
+    by : (told : Option (List ℕ)) → IfSome told Are → LooksForMap told first at both array → LooksForRest told at next both chunks
+        → IfSome told (λ image. FewToRise both image next last) → LooksToCompare told first last both
+    by None are a b c = tt
+    by (Some image) are a b c = record {
       array = array;
       chunks = chunks;
       middle = at;
+      later = next;
       array_is = array_is;
       chunks_are = are;
       for_map = a;
       for_rest = b;
+      to_rise = c;
     }
 
 -- the looks from an image as it was

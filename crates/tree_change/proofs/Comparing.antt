@@ -1,5 +1,5 @@
 -- What changes from one image to another, by what changes in its trees.
-use Rattle.std.proofs.Common.{◌≡◌, ℕ, ◌+◌, List, map, ap, sym, ◌∙◌, Ok, Err, subst, arith}
+use Rattle.std.proofs.Common.{◌≡◌, ℕ, ◌+◌, List, ap, sym, ◌∙◌, Ok, Err, subst, arith}
 use Rattle.std.specs.Prelude.{Option, Some, None, IfSome, Result}
 use Rattle.verdict.specs.declared.finding.Finding.{Finding}
 use Rattle.verdict.specs.declared.place.Chunk.{Chunk}
@@ -7,23 +7,26 @@ use Rattle.recon_disk.specs.declared.disk.Disk.{Ghosts}
 use Rattle.super_reader.specs.Superblock.{array_place}
 use Rattle.volume_items.specs.SystemArray.{array_chunks}
 use Rattle.records.specs.Contents.{chunk_map_in, contents}
+use Rattle.live_index.specs.Table.{pairs_of}
+use Rattle.touched_pairs.specs.Marks.{marked_by}
 use Rattle.touched_pairs.specs.Touched.{written_in}
+use Rattle.touched_pairs.specs.declared.marks.PairPlace.{PairPlace}
 use Rattle.block_source.specs.Gives.{IsOutcome}
 use Rattle.block_source.specs.declared.halt.Halt.{Halt}
 use Rattle.block_source.specs.declared.halt.Halt.TheVariants.{Found, Disk, NoMemory}
 use Rattle.tree_change.specs.AllTrees.{no_parts, with_parts}
-use Rattle.tree_change.specs.Change.{IsDifference, ReadsFew, is_before, item_before}
-use Rattle.tree_change.specs.Compared.{FindsRest, HasNewArray, HasNewMap, IsCompared, IsFinished, MakesMap, MakesRest, TellsChange, TellsMap, TellsRest, judged_by}
-use Rattle.tree_change.specs.Gathered.{located_item}
+use Rattle.tree_change.specs.AllLooks.{FewToRise}
+use Rattle.tree_change.specs.Change.{IsDifference, ReadsFew}
+use Rattle.tree_change.specs.Compared.{FindsRest, FitsCompared, HasNewArray, HasNewMap, IsCompared, IsFinished, MakesMap, MakesRest, TellsChange, TellsMap, TellsRest, judged_by}
 use Rattle.tree_change.specs.Making.{IsAdded, parts_by}
-use Rattle.tree_change.specs.Merging.{IsSortedOf}
+use Rattle.tree_change.specs.Rising.{IsRisen}
 use Rattle.tree_change.specs.Walks.{Known, Parts}
 use Rattle.tree_change.specs.declared.change.Change.{Change}
 use Rattle.tree_change.specs.declared.change.Diff.TheVariants.{Change as Changed}
 use Rattle.tree_change.specs.declared.sides.Compared.{Compared}
 use Rattle.tree_change.specs.declared.trees.TreeParts.{TreeParts}
 use Rattle.tree_change.proofs.Adding.{none_before}
-use Rattle.tree_change.proofs.AllChanges.{change_is, finds_array, finds_map, finds_rest}
+use Rattle.tree_change.proofs.AllChanges.{change_is, finds_array, finds_map, finds_rest, rises}
 
 -- parts behind none, and others behind these, are both
 both_added : (start middle all : TreeParts) (some more : Parts) (r0 r1 r2 : ℕ) → parts_by start 0 ≡ no_parts
@@ -33,39 +36,47 @@ both_added start middle all some more r0 r1 r2 none first second =
     second.behind some.count
     ∙ ap (λ parts. with_parts parts more) (ap (λ n. parts_by middle n) zero_more ∙ first.behind 0 ∙ ap (λ parts. with_parts parts some) none ∙ none_before some)
 
-pub compared : {L : Type 0} (both : Compared L) (told : Option (List ℕ)) (array chunks : List Chunk) (start middle all : TreeParts) (change : Change)
-    (r0 r1 r2 : ℕ) → HasNewArray both array → parts_by start 0 ≡ no_parts
-    → IfSome told (λ image. (is : IsCompared both image) → HasNewArray both array
-    → (known : Known) × (parts : Parts) × MakesMap both image is.based.old array chunks known parts × IsAdded start middle parts r0 r1)
-    → IfSome told (λ image. (is : IsCompared both image) → HasNewMap both image chunks
-    → (parts : Parts) × MakesRest both image is.based.old is.based.olds chunks parts × IsAdded middle all parts r1 r2)
-    → IsFinished all chunks change
-    → IfSome told (λ image. IsCompared both image → IsDifference image (judged_by both image) (written_in both.cache.now) (Changed change)
-    × ReadsFew r0 r2 (Changed change))
-compared both None array chunks start middle all change r0 r1 r2 array_is none made rest done = tt
-compared both (Some image) array chunks start middle all change r0 r1 r2 array_is none made rest done = λ is. by is (made is array_is)
-  where
-    by : (is : IsCompared both image)
-        → (known : Known) × (parts : Parts) × MakesMap both image is.based.old array chunks known parts × IsAdded start middle parts r0 r1
-        → IsDifference image (judged_by both image) (written_in both.cache.now) (Changed change) × ReadsFew r0 r2 (Changed change)
-    by is m =
-        let r = rest is (array, m.2.chunks_are) in
-        let some = m.1 in
-        let more = r.0 in
-        let total = both_added start middle all some more r0 r1 r2 none m.3 r.2 in
-        let moved = subst (λ l. IsSortedOf is_before l change.moved.items) (ap (λ (p : Parts). p.moved) total) done.moved in
-        let olds =
-        subst (λ l. IsSortedOf item_before l (map located_item change.old_items.items)) (ap (λ (p : Parts). p.old_items) total) done.old_items in
-        let news =
-        subst (λ l. IsSortedOf item_before l (map located_item change.new_items.items)) (ap (λ (p : Parts). p.new_items) total) done.new_items in
-        let all_is =
-        change_is both image is array chunks m.0 some more change array_is m.2 r.1
-        (done.old_blocks ∙ ap (λ (p : Parts). p.old_blocks) total) (done.new_blocks ∙ ap (λ (p : Parts). p.new_blocks) total)
-        moved olds news done.map_is in
-        let few = m.3.reads in
-        let then_few = r.2.reads in
-        let count = all_is.3 in
-        ((is.based.old, all_is.0, is.based.walks, all_is.1, all_is.2), omega (arith, few, then_few, count))
+-- what the two steps tell, and what is made of it
+module _ {L : Type 0} (both : Compared L) (end : ℕ) (fits : FitsCompared both end) (array chunks : List Chunk) (start middle all made : TreeParts)
+    (places : List PairPlace) (r0 r1 r2 before after : ℕ) (array_is : HasNewArray both array) (none : parts_by start 0 ≡ no_parts)
+    (risen : (count : ℕ) → IsRisen (pairs_of both.table.now) (marked_by both.marks.now) places (parts_by all count) (parts_by made count) before after) where
+  abbrev pub Mapped : List ℕ → Type 0
+  Mapped image = (is : IsCompared both image) → HasNewArray both array
+      → (known : Known) × (parts : Parts) × MakesMap both image is.based.old array chunks known parts × IsAdded start middle parts r0 r1
+
+  abbrev pub Rested : List ℕ → Type 0
+  Rested image = (is : IsCompared both image) → HasNewMap both image chunks
+      → (parts : Parts) × MakesRest both image is.based.old is.based.olds chunks parts × IsAdded middle all parts r1 r2
+
+  -- all parts, with the pairs that rise
+  risen_is : (some more : Parts) → IsAdded start middle some r0 r1 → IsAdded middle all more r1 r2
+      → IsRisen (pairs_of both.table.now) (marked_by both.marks.now) places (with_parts some more) (parts_by made (some.count + more.count)) before after
+  risen_is some more first second =
+      subst (λ parts. IsRisen (pairs_of both.table.now) (marked_by both.marks.now) places parts (parts_by made (some.count + more.count)) before after)
+      (both_added start middle all some more r0 r1 r2 none first second) (risen (some.count + more.count))
+
+  pub compared : (told : Option (List ℕ)) (change : Change) → IfSome told Mapped → IfSome told Rested → IsFinished made chunks change
+      → IfSome told (λ image. IsCompared both image → IsDifference image (judged_by both image) (written_in both.cache.now) (Changed change)
+      × ReadsFew r0 r2 (Changed change))
+  compared None change mapped rested done = tt
+  compared (Some image) change mapped rested done = λ is.
+      let m = mapped is array_is in
+      let r = rested is (array, m.2.chunks_are) in
+      let all_is =
+      change_is both end image fits is array chunks m.0 m.1 r.0 (parts_by made (m.1.count + r.0.count)) places before after array_is m.2 r.1
+      (risen_is m.1 r.0 m.3 r.2) change done.old_blocks done.new_blocks done.moved done.old_items done.new_items done.map_is in
+      let few = m.3.reads in
+      let then_few = r.2.reads in
+      let count = all_is.3 in
+      ((is.based.old, all_is.0, is.based.walks, all_is.1, all_is.2), omega (arith, few, then_few, count))
+
+  pub few_to_rise : (told : Option (List ℕ)) → IfSome told Mapped → IfSome told Rested → IfSome told (λ image. FewToRise both image before after)
+  few_to_rise None mapped rested = tt
+  few_to_rise (Some image) mapped rested = λ is new walks.
+      let m = mapped is array_is in
+      let r = rested is (array, m.2.chunks_are) in
+      rises both end image fits is array chunks m.0 m.1 r.0 (parts_by made (m.1.count + r.0.count)) places before after array_is m.2 r.1
+      (risen_is m.1 r.0 m.3 r.2) new walks
 
 -- the first finding of what the new image holds
 abbrev IsFound : {L : Type 0} → Compared L → Finding → List ℕ → Type 0

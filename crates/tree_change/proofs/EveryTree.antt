@@ -15,10 +15,7 @@ use Rattle.records.specs.Contents.{named_root}
 use Rattle.records.specs.Seen.{Seen}
 use Rattle.records.specs.Walk.{walk_in}
 use Rattle.touched_pairs.specs.Touched.{written_in}
-use Rattle.shared_trees.specs.ArrayShifts.{MovesListedBy}
 use Rattle.shared_trees.specs.LivePairs.{Walked}
-use Rattle.shared_trees.specs.Shared.{is_shared}
-use Rattle.shared_trees.specs.SharedLaw.{MarksTouched}
 use Rattle.shared_trees.specs.TableLaw.{AreApart, Tree}
 use Rattle.shared_trees.proofs.Forest.{walks}
 use Rattle.shared_trees.proofs.Lives.{ok_same}
@@ -26,7 +23,8 @@ use Rattle.shared_trees.proofs.Rooted.{step_ok}
 use Rattle.shared_trees.proofs.Treed.{trees_walk}
 use Rattle.tree_change.specs.AllTrees.{KnowsTrees, gone_all, has_id, named_at, named_parts, no_parts, root_named, with_parts}
 use Rattle.tree_change.specs.Merging.{root_at}
-use Rattle.tree_change.specs.OneTree.{HasRecords, IsAmong, IsOldOf, IsTree, KnowsNothing, KnowsTree, OneTreeLaw, old_tree, shares, side_of}
+use Rattle.tree_change.specs.OneTree.{HasRecords, IsAmong, IsOldOf, IsTree, KnowsNothing, KnowsTree, OneTreeLaw, old_tree, unchanged, side_of}
+use Rattle.tree_change.specs.Unchanged.{ChangesListed, is_unchanged}
 use Rattle.tree_change.specs.Walks.{Known, Parts, Side, gone_parts, tree_parts}
 use Rattle.tree_change.proofs.Vanished.{among, ok_one}
 use Rattle.tree_change.proofs.Ids.{at_id, at_ids, gone_ids}
@@ -41,17 +39,17 @@ knows_tree image pending old trees is known None now of k = record {
   alike = k.alike;
   pairs_are = k.pairs_are;
   moved_is = k.moved_is;
-  marks = tt;
-  moving = k.moving;
-  moves = tt;
+  marked_is = k.marked_is;
+  changing = k.changing;
+  changes = tt;
 }
 knows_tree image pending old trees is known (Some e) now of k = record {
   alike = k.alike;
   pairs_are = k.pairs_are;
   moved_is = k.moved_is;
-  marks = among (MarksTouched old (written_in pending) (length image) known.marked) (old_tree image old e) trees of.1 k.marks;
-  moving = k.moving;
-  moves = among (MovesListedBy old is.chunks (length image) k.moving known.under) (old_tree image old e) trees of.1 k.moves;
+  marked_is = k.marked_is;
+  changing = k.changing;
+  changes = among (ChangesListed old is.chunks (written_in pending) (length image) k.changing known.under) (old_tree image old e) trees of.1 k.changes;
 }
 
 -- or nothing is known of either
@@ -102,7 +100,7 @@ pub tree_piece : (law : OneTreeLaw) (image : List ℕ) (pending : FinMap nat_cmp
     (known : Known) (before : Option Expect) (now : Expect) (parts : Parts)
     → IsTree image pending old trees pairs is known before now → tree_parts pairs known (side_of image old) is before now ≡ Ok parts
     → ((news : List Seen) → walk_in is.sup is.chunks now is.image ≡ Ok news → IsOf now.tree news new.seen
-    × ((live : Live) → live.tree ≡ now.tree → shares image pending old is news live ≡ is_shared old new (written_in pending) (length image) live))
+    × ((live : Live) → live.tree ≡ now.tree → unchanged image pending old is news live ≡ is_unchanged old new (written_in pending) (length image) live))
     → IsPiece (changed old new (written_in pending) (length image)) now.tree parts
 tree_piece law image pending old new trees pairs is known before now parts tree made same =
     let gives = (law image pending old trees pairs is known before now tree).parts parts made in

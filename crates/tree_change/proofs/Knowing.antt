@@ -15,20 +15,21 @@ use Rattle.touched_pairs.specs.OneTree.{in_tree}
 use Rattle.touched_pairs.specs.Spots.{at_address}
 use Rattle.touched_pairs.specs.Touched.{same_place, written_in}
 use Rattle.shared_trees.specs.ArrayLaw.{HasArray}
-use Rattle.shared_trees.specs.Keeping.{Marks, Under}
+use Rattle.shared_trees.specs.Keeping.{AreMarked, Marks, Stands, Under}
 use Rattle.shared_trees.specs.Listed.{AreListedBy}
 use Rattle.shared_trees.specs.LivePairs.{Walked, live_in, table_of}
 use Rattle.shared_trees.specs.Shared.{are_read_alike}
-use Rattle.shared_trees.specs.SharedLaw.{HasTrees, touches_old}
+use Rattle.shared_trees.specs.SharedLaw.{HasTrees, MarksTouched, touches_old}
 use Rattle.shared_trees.specs.TableLaw.{Tree, trees_in}
 use Rattle.shared_trees.proofs.ArrayMoves.{array_moves}
 use Rattle.shared_trees.proofs.Forest.{stands_as}
-use Rattle.shared_trees.proofs.Listing.{lists}
-use Rattle.shared_trees.proofs.MarkedTrees.{marks_image}
-use Rattle.shared_trees.proofs.Premises.{premises_by}
+use Rattle.shared_trees.proofs.MarkedTrees.{marks_image, moves_image}
+use Rattle.shared_trees.proofs.Picking.{each_both, each_map}
 use Rattle.tree_change.specs.AllTrees.{KnowsTrees}
 use Rattle.tree_change.specs.OneTree.{KnowsTree, old_tree}
+use Rattle.tree_change.specs.Unchanged.{ChangesListed, either_mark}
 use Rattle.tree_change.specs.Walks.{Known, Side}
+use Rattle.tree_change.proofs.Changing.{changes_listed, touched_known}
 use Rattle.tree_change.proofs.Olds.{old_stands}
 
 -- pairs are marked from some as from the same
@@ -87,26 +88,52 @@ IsMovedBy image old before after pairs moving =
     AreMarkedFrom pairs (in_tree 3 (held_and_moved before after old.sup.nodesize (length image)))
     (in_tree 3 (is_moved before after old.sup.nodesize (length image))) no_mark moving
 
+-- of the marked pairs those are told apart that writes touch
+abbrev pub AreOwn : List ℕ → FinMap nat_cmp ℕ → Walked → Marks → Marks → Type 0
+AreOwn image pending old marked own =
+    (tree address : ℕ) → own tree address ≡ (marked tree address && touches_old old (written_in pending) (length image) address)
+
 -- all old trees are known
-pub knows_trees : (image : List ℕ) (pending : FinMap nat_cmp ℕ) (old : Walked) (trees : List Tree) (pairs : Pairs) (marked moving : Marks)
+pub knows_trees : (image : List ℕ) (pending : FinMap nat_cmp ℕ) (old : Walked) (trees : List Tree) (pairs : Pairs) (marked own moving : Marks)
     (under : Under) (is : Side) → AreNarrow pairs → HasTrees image old trees
     → ((tree address : ℕ) → pairs tree address ≡ table_of (live_in old.seen) tree address) → are_read_alike old.sup is.sup ≡ true
-    → AreTouched image pending old pairs marked → AreMovedBy image old old.chunks is.chunks pairs moving → AreListedBy pairs moving under
-    → KnowsTrees image pending old trees is (known_of image old pairs marked under is)
-knows_trees image pending old trees pairs marked moving under is narrow has pairs_are alike touched moved listed =
-    let both = premises_by image pending old is.chunks trees pairs marked moving under narrow has pairs_are touched moved listed in
-    record { alike = alike; pairs_are = pairs_are; moved_is = refl; marks = both.0; moving = moving; moves = both.1 }
+    → AreTouched image pending old pairs marked → AreOwn image pending old marked own
+    → AreMovedBy image old old.chunks is.chunks pairs moving → AreListedBy pairs (either_mark moving marked) under
+    → KnowsTrees image pending old trees is (known_of image old pairs own under is)
+knows_trees image pending old trees pairs marked own moving under is narrow has pairs_are alike touched own_are moved listed =
+    let table = table_of (live_in old.seen) in
+    let end = length image in
+    let written = written_in pending in
+    let test = at_address (touches_old old written end) in
+    let stand = (λ (tree : Tree). Stands table old.sup tree.0 tree.1) in
+    let moves = (λ (tree : Tree). AreMarked moving (is_moved old.chunks is.chunks old.sup.nodesize end) old.sup tree.0 tree.1) in
+    record {
+      alike = alike;
+      pairs_are = pairs_are;
+      moved_is = refl;
+      marked_is = touched_known pairs (touches_old old written end) marked own narrow touched own_are;
+      changing = either_mark moving marked;
+      changes = each_map (λ tree. stand tree × (MarksTouched old written end marked tree × moves tree))
+          (ChangesListed old is.chunks written end (either_mark moving marked) under) trees
+          (λ tree h. changes_listed old is.chunks written end pairs marked moving under tree
+          (stands_as old.sup tree table pairs (pairs_are tree.1.tree) h.0) h.1.0 h.1.1 listed)
+          (each_both stand (λ tree. MarksTouched old written end marked tree × moves tree) trees (old_stands image old trees has)
+          (each_both (MarksTouched old written end marked) moves trees
+          (marks_image image old trees pairs test test marked narrow has pairs_are (λ tree address some is. is) touched)
+          (moves_image image old trees pairs is.chunks end moving narrow has pairs_are moved)));
+    }
 
 -- the old chunk tree is known, by the chunks of the new system array, or by others that give the same places
 pub knows_chunk_tree : (image : List ℕ) (pending : FinMap nat_cmp ℕ) (old : Walked) (olds : List RootItem) (old_array some : List Chunk)
-    (pairs : Pairs) (marked moving : Marks) (under : Under) (is : Side) → AreNarrow pairs → HasArray image old old_array
+    (pairs : Pairs) (marked own moving : Marks) (under : Under) (is : Side) → AreNarrow pairs → HasArray image old old_array
     → HasTrees image old (trees_in old.sup old.chunks old.chunks olds image)
     → ((tree address : ℕ) → pairs tree address ≡ table_of (live_in old.seen) tree address) → are_read_alike old.sup is.sup ≡ true
-    → AreTouched image pending old pairs marked
+    → AreTouched image pending old pairs marked → AreOwn image pending old marked own
     → ((address : ℕ) → place some address old.sup.nodesize (length image) ≡ place is.chunks address old.sup.nodesize (length image))
-    → IsMovedBy image old old_array some pairs moving → AreListedBy pairs moving under
-    → KnowsTree image pending old is (known_of image old pairs marked under is) (Some (chunk_tree_root old.sup))
-knows_chunk_tree image pending old olds old_array some pairs marked moving under is narrow has_array has pairs_are alike touched same moved listed =
+    → IsMovedBy image old old_array some pairs moving → AreListedBy pairs (either_mark moving marked) under
+    → KnowsTree image pending old is (known_of image old pairs own under is) (Some (chunk_tree_root old.sup))
+knows_chunk_tree image pending old olds old_array some pairs marked own moving under is narrow has_array has pairs_are alike touched own_are same moved
+    listed =
     let trees = trees_in old.sup old.chunks old.chunks olds image in
     let tree = old_tree image old (chunk_tree_root old.sup) in
     let n = old.sup.nodesize in
@@ -122,11 +149,9 @@ knows_chunk_tree image pending old olds old_array some pairs marked moving under
       alike = alike;
       pairs_are = pairs_are;
       moved_is = refl;
-      marks = all.0;
-      moving = moving;
-      moves = record {
-        marks = array_moves image old old_array is.chunks pairs moving narrow has_array pairs_are by_array;
-        lists = lists pairs moving under old.sup tree.0 tree.1
-            (stands_as old.sup tree (table_of (live_in old.seen)) pairs (pairs_are 3) (old_stands image old trees has).0) listed;
-      };
+      marked_is = touched_known pairs (touches_old old (written_in pending) end) marked own narrow touched own_are;
+      changing = either_mark moving marked;
+      changes = changes_listed old is.chunks (written_in pending) end pairs marked moving under tree
+          (stands_as old.sup tree (table_of (live_in old.seen)) pairs (pairs_are 3) (old_stands image old trees has).0) all.0
+          (array_moves image old old_array is.chunks pairs moving narrow has_array pairs_are by_array) listed;
     }

@@ -9,6 +9,8 @@ use Rattle.std.specs.FinMap.{FinMap}
 use Rattle.verdict.specs.declared.finding.Finding.{Finding}
 use Rattle.verdict.specs.declared.key.Key.{Key}
 use Rattle.super_reader.specs.declared.Super.{Super}
+use Rattle.touched_pairs.specs.Marks.{no_mark}
+use Rattle.touched_pairs.specs.Touched.{written_in}
 use Rattle.live_index.specs.Pairs.{Pairs}
 use Rattle.live_index.specs.declared.live.Live.{Live}
 use Rattle.node_reader.specs.Layout.{pointers_of}
@@ -18,8 +20,9 @@ use Rattle.node_reader.specs.declared.expect.Pointer.{Pointer}
 use Rattle.records.specs.Seen.{Seen}
 use Rattle.records.specs.Walk.{Records, child_of, children_of, high_of, walk_of}
 use Rattle.records.specs.WalkLaw.{children_in, visited, visited_from}
-use Rattle.shared_trees.specs.Keeping.{AreMarked, IsKnown, Marks, OneOf, Stands, Under, anew_of, bound_of, comes_to, is_first, is_same, kept_of, last_if_same, start_of, starts_at, starts_in, starts_of}
+use Rattle.shared_trees.specs.Keeping.{IsKnown, Marks, OneOf, Stands, Under, anew_of, bound_of, comes_to, is_first, is_same, kept_of, last_if_same, start_of, starts_at, starts_in, starts_of}
 use Rattle.shared_trees.specs.LivePairs.{Walked, live_in, table_of}
+use Rattle.shared_trees.specs.Meeting.{met_in}
 use Rattle.shared_trees.specs.OldSide.{kept_at}
 use Rattle.shared_trees.specs.Skips.{Kept}
 use Rattle.shared_trees.specs.Stops.{is_stop}
@@ -31,18 +34,27 @@ use Rattle.shared_trees.proofs.Forest.{stands_as}
 use Rattle.shared_trees.proofs.Leading.{IsAtRest}
 use Rattle.shared_trees.proofs.Picking.{each_both, each_map}
 use Rattle.shared_trees.proofs.Skipping.{children_level}
+use Rattle.tree_change.specs.Looks.{met_by}
 use Rattle.tree_change.specs.OneTree.{IsOldOf, IsTree, KnowsNothing, KnowsTree, old_tree}
+use Rattle.tree_change.specs.Unchanged.{changes_at}
 use Rattle.tree_change.specs.Walks.{Known, Side, kept_by, listed_by}
+use Rattle.tree_change.proofs.MetVisits.{met_rest}
 use Rattle.tree_change.proofs.Olds.{among, old_stands}
 use Rattle.tree_change.proofs.OneKept.{IsGood, all_good}
 use Rattle.tree_change.proofs.OfTree.{LeadsIn}
+use Rattle.tree_change.proofs.OnePlain.{kept_same, met_same, plain}
 use Rattle.tree_change.proofs.TouchedRoot.{new_unknown, starts_length}
 use Rattle.tree_change.proofs.Whole.{none_at, none_of}
 
--- each block of a tree that is walked below a kept one leads on to others: in the tree as it is, and in the tree as it was where no stop has moved
-pub record AreLed (known : Known) (tree : ℕ) : Type 0 where
-  pub new : LeadsIn tree (kept_by known) (listed_by known)
-  pub old : (stops : List Expect) → AreAtRest known.moved stops → LeadsIn tree (kept_at known.pairs stops known.under) (listed_by known)
+-- each block of a tree that is walked below a kept one leads on to others: in the tree as it is, and in the tree as it was, which stops there
+pub record AreLed (known : Known) (is : Side) (now : Expect) : Type 0 where
+  pub new : LeadsIn now.tree (kept_by known) (listed_by known)
+  pub old : LeadsIn now.tree (kept_at known.pairs (met_by known is now) known.under) (listed_by known)
+
+-- none of the kept blocks that the walk of a tree as it is meets has moved
+rest : (known : Known) (is : Side) (now : Expect) → AreAtRest known.moved (met_by known is now)
+unfolding met_in
+rest known is now = met_rest known.pairs known.marked known.moved known.under (listed_by known) is.sup (stored_in is.image is.chunks is.sup.nodesize) now
 
 -- the pair of a block that is kept is that on its level and of its generation
 pub record HasPair (pairs : Pairs) (e : Expect) : Type 0 where
@@ -356,8 +368,11 @@ ok_some (Ok records) fine = (records, refl)
 
 module _ (image : List ℕ) (pending : FinMap nat_cmp ℕ) (old : Walked) (trees : List Tree) (pairs : Pairs) (is : Side) (known : Known)
     (before : Option Expect) (now : Expect) (t : IsTree image pending old trees pairs is known before now) where
+  abbrev changes : ℕ → Bool
+  changes = changes_at old is.chunks (written_in pending) (length image)
+
   abbrev pub K : Kept → Type 0
-  K kept = IsAtRest known.pairs known.moved known.under kept
+  K kept = IsAtRest known.pairs changes known.under kept
 
   -- where the old tree is known, and where there is none
   leads_known : (e : Option Expect) → IsOldOf image old trees now e → KnowsTree image pending old is known e → (kept : Kept) → K kept
@@ -373,14 +388,12 @@ module _ (image : List ℕ) (pending : FinMap nat_cmp ℕ) (old : Walked) (trees
       stands_as old.sup tree (table_of (live_in old.seen)) known.pairs (λ address. knows.pairs_are e.tree address)
       (among (λ t. Stands (table_of (live_in old.seen)) old.sup t.0 t.1) tree trees old_of.1 (old_stands image old trees t.has)) in
       let olds = ok_some (walk_of old.sup stored e) stands.each.fine in
-      let marks : AreMarked knows.moving known.moved old.sup stored e =
-      subst (λ m. AreMarked knows.moving m old.sup stored e) (sym knows.moved_is) knows.moves.marks in
       let Good = IsGood (table_of (live_in olds.0)) old.sup stored e.tree in
-      let Marked = λ (v : Expect). knows.moving v.tree v.address ≡ comes_to known.moved old.sup stored v in
-      let Listed = λ (v : Expect). known.under v.tree v.address ≡ starts_at v.level (knows.moving v.tree) (stored v.address) in
+      let Marked = λ (v : Expect). knows.changing v.tree v.address ≡ comes_to changes old.sup stored v in
+      let Listed = λ (v : Expect). known.under v.tree v.address ≡ starts_at v.level (knows.changing v.tree) (stored v.address) in
       let es = visited old.sup stored e in
-      let Old = IsOldBlock now.tree known.pairs knows.moving known.moved known.under old.sup stored in
-      leads_in now.tree known.pairs knows.moving known.moved known.under old.sup stored kept rests e old_of.0 stands
+      let Old = IsOldBlock now.tree known.pairs knows.changing changes known.under old.sup stored in
+      leads_in now.tree known.pairs knows.changing changes known.under old.sup stored kept rests e old_of.0 stands
       (each_map (λ v. Good v × (Marked v × Listed v)) Old es
       (λ v h. record {
         of = h.0.of ∙ old_of.0;
@@ -391,22 +404,24 @@ module _ (image : List ℕ) (pending : FinMap nat_cmp ℕ) (old : Walked) (trees
         lists = h.1.1;
       })
       (each_both Good (λ v. Marked v × Listed v) es (all_good old.sup stored e olds.0 olds.1)
-      (each_both Marked Listed es marks.each knows.moves.lists.each)))
+      (each_both Marked Listed es knows.changes.marks.each knows.changes.lists.each)))
 
   -- so it is of each tree
-  pub led : AreLed known now.tree
+  pub led : AreLed known is now
   led = by t.known_is
     where
-      by : KnowsTree image pending old is known before ⊎ KnowsNothing old is known → AreLed known now.tree
+      by : KnowsTree image pending old is known before ⊎ KnowsNothing old is known → AreLed known is now
       by (inl knows) = record {
-        new = leads_known before t.was knows (kept_by known) (known_rest known.pairs known.marked known.moved known.under);
-        old = λ stops rest.
-            leads_known before t.was knows (kept_at known.pairs stops known.under)
-            (at_rest known.pairs known.moved known.under stops rest);
+        new = leads_known before t.was knows (kept_by known)
+            (subst K (sym (kept_same image pending old is known before knows)) (known_rest known.pairs no_mark changes known.under));
+        old = leads_known before t.was knows (kept_at known.pairs (met_by known is now) known.under)
+            (at_rest known.pairs changes known.under (met_by known is now)
+            (subst (AreAtRest changes) (sym (met_same image pending old is known before knows now)) (rest (plain image pending old is known before knows) is now)));
       }
       by (inr knows) = record {
         new = λ e last of is.
             absurd (not_some (kept_by known e) last (none_of known.pairs known.marked known.moved known.under knows.none e) is);
-        old = λ stops rest e last of is.
-            absurd (not_some (kept_at known.pairs stops known.under e) last (none_at known.pairs stops known.under knows.none e) is);
+        old = λ e last of kept.
+            let stops = met_by known is now in
+            absurd (not_some (kept_at known.pairs stops known.under e) last (none_at known.pairs stops known.under knows.none e) kept);
       }

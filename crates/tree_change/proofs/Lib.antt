@@ -10,6 +10,7 @@ pub mod Nothing
 pub mod Olds
 pub mod Whole
 pub mod Leaving
+pub mod RisingLoops
 pub mod LastKeys
 pub mod RootRules
 pub mod Naming
@@ -22,6 +23,7 @@ pub mod OneNew
 pub mod OneShifted
 pub mod OneRoots
 pub mod OneSupers
+pub mod OnePlain
 pub mod OneGives
 pub mod OneOld
 pub mod OneNone
@@ -43,9 +45,18 @@ pub mod DistinctChunks
 pub mod TopTrees
 pub mod Unique
 pub mod Contents
+pub mod Changing
 pub mod Knowing
 pub mod Chunks
 pub mod RootItems
+pub mod MarksKnown
+pub mod RisenLists
+pub mod RisenShared
+pub mod RisenPlaces
+pub mod RisenPairs
+pub mod RisenItems
+pub mod Risen
+pub mod RisenAll
 pub mod AllChanges
 pub mod ArraySound
 pub mod ByArray
@@ -72,5 +83,6 @@ pub mod TreeLooks
 pub mod TreeSums
 pub mod ArrayFew
 pub mod MovedSums
+pub mod MovesFew
 pub mod AllFew
 pub mod DifferenceFew

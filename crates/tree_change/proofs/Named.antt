@@ -18,21 +18,17 @@ use Rattle.records.specs.Contents.{chunk_tree_root, named_root, root_tree_root, 
 use Rattle.records.specs.Seen.{Seen}
 use Rattle.records.specs.Walk.{Records, behind, then_records, walk_in, walk_of}
 use Rattle.records.specs.WalkLaw.{visited}
-use Rattle.touched_pairs.specs.Moves.{is_moved}
+use Rattle.touched_pairs.specs.Marks.{no_mark}
 use Rattle.touched_pairs.specs.Touched.{written_in}
-use Rattle.shared_trees.specs.ArrayShifts.{MovesListedBy}
 use Rattle.shared_trees.specs.Ending.{ends_in}
-use Rattle.shared_trees.specs.Keeping.{AreUntouched, Stands, anew_of, kept_of}
+use Rattle.shared_trees.specs.Keeping.{Stands, anew_of}
 use Rattle.shared_trees.specs.KeepingWalk.{skip_in}
 use Rattle.shared_trees.specs.LivePairs.{Walked, live_in, table_of}
 use Rattle.shared_trees.specs.Meeting.{met_in}
-use Rattle.shared_trees.specs.SharedLaw.{MarksTouched, touches_old}
 use Rattle.shared_trees.specs.SkipLaw.{IsSound}
 use Rattle.shared_trees.specs.Skips.{Kept, nothing, unkept}
 use Rattle.shared_trees.specs.TableLaw.{Tree}
 use Rattle.shared_trees.proofs.Forest.{stands_as}
-use Rattle.shared_trees.proofs.Images.{stored_alike}
-use Rattle.shared_trees.proofs.KeptImage.{nodesize_same}
 use Rattle.shared_trees.proofs.ReadAlike.{listed_alike, marked_alike, stands_alike}
 use Rattle.shared_trees.proofs.Rooted.{step_ok}
 use Rattle.shared_trees.proofs.Sharing.{keeps}
@@ -42,8 +38,11 @@ use Rattle.shared_trees.proofs.Trails.{Tells, Trail, all_own, tells, trail_of}
 use Rattle.tree_change.specs.AllTrees.{IsOver, KnowsTrees, NamedLaw, named_parts, no_parts, root_named, with_parts}
 use Rattle.tree_change.specs.Merging.{root_at}
 use Rattle.tree_change.specs.OneTree.{GivesTree, IsAmong, KnowsNothing, KnowsTree, OneTreeLaw, old_tree, side_of}
+use Rattle.tree_change.specs.Unchanged.{ChangesListed, changes_at, none_touched}
 use Rattle.tree_change.specs.Walks.{Known, NewWalk, Parts, Side, kept_by, lasts_by, listed_by, new_walk, no_tree, parts_of, tree_parts}
 use Rattle.tree_change.proofs.Olds.{among, fine_step, gathered, ok_never, old_stands, step_err}
+use Rattle.tree_change.proofs.OneOld.{untouched}
+use Rattle.tree_change.proofs.OnePlain.{kept_same, nothing_marked}
 use Rattle.tree_change.proofs.Whole.{KeepsNone, none_of}
 
 -- records have the finding of others, and where they have none the others have none
@@ -184,21 +183,16 @@ pub known_sound : (image : List ℕ) (pending : FinMap nat_cmp ℕ) (old : Walke
 known_sound image pending old is known e k stands over =
     let was = (old_tree image old e).0 in
     let now = stored_in is.image is.chunks is.sup.nodesize in
-    let judged = overlaid pending 0 image in
-    let touched = touches_old old (written_in pending) (length image) in
-    let moved = is_moved old.chunks is.chunks old.sup.nodesize (length image) in
-    let there : stored_in judged is.chunks old.sup.nodesize ≡ now =
-    ap (stored_in judged is.chunks) (nodesize_same old.sup is.sup k.alike) ∙ ap (λ bytes. stored_in bytes is.chunks is.sup.nodesize) (sym over) in
-    let untouched : AreUntouched touched moved was now =
-    subst (AreUntouched touched moved was) there (stored_alike image pending old.chunks is.chunks old.sup.nodesize) in
-    subst (λ m. IsSound e.tree (kept_of known.pairs known.marked m known.under) nothing (anew_of known.under) is.sup now) (sym k.moved_is)
-    (keeps known.pairs known.marked k.moving touched moved known.under is.sup was now e
-    (stands_alike old.sup is.sup k.alike known.pairs was e
-    (stands_as old.sup (old_tree image old e) (table_of (live_in old.seen)) known.pairs (k.pairs_are e.tree) stands))
-    (marked_alike old.sup is.sup k.alike known.marked touched was e k.marks)
-    (marked_alike old.sup is.sup k.alike k.moving moved was e k.moves.marks)
-    (listed_alike old.sup is.sup k.alike known.under k.moving was e k.moves.lists)
-    untouched)
+    let changes = changes_at old is.chunks (written_in pending) (length image) in
+    let old_stands =
+    stands_alike old.sup is.sup k.alike known.pairs was e
+    (stands_as old.sup (old_tree image old e) (table_of (live_in old.seen)) known.pairs (k.pairs_are e.tree) stands) in
+    subst (λ kept. IsSound e.tree kept nothing (listed_by known) is.sup now) (sym (kept_same image pending old is known (Some e) k))
+    (keeps known.pairs no_mark k.changing none_touched changes known.under is.sup was now e old_stands
+    (nothing_marked is.sup was e old_stands.each.fine)
+    (marked_alike old.sup is.sup k.alike k.changing changes was e k.changes.marks)
+    (listed_alike old.sup is.sup k.alike known.under k.changing was e k.changes.lists)
+    (untouched image pending old [] known.pairs is known.pairs known.under e k.alike over))
 
 -- what is known of all old trees is known of one of them, and of none
 knows_some : (image : List ℕ) (pending : FinMap nat_cmp ℕ) (old : Walked) (trees : List Tree) (is : Side) (known : Known) (e : Expect)
@@ -207,15 +201,15 @@ knows_some image pending old trees is known e k one = record {
   alike = k.alike;
   pairs_are = k.pairs_are;
   moved_is = k.moved_is;
-  marks = among (MarksTouched old (written_in pending) (length image) known.marked) (old_tree image old e) trees one k.marks;
-  moving = k.moving;
-  moves = among (MovesListedBy old is.chunks (length image) k.moving known.under) (old_tree image old e) trees one k.moves;
+  marked_is = k.marked_is;
+  changing = k.changing;
+  changes = among (ChangesListed old is.chunks (written_in pending) (length image) k.changing known.under) (old_tree image old e) trees one k.changes;
 }
 
 knows_none : (image : List ℕ) (pending : FinMap nat_cmp ℕ) (old : Walked) (trees : List Tree) (is : Side) (known : Known)
     → KnowsTrees image pending old trees is known → KnowsTree image pending old is known None
 knows_none image pending old trees is known k =
-    record { alike = k.alike; pairs_are = k.pairs_are; moved_is = k.moved_is; marks = tt; moving = k.moving; moves = tt }
+    record { alike = k.alike; pairs_are = k.pairs_are; moved_is = k.moved_is; marked_is = k.marked_is; changing = k.changing; changes = tt }
 
 module _ (law : OneTreeLaw) (image : List ℕ) (pending : FinMap nat_cmp ℕ) (old : Walked) (olds : List RootItem) (trees : List Tree) (pairs : Pairs)
     (is : Side) (known : Known) (over : IsOver image pending old olds trees pairs is known) where

@@ -31,7 +31,7 @@ use Rattle.shared_trees.proofs.Forest.{stands_as, tree_table}
 use Rattle.shared_trees.proofs.Rooted.{step_ok}
 use Rattle.tree_change.specs.Gathered.{Gathers, blocks_seen}
 use Rattle.tree_change.specs.Merging.{chunks_left, named_before, root_at, roots_left}
-use Rattle.tree_change.specs.OneTree.{ChangesTree, GivesTree, HasRecords, IsAmong, IsOldOf, KnowsNothing, old_tree, shares, side_of}
+use Rattle.tree_change.specs.OneTree.{ChangesTree, GivesTree, HasRecords, IsAmong, IsOldOf, KnowsNothing, old_tree, unchanged, side_of}
 use Rattle.tree_change.specs.Walks.{Known, NewWalk, Parts, Side, kept_by, lasts_by, listed_by, lives_of, new_walk, no_tree, old_or_none, pairs_at, parts_of, tree_parts}
 use Rattle.tree_change.proofs.Ended.{behind_all, ends_whole, lasts_told}
 use Rattle.tree_change.proofs.Free.{all_free, all_of, chunks_all, chunks_ascend, count_seen, lives_told, named_ascend, none_shared, pairs_seen, roots_all, roots_ascend}
@@ -117,7 +117,7 @@ module _ (image : List ℕ) (pending : FinMap nat_cmp ℕ) (old : Walked) (trees
     (has : HasTrees image old trees) (pairs_are : (tree address : ℕ) → pairs tree address ≡ table_of (live_in old.seen) tree address)
     (nothing_is : KnowsNothing old is known) where
   -- no pair is shared
-  free : (news : List Seen) (live : Live) → shares image pending old is news live ≡ false
+  free : (news : List Seen) (live : Live) → unchanged image pending old is news live ≡ false
   unfolding is_shared_by
   free news live = and_false _ _ nothing_is.other
 
@@ -168,7 +168,7 @@ module _ (image : List ℕ) (pending : FinMap nat_cmp ℕ) (old : Walked) (trees
       (o : OldIs before all)
       → ChangesTree image pending old is now o.olds n.news (parts_of pairs (whole is known nothing_is.none now n.news n.walk) (gathered o.olds))
   changes now before new all n o =
-      let shared = shares image pending old is n.news in
+      let shared = unchanged image pending old is n.news in
       let stored = now_stored is known nothing_is.none in
       let table = table_of (live_in n.news) in
       let for = tree_table is.sup stored now n.news n.walk in

@@ -30,7 +30,7 @@ use Rattle.shared_trees.specs.Unshared.{AreOfPairs, is_block_seen, items_in}
 use Rattle.shared_trees.proofs.Skipping.{skips}
 use Rattle.tree_change.specs.Gathered.{Gathers, blocks_seen}
 use Rattle.tree_change.specs.Merging.{chunks_left, named_before, root_at, roots_left}
-use Rattle.tree_change.specs.OneTree.{ChangesTree, GivesTree, HasRecords, shares, side_of}
+use Rattle.tree_change.specs.OneTree.{ChangesTree, GivesTree, HasRecords, unchanged, side_of}
 use Rattle.tree_change.specs.Walks.{Known, NewWalk, Parts, Side, kept_by, lasts_by, listed_by, new_walk, old_or_none, parts_of, tree_parts}
 use Rattle.tree_change.proofs.OneNew.{IsNew, met_is, moved_is, new_blocks, of_pairs, pairs_seen}
 use Rattle.tree_change.proofs.OneShifted.{shifted_kept}
@@ -68,14 +68,14 @@ module _ (image : List ℕ) (pending : FinMap nat_cmp ℕ) (old : Walked) (pairs
 
   -- What is known of the two walks of a tree, where the whole new one has these records.
   pub record AreBoth (news : List Seen) : Type 0 where
-    pub new : IsNew pairs (kept_by known) (listed_by known) (lasts_by known) (shares image pending old is news) is.sup stored now news
+    pub new : IsNew pairs (kept_by known) (listed_by known) (lasts_by known) (unchanged image pending old is news) is.sup stored now news
     pub olds : List Seen
     pub gone : List Seen
     pub has : HasRecords image old before olds
     pub old_is : old_or_none known (stops_of (kept_by known) (listed_by known) is.sup stored now) (side_of image old) before ≡ Ok (gathered gone)
     pub whole_is : WalksWhole (stops_of (kept_by known) (listed_by known) is.sup stored now) before gone
-    pub old_pairs : AreOfPairs pairs (filter (λ live. not (shares image pending old is news live)) (live_in olds)) olds gone
-    pub shifts : AllByRecursion (λ v. shares image pending old is news (live_at is.sup stored v) ≡ true
+    pub old_pairs : AreOfPairs pairs (filter (λ live. not (unchanged image pending old is news live)) (live_in olds)) olds gone
+    pub shifts : AllByRecursion (λ v. unchanged image pending old is news (live_at is.sup stored v) ≡ true
         → is_shifted (live_in olds) (live_at is.sup stored v) ≡ is_other_than (pairs v.tree v.address) (live_at is.sup stored v))
         (visited is.sup stored now)
     pub chunks : (come : List Seen) → unkept (kept_by known) nothing is.sup stored now ≡ Ok come → now.tree ≡ 3
@@ -99,14 +99,14 @@ module _ (image : List ℕ) (pending : FinMap nat_cmp ℕ) (old : Walked) (pairs
       (new_is both.new.sound ∙ ap (λ records. and_then records (λ records. Ok (new_of records))) come_is)
       ∙ ap (λ walk. and_then walk (λ old. Ok (parts_of pairs (new_of come) old)))
       (ap (λ met. old_or_none known met was before)
-      (met_is pairs (kept_by known) (listed_by known) (lasts_by known) (shares image pending old is news) is.sup stored now news both.new come
+      (met_is pairs (kept_by known) (listed_by known) (lasts_by known) (unchanged image pending old is news) is.sup stored now news both.new come
       come_is)
       ∙ both.old_is)
 
   changes : (news : List Seen) → (both : AreBoth news) → (come : List Seen) → unkept (kept_by known) nothing is.sup stored now ≡ Ok come
       → ChangesTree image pending old is now both.olds news (parts_of pairs (new_of come) (gathered both.gone))
   changes news both come come_is =
-      let shared = shares image pending old is news in
+      let shared = unchanged image pending old is news in
       let fresh = λ (live : Live). not (shared live) in
       let new = both.new in
       let here = of_pairs pairs (kept_by known) (listed_by known) (lasts_by known) shared is.sup stored now news new come come_is in

@@ -19,6 +19,7 @@ use Rattle.records.specs.Contents.{named_root}
 use Rattle.records.specs.Seen.{Seen}
 use Rattle.records.specs.Walk.{Records, behind, each, then_records, walk_in, walk_of}
 use Rattle.records.specs.WalkLaw.{visited}
+use Rattle.touched_pairs.specs.Marks.{no_mark}
 use Rattle.touched_pairs.specs.Touched.{stays_in_place, written_in}
 use Rattle.shared_trees.specs.Ending.{Ends}
 use Rattle.shared_trees.specs.KeepingWalk.{skip_in}
@@ -35,7 +36,7 @@ use Rattle.shared_trees.specs.Skips.{Kept, nothing, skip_of, unkept}
 use Rattle.shared_trees.specs.Stops.{stops_of}
 use Rattle.shared_trees.specs.TableLaw.{AreApart, Tree, is_other}
 use Rattle.shared_trees.proofs.EndsTold.{ends}
-use Rattle.shared_trees.proofs.Forest.{of_root, stands_as, tree_table}
+use Rattle.shared_trees.proofs.Forest.{of_root, stands_as, tables_stand, tree_table}
 use Rattle.shared_trees.proofs.Images.{read_alike, stored_alike}
 use Rattle.shared_trees.proofs.Kept.{keeps_tree}
 use Rattle.shared_trees.proofs.KeptImage.{nodesize_same}
@@ -51,13 +52,16 @@ use Rattle.shared_trees.proofs.Picking.{each_map}
 use Rattle.shared_trees.proofs.ReadAlike.{listed_alike, marked_alike, stands_alike}
 use Rattle.shared_trees.proofs.Sharing.{keeps}
 use Rattle.shared_trees.proofs.Sifting.{nil}
+use Rattle.shared_trees.proofs.Treed.{trees_walk}
 use Rattle.tree_change.specs.Gathered.{blocks_seen}
-use Rattle.tree_change.specs.OneTree.{GivesTree, IsAmong, alone, old_tree, shares}
+use Rattle.tree_change.specs.OneTree.{GivesTree, IsAmong, IsOldOf, KnowsTree, alone, old_tree, unchanged}
+use Rattle.tree_change.specs.Unchanged.{changes_at, none_touched, stays_unchanged}
 use Rattle.tree_change.specs.Walks.{Known, Side, lasts_by, old_walk}
 use Rattle.tree_change.proofs.FirstCopies.{skip_firsts}
 use Rattle.tree_change.proofs.OneGives.{AreBoth, gives_tree}
 use Rattle.tree_change.proofs.OneKept.{was_kept}
 use Rattle.tree_change.proofs.OneNew.{IsKeptBlock, IsNew}
+use Rattle.tree_change.proofs.OnePlain.{nothing_marked, untouched_alike}
 use Rattle.tree_change.proofs.OneRoots.{roots_named}
 use Rattle.tree_change.proofs.OneShifted.{shifts_as}
 use Rattle.tree_change.proofs.OneSupers.{unkept_alike, unkept_fine}
@@ -118,7 +122,7 @@ shifted_same pairs others same sup stored (e ∷ es) =
     ∙ ap (λ lives. if is_other_than (others e.tree e.address) (live_at sup stored e) then live_at sup stored e ∷ lives else lives)
     (shifted_same pairs others same sup stored es)
 
-module _ (image : List ℕ) (pending : FinMap nat_cmp ℕ) (old : Walked) (trees : List Tree) (pairs : Pairs) (is : Side) (table : Pairs) (marked : Marks)
+module _ (image : List ℕ) (pending : FinMap nat_cmp ℕ) (old : Walked) (trees : List Tree) (pairs : Pairs) (is : Side) (table : Pairs)
     (under : Under) (now : Expect) where
   abbrev pub stored : Stored
   stored = stored_in is.image is.chunks is.sup.nodesize
@@ -127,28 +131,28 @@ module _ (image : List ℕ) (pending : FinMap nat_cmp ℕ) (old : Walked) (trees
   was = stored_in image old.chunks old.sup.nodesize
 
   abbrev pub stays : ℕ → Bool
-  stays = stays_in_place old.chunks is.chunks old.sup.nodesize (length image)
+  stays = stays_unchanged old is.chunks (written_in pending) (length image)
 
-  abbrev pub moved : ℕ → Bool
-  moved a = not (stays a)
-
-  abbrev pub touched : ℕ → Bool
-  touched = touches_old old (written_in pending) (length image)
+  abbrev pub changes : ℕ → Bool
+  changes = changes_at old is.chunks (written_in pending) (length image)
 
   abbrev pub known : Known
-  known = record { pairs = table; marked = marked; moved = moved; under = under }
+  known = record { pairs = table; marked = no_mark; moved = changes; under = under }
 
   abbrev pub K : Kept
-  K = kept_of table marked moved under
+  K = kept_of table no_mark changes under
 
-  pub untouched : are_read_alike old.sup is.sup ≡ true → is.image ≡ overlaid pending 0 image → AreUntouched touched moved was stored
+  pub untouched : are_read_alike old.sup is.sup ≡ true → is.image ≡ overlaid pending 0 image → AreUntouched none_touched changes was stored
   untouched alike over =
-      subst (λ n. AreUntouched touched moved was (stored_in is.image is.chunks n)) (nodesize_same old.sup is.sup alike)
-      (subst (λ i. AreUntouched touched moved was (stored_in i is.chunks old.sup.nodesize)) (sym over)
-      (stored_alike image pending old.chunks is.chunks old.sup.nodesize))
+      let moved = stays_in_place old.chunks is.chunks old.sup.nodesize (length image) in
+      let touched = touches_old old (written_in pending) (length image) in
+      untouched_alike moved touched was stored
+      (subst (λ n. AreUntouched touched (λ a. not (moved a)) was (stored_in is.image is.chunks n)) (nodesize_same old.sup is.sup alike)
+      (subst (λ i. AreUntouched touched (λ a. not (moved a)) was (stored_in i is.chunks old.sup.nodesize)) (sym over)
+      (stored_alike image pending old.chunks is.chunks old.sup.nodesize)))
 
   -- what is known of the old tree, whose root this is, and of what is stored now
-  pub record IsOld (before : Expect) (moving : Marks) : Type 0 where
+  pub record IsOld (before : Expect) (changing : Marks) : Type 0 where
     pub alike : are_read_alike old.sup is.sup ≡ true
     pub same : now.tree ≡ before.tree
     pub among : IsAmong (old_tree image old before) trees
@@ -159,12 +163,11 @@ module _ (image : List ℕ) (pending : FinMap nat_cmp ℕ) (old : Walked) (trees
     pub apart : AreApart trees
     pub walks : each (λ tree. walk_of old.sup tree.0 tree.1) trees ≡ Ok old.seen
     pub stands : Stands (table_of (live_in old.seen)) old.sup was before
-    pub marks : AreMarked marked touched old.sup was before
-    pub moves : AreMarked moving moved old.sup was before
-    pub lists : AreListed under moving old.sup was before
-    pub alike_stored : AreUntouched touched moved was stored
+    pub marks : AreMarked changing changes old.sup was before
+    pub lists : AreListed under changing old.sup was before
+    pub alike_stored : AreUntouched none_touched changes was stored
 
-  module _ (before : Expect) (moving : Marks) (o : IsOld before moving) where
+  module _ (before : Expect) (changing : Marks) (o : IsOld before changing) where
     old_stands : Stands table old.sup was before
     old_stands = stands_as old.sup (was, before) (table_of (live_in old.seen)) table (o.tables_are before.tree) o.stands
 
@@ -175,28 +178,32 @@ module _ (image : List ℕ) (pending : FinMap nat_cmp ℕ) (old : Walked) (trees
     stands_now : Stands table is.sup was before
     stands_now = stands_alike old.sup is.sup o.alike table was before old_stands
 
-    marks_now : AreMarked marked touched is.sup was before
-    marks_now = marked_alike old.sup is.sup o.alike marked touched was before o.marks
+    none_now : AreMarked no_mark none_touched is.sup was before
+    none_now = nothing_marked is.sup was before stands_now.each.fine
 
-    moves_now : AreMarked moving moved is.sup was before
-    moves_now = marked_alike old.sup is.sup o.alike moving moved was before o.moves
+    marks_now : AreMarked changing changes is.sup was before
+    marks_now = marked_alike old.sup is.sup o.alike changing changes was before o.marks
 
-    lists_now : AreListed under moving is.sup was before
-    lists_now = listed_alike old.sup is.sup o.alike under moving was before o.lists
+    lists_now : AreListed under changing is.sup was before
+    lists_now = listed_alike old.sup is.sup o.alike under changing was before o.lists
+
+    -- by the old one
+    none_before : AreMarked no_mark none_touched old.sup was before
+    none_before = nothing_marked old.sup was before o.stands.each.fine
 
     pub sound : IsSound now.tree K nothing (anew_of under) is.sup stored
     sound = subst (λ t. IsSound t K nothing (anew_of under) is.sup stored) (sym o.same)
-        (keeps table marked moving touched moved under is.sup was stored before stands_now marks_now moves_now lists_now o.alike_stored)
+        (keeps table no_mark changing none_touched changes under is.sup was stored before stands_now none_now marks_now lists_now o.alike_stored)
 
     block : (v : Expect) (last : Key) → v.tree ≡ now.tree → K v ≡ Some last → IsKeptBlock pairs (anew_of under) is.sup stored v
     block v last of kept =
-        let k = was_kept table marked moving touched moved under is.sup was stored before stands_now marks_now lists_now o.alike_stored v last
+        let k = was_kept table no_mark changing none_touched changes under is.sup was stored before stands_now none_now lists_now o.alike_stored v last
         (of ∙ o.same) kept in
         record {
           was = k.was;
           known = o.pairs_are v.tree v.address ∙ (sym (o.tables_are v.tree v.address) ∙ k.known);
           is = k.is;
-          test = moving v.tree;
+          test = changing v.tree;
           lists = ap (starts_of (v.level - 1) v) k.lists;
         }
 
@@ -205,17 +212,17 @@ module _ (image : List ℕ) (pending : FinMap nat_cmp ℕ) (old : Walked) (trees
 
     module _ (news : List Seen) (walk : walk_of is.sup stored now ≡ Ok news) where
       abbrev pub shared : Live → Bool
-      shared = shares image pending old is news
+      shared = unchanged image pending old is news
 
       kept_shared : AllByRecursion (λ v. is_some (K v) ≡ shared (live_at is.sup stored v)) (visited is.sup stored now)
       kept_shared =
-          keeps_tree stays touched old (alone is news) trees table marked under stored now o.apart o.walks
+          keeps_tree stays none_touched old (alone is news) trees table no_mark under stored now o.apart o.walks
           (tree_table is.sup stored now news walk) o.high o.alike (λ address. o.tables_are now.tree address)
-          (each_map (λ (t : Tree). t.1.tree ≡ before.tree → IsBefore stays touched old marked stored t)
-          (λ (t : Tree). t.1.tree ≡ now.tree → IsBefore stays touched old marked stored t) trees
+          (each_map (λ (t : Tree). t.1.tree ≡ before.tree → IsBefore stays none_touched old no_mark stored t)
+          (λ (t : Tree). t.1.tree ≡ now.tree → IsBefore stays none_touched old no_mark stored t) trees
           (λ t h id. h (id ∙ o.same))
-          (only_one (IsBefore stays touched old marked stored) (old_tree image old before) trees o.apart o.among
-          (record { marks = o.marks; alike = o.alike_stored })))
+          (only_one (IsBefore stays none_touched old no_mark stored) (old_tree image old before) trees o.apart o.among
+          (record { marks = none_before; alike = o.alike_stored })))
 
       new : IsNew pairs K (anew_of under) (lasts_by known) shared is.sup stored now news
       new = record {
@@ -224,10 +231,10 @@ module _ (image : List ℕ) (pending : FinMap nat_cmp ℕ) (old : Walked) (trees
         keeps = kept_shared;
         blocks = block;
         ends = ap (λ (e : Ends). e.blocks)
-            (ends table marked moving touched moved under is.sup was stored before now stands_now marks_now moves_now lists_now o.alike_stored o.same
+            (ends table no_mark changing none_touched changes under is.sup was stored before now stands_now none_now marks_now lists_now o.alike_stored o.same
             (rw walk refl));
         shifted = shifted_same pairs table same_pairs is.sup stored (kept_in K is.sup stored now)
-            ∙ (shows table marked moving touched moved under is.sup was stored before now stands_now marks_now moves_now lists_now
+            ∙ (shows table no_mark changing none_touched changes under is.sup was stored before now stands_now none_now marks_now lists_now
             o.alike_stored o.same (rw walk refl)
             ∙ sym (shifted_same pairs table same_pairs is.sup stored (stops_of K (anew_of under) is.sup stored now)));
       }
@@ -239,7 +246,7 @@ module _ (image : List ℕ) (pending : FinMap nat_cmp ℕ) (old : Walked) (trees
       tells : TellsShared shared K old.sup stored now
       tells =
           let alike = give_alike old.sup is.sup o.alike in
-          (tells_shared stays touched old (alone is news) K old.sup ((stored, now) ∷ []) (tt, tt)
+          (tells_shared stays none_touched old (alone is news) K old.sup ((stored, now) ∷ []) (tt, tt)
           (one_walk (walk_of old.sup stored now) news walk_old)).0
           (record {
             fine = rw walk_old refl;
@@ -250,7 +257,8 @@ module _ (image : List ℕ) (pending : FinMap nat_cmp ℕ) (old : Walked) (trees
 
       both_share : AreShared shared old.sup was stored before now
       both_share =
-          knows_shared table marked touched moved under shared old.sup was stored before now o.same old_stands o.marks o.alike_stored tells
+          knows_shared table no_mark none_touched changes under shared old.sup was stored before now o.same old_stands none_before o.alike_stored
+          tells
 
       -- the old walk gives the blocks and the items that are not shared
       old_gives : skip_of (kept_at table (stops_of K (anew_of under) is.sup stored now) under) nothing (anew_of under) old.sup was before
@@ -258,8 +266,8 @@ module _ (image : List ℕ) (pending : FinMap nat_cmp ℕ) (old : Walked) (trees
       old_gives =
           ap (λ stops. skip_of (kept_at table stops under) nothing (anew_of under) old.sup was before)
           (sym ((give_alike old.sup is.sup o.alike).stops K (anew_of under) stored now))
-          ∙ old_side table marked moving touched moved under shared old.sup was stored before now o.root o.same old_stands o.marks o.moves o.lists
-          o.alike_stored tells
+          ∙ old_side table no_mark changing none_touched changes under shared old.sup was stored before now o.root o.same old_stands none_before
+          o.marks o.lists o.alike_stored tells
 
       read : (olds gone come : List Seen) → walk_of old.sup was before ≡ Ok olds
           → unkept (kept_where shared old.sup was) nothing old.sup was before ≡ Ok gone
@@ -306,3 +314,29 @@ module _ (image : List ℕ) (pending : FinMap nat_cmp ℕ) (old : Walked) (trees
 
     pub gives_old : GivesTree image pending old pairs is known (Some before) now
     gives_old = gives_tree image pending old pairs is known (Some before) now sound are_both
+
+-- so it is of the old tree of the new one's id, where that is known
+pub old_is : (image : List ℕ) (pending : FinMap nat_cmp ℕ) (old : Walked) (trees : List Tree) (pairs : Pairs) (is : Side) (known : Known)
+    (now e : Expect) → HasTrees image old trees → ((tree address : ℕ) → pairs tree address ≡ table_of (live_in old.seen) tree address)
+    → is.image ≡ overlaid pending 0 image → IsRoot now → IsOldOf image old trees now (Some e)
+    → (knows : KnowsTree image pending old is known (Some e))
+    → IsOld image pending old trees pairs is known.pairs known.under now e knows.changing
+old_is image pending old trees pairs is known now e has pairs_are over root old_of knows =
+    let walk = trees_walk image old trees has in
+    let table = table_of (live_in old.seen) in
+    record {
+      alike = knows.alike;
+      same = sym old_of.0;
+      among = old_of.1;
+      root = among_is (λ tree. IsRoot tree.1) (stored_in image old.chunks old.sup.nodesize, e) trees (roots_of image old trees has) old_of.1;
+      high = root.1;
+      tables_are = knows.pairs_are;
+      pairs_are = pairs_are;
+      apart = walk.0;
+      walks = walk.1;
+      stands = among_is (λ tree. Stands table old.sup tree.0 tree.1) (stored_in image old.chunks old.sup.nodesize, e) trees
+          (tables_stand old.sup trees old.seen walk.0 walk.1) old_of.1;
+      marks = knows.changes.marks;
+      lists = knows.changes.lists;
+      alike_stored = untouched image pending old trees pairs is known.pairs known.under now knows.alike over;
+    }

@@ -1,5 +1,5 @@
 -- What the two walks of a tree give is what changes in it, where blocks are read alike in both images.
-use Rattle.std.proofs.Common.{◌≡◌, ℕ, ◌==◌, Bool, true, false, ◌||◌, List, [], length, refl, ap, sym, subst, ◌∙◌, arith, if◌then◌else◌}
+use Rattle.std.proofs.Common.{◌≡◌, ℕ, ◌==◌, Bool, true, false, List, [], length, refl, ap, sym, subst, ◌∙◌, arith, if◌then◌else◌}
 use Rattle.std.proofs.lemmas.Bool.Decides.{nat_tests}
 use Rattle.std.specs.Prelude.{Option, Some, None, Ok, is_some}
 use Rattle.std.specs.List.{AllByRecursion}
@@ -14,26 +14,28 @@ use Rattle.node_reader.specs.declared.expect.Expect.{Expect}
 use Rattle.records.specs.Seen.{Seen}
 use Rattle.records.specs.Walk.{walk_of}
 use Rattle.records.specs.WalkLaw.{visited}
-use Rattle.touched_pairs.specs.Moves.{is_moved}
+use Rattle.touched_pairs.specs.Marks.{no_mark}
 use Rattle.touched_pairs.specs.Touched.{written_in}
-use Rattle.shared_trees.specs.Keeping.{Marks, Stands, Under, kept_of, last_if_same, live_at}
+use Rattle.shared_trees.specs.Keeping.{Under, kept_of, last_if_same, live_at}
 use Rattle.shared_trees.specs.LivePairs.{Walked, live_in, table_of}
 use Rattle.shared_trees.specs.MovedLaw.{is_other_than}
 use Rattle.shared_trees.specs.OldSide.{IsRoot}
 use Rattle.shared_trees.specs.Shared.{are_read_alike}
-use Rattle.shared_trees.specs.SharedLaw.{HasTrees, IsBefore, stays_between, touches_old}
+use Rattle.shared_trees.specs.SharedLaw.{HasTrees, IsBefore}
 use Rattle.shared_trees.specs.ShiftedLaw.{is_shifted}
 use Rattle.shared_trees.specs.Skips.{Kept}
 use Rattle.shared_trees.specs.TableLaw.{Tree}
-use Rattle.shared_trees.proofs.Forest.{all_lives, lives_all, of_root, others_all, table_none, tables_stand, tree_table}
+use Rattle.shared_trees.proofs.Forest.{all_lives, lives_all, of_root, others_all, table_none, tree_table}
 use Rattle.shared_trees.proofs.Kept.{keeps_tree}
 use Rattle.shared_trees.proofs.Picking.{each_both, each_map}
 use Rattle.shared_trees.proofs.Treed.{trees_walk}
-use Rattle.tree_change.specs.OneTree.{GivesTree, IsOldOf, KnowsTree, alone, shares}
+use Rattle.tree_change.specs.OneTree.{GivesTree, IsOldOf, KnowsTree, alone, unchanged}
+use Rattle.tree_change.specs.Unchanged.{changes_at, none_touched, stays_unchanged}
 use Rattle.tree_change.specs.Walks.{Known, Side, lasts_by}
 use Rattle.tree_change.proofs.OneGives.{AreBoth, gives_tree}
 use Rattle.tree_change.proofs.OneNone.{none_new, none_sound}
-use Rattle.tree_change.proofs.OneOld.{among_is, gives_old, roots_of, untouched}
+use Rattle.tree_change.proofs.OneOld.{gives_old, old_is}
+use Rattle.tree_change.proofs.OnePlain.{gives_plain, plain}
 
 -- what the two walks of a tree give is what changes in it, where the old tree is known
 abbrev pub AlikeTreeLaw : Type 0
@@ -54,21 +56,24 @@ other_id : (m n : ℕ) → (m == n) ≡ false → m ≡ n → ⊥
 other_id m n other same = grind (arith, nat_tests)
 
 -- where no old tree has the id, nothing of the tree is known
-module _ (image : List ℕ) (pending : FinMap nat_cmp ℕ) (old : Walked) (trees : List Tree) (pairs : Pairs) (is : Side) (table : Pairs) (marked : Marks)
+module _ (image : List ℕ) (pending : FinMap nat_cmp ℕ) (old : Walked) (trees : List Tree) (pairs : Pairs) (is : Side) (table : Pairs)
     (under : Under) (now : Expect) (has : HasTrees image old trees) (alike : are_read_alike old.sup is.sup ≡ true) (high : now.high ≡ None)
     (tables_are : (tree address : ℕ) → table tree address ≡ table_of (live_in old.seen) tree address)
     (others : AllByRecursion (λ (tree : Tree). (tree.1.tree == now.tree) ≡ false) trees) where
   abbrev pub stored : Stored
   stored = stored_in is.image is.chunks is.sup.nodesize
 
-  abbrev pub moved : ℕ → Bool
-  moved = is_moved old.chunks is.chunks old.sup.nodesize (length image)
+  abbrev pub stays : ℕ → Bool
+  stays = stays_unchanged old is.chunks (written_in pending) (length image)
+
+  abbrev pub changes : ℕ → Bool
+  changes = changes_at old is.chunks (written_in pending) (length image)
 
   abbrev pub known : Known
-  known = record { pairs = table; marked = marked; moved = moved; under = under }
+  known = record { pairs = table; marked = no_mark; moved = changes; under = under }
 
   abbrev pub K : Kept
-  K = kept_of table marked moved under
+  K = kept_of table no_mark changes under
 
   no_entry : (address : ℕ) → table now.tree address ≡ None
   no_entry address =
@@ -81,25 +86,24 @@ module _ (image : List ℕ) (pending : FinMap nat_cmp ℕ) (old : Walked) (trees
   unfolding kept_of
   none_kept e of =
       let entry : table e.tree e.address ≡ None = ap (λ t. table t e.address) of ∙ no_entry e.address in
-      ap (λ (one : Option Live). if marked e.tree e.address || moved e.address then None else last_if_same e (under e.tree e.address) one) entry
-      ∙ by (marked e.tree e.address || moved e.address)
+      ap (λ (one : Option Live). if changes e.address then None else last_if_same e (under e.tree e.address) one) entry ∙ by (changes e.address)
     where
       by : (b : Bool) → (if b then None else last_if_same e (under e.tree e.address) None) ≡ None
       by true = refl
       by false = refl
 
   none_shared : (news : List Seen) → walk_of is.sup stored now ≡ Ok news
-      → AllByRecursion (λ v. shares image pending old is news (live_at is.sup stored v) ≡ false) (visited is.sup stored now)
+      → AllByRecursion (λ v. unchanged image pending old is news (live_at is.sup stored v) ≡ false) (visited is.sup stored now)
   none_shared news walk =
       let all = trees_walk image old trees has in
-      let shared = shares image pending old is news in
-      let B = IsBefore (stays_between old (alone is news) (length image)) (touches_old old (written_in pending) (length image)) old marked stored in
+      let shared = unchanged image pending old is news in
+      let B = IsBefore stays none_touched old no_mark stored in
       each_map (λ v. (v.tree ≡ now.tree) × (is_some (K v) ≡ shared (live_at is.sup stored v))) (λ v. shared (live_at is.sup stored v) ≡ false)
       (visited is.sup stored now)
       (λ v h. sym h.1 ∙ ap (λ (k : Option Key). is_some k) (none_kept v h.0))
       (each_both (λ v. v.tree ≡ now.tree) (λ v. is_some (K v) ≡ shared (live_at is.sup stored v)) (visited is.sup stored now)
       (of_root is.sup (stored, now) (rw walk refl)).each
-      (keeps_tree (stays_between old (alone is news) (length image)) (touches_old old (written_in pending) (length image)) old (alone is news) trees table marked under stored now all.0 all.1
+      (keeps_tree stays none_touched old (alone is news) trees table no_mark under stored now all.0 all.1
       (tree_table is.sup stored now news walk) high alike (λ address. tables_are now.tree address)
       (each_map (λ (t : Tree). (t.1.tree == now.tree) ≡ false) (λ t. t.1.tree ≡ now.tree → B t) trees
       (λ t other same. absurd (other_id t.1.tree now.tree other same)) others)))
@@ -108,7 +112,7 @@ module _ (image : List ℕ) (pending : FinMap nat_cmp ℕ) (old : Walked) (trees
   unfolding live_in
   both_none news walk =
       let apart = none_shared news walk in
-      let shared = shares image pending old is news in
+      let shared = unchanged image pending old is news in
       let no = not_other image old trees now.tree has others in
       record {
         new = none_new K under (lasts_by known) is.sup stored now none_kept pairs shared news walk apart;
@@ -131,41 +135,11 @@ module _ (image : List ℕ) (pending : FinMap nat_cmp ℕ) (old : Walked) (trees
 
 pub alike_tree : AlikeTreeLaw
 alike_tree image pending old trees pairs is known before now has pairs_are over root was knows =
-    subst (λ m. GivesTree image pending old pairs is (record {
-      pairs = known.pairs;
-      marked = known.marked;
-      moved = m;
-      under = known.under;
-    }) before now)
-    (sym knows.moved_is) (by before was knows)
+    gives_plain image pending old is known before knows pairs now (by before was knows)
   where
-    by : (e : Option Expect) → IsOldOf image old trees now e → KnowsTree image pending old is known e
-        → GivesTree image pending old pairs is (record {
-          pairs = known.pairs;
-          marked = known.marked;
-          moved = is_moved old.chunks is.chunks old.sup.nodesize (length image);
-          under = known.under;
-        }) e now
-    by None others knows =
-        gives_none image pending old trees pairs is known.pairs known.marked known.under now has knows.alike root.1 knows.pairs_are others
+    by : (e : Option Expect) → IsOldOf image old trees now e → (knows : KnowsTree image pending old is known e)
+        → GivesTree image pending old pairs is (plain image pending old is known e knows) e now
+    by None others knows = gives_none image pending old trees pairs is known.pairs known.under now has knows.alike root.1 knows.pairs_are others
     by (Some e) old_of knows =
-        let walk = trees_walk image old trees has in
-        let table = table_of (live_in old.seen) in
-        gives_old image pending old trees pairs is known.pairs known.marked known.under now e knows.moving
-        (record {
-          alike = knows.alike;
-          same = sym old_of.0;
-          among = old_of.1;
-          root = among_is (λ tree. IsRoot tree.1) (stored_in image old.chunks old.sup.nodesize, e) trees (roots_of image old trees has) old_of.1;
-          high = root.1;
-          tables_are = knows.pairs_are;
-          pairs_are = pairs_are;
-          apart = walk.0;
-          walks = walk.1;
-          stands = among_is (λ tree. Stands table old.sup tree.0 tree.1) (stored_in image old.chunks old.sup.nodesize, e) trees
-              (tables_stand old.sup trees old.seen walk.0 walk.1) old_of.1;
-          marks = knows.marks;
-          moves = knows.moves.marks;
-          lists = knows.moves.lists;
-          alike_stored = untouched image pending old trees pairs is known.pairs known.marked known.under now knows.alike over;
-        })
+        gives_old image pending old trees pairs is known.pairs known.under now e knows.changing
+        (old_is image pending old trees pairs is known now e has pairs_are over root old_of knows)

@@ -13,11 +13,11 @@ use Rattle.records.specs.Seen.{Seen}
 use Rattle.touched_pairs.specs.Touched.{Written, written_in}
 use Rattle.shared_trees.specs.LivePairs.{Walked, live_in}
 use Rattle.shared_trees.specs.MergedLaw.{items}
-use Rattle.shared_trees.specs.Shared.{is_shared, unshared_in}
-use Rattle.shared_trees.specs.ShiftedLaw.{is_shifted, shifted_in}
+use Rattle.shared_trees.specs.ShiftedLaw.{is_shifted}
 use Rattle.shared_trees.specs.Unshared.{items_in}
 use Rattle.tree_change.specs.AllTrees.{no_parts, with_parts}
-use Rattle.tree_change.specs.OneTree.{ChangesTree, shares}
+use Rattle.tree_change.specs.OneTree.{ChangesTree, unchanged}
+use Rattle.tree_change.specs.Unchanged.{changed_in, is_unchanged, unchanged_shifted}
 use Rattle.tree_change.specs.Walks.{Parts, Side}
 use Rattle.tree_change.proofs.Alone.{shifted_same}
 use Rattle.tree_change.proofs.Split.{IsOf, items_filter, stands_in}
@@ -26,11 +26,11 @@ use Rattle.tree_change.proofs.Unordered.{any_filter, filter_swap, of_id, of_ids}
 -- what changes in all, by the definitions
 abbrev pub changed : Walked → Walked → Written → ℕ → Parts
 changed old new written end = record {
-  old_blocks = unshared_in old new written end old;
-  new_blocks = unshared_in old new written end new;
-  moved = shifted_in old new written end;
-  old_items = items_in (unshared_in old new written end old) old.seen;
-  new_items = items_in (unshared_in old new written end new) new.seen;
+  old_blocks = changed_in old new written end old;
+  new_blocks = changed_in old new written end new;
+  moved = unchanged_shifted old new written end;
+  old_items = items_in (changed_in old new written end old) old.seen;
+  new_items = items_in (changed_in old new written end new) new.seen;
   count = 0;
 }
 
@@ -132,42 +132,42 @@ items_of_id id lives records seen of =
 pub piece_of : (image : List ℕ) (pending : FinMap nat_cmp ℕ) (old new : Walked) (is : Side) (now : Expect) (olds news : List Seen) (parts : Parts)
     (id : ℕ)
     → ChangesTree image pending old is now olds news parts → IsOf id olds old.seen → IsOf id news new.seen
-    → ((live : Live) → live.tree ≡ id → shares image pending old is news live ≡ is_shared old new (written_in pending) (length image) live)
+    → ((live : Live) → live.tree ≡ id → unchanged image pending old is news live ≡ is_unchanged old new (written_in pending) (length image) live)
     → IsPiece (changed old new (written_in pending) (length image)) id parts
 piece_of image pending old new is now olds news parts id c of_old of_new same =
     record {
       old_blocks = old_blocks;
       new_blocks = new_blocks;
-      moved = c.moved ∙ (ap (filter (λ live. shares image pending old is news live && is_shifted (live_in olds) live)) of_new.lives
+      moved = c.moved ∙ (ap (filter (λ live. unchanged image pending old is news live && is_shifted (live_in olds) live)) of_new.lives
           ∙ filter_swap (λ live. live_id live == id) (λ live. shared live && is_shifted (live_in old.seen) live)
-          (λ live. shares image pending old is news live && is_shifted (live_in olds) live) (λ live at. shifts live at) (live_in new.seen));
+          (λ live. unchanged image pending old is news live && is_shifted (live_in olds) live) (λ live at. shifts live at) (live_in new.seen));
       old_items = c.old_items ∙ (ap (λ lives. items_in lives olds) old_blocks
-          ∙ items_of_id id (unshared_in old new (written_in pending) (length image) old) olds old.seen of_old);
+          ∙ items_of_id id (changed_in old new (written_in pending) (length image) old) olds old.seen of_old);
       new_items = c.new_items ∙ (ap (λ lives. items_in lives news) new_blocks
-          ∙ items_of_id id (unshared_in old new (written_in pending) (length image) new) news new.seen of_new);
+          ∙ items_of_id id (changed_in old new (written_in pending) (length image) new) news new.seen of_new);
       count = c.count;
     }
   where
     shared : Live → Bool
-    shared live = is_shared old new (written_in pending) (length image) live
+    shared live = is_unchanged old new (written_in pending) (length image) live
 
-    here : (live : Live) → (live_id live == id) ≡ true → shares image pending old is news live ≡ shared live
+    here : (live : Live) → (live_id live == id) ≡ true → unchanged image pending old is news live ≡ shared live
     here live at = same live (eqb-true live.tree id at)
 
     shifts : (live : Live) → (live_id live == id) ≡ true
-        → (shares image pending old is news live && is_shifted (live_in olds) live) ≡ (shared live && is_shifted (live_in old.seen) live)
+        → (unchanged image pending old is news live && is_shifted (live_in olds) live) ≡ (shared live && is_shifted (live_in old.seen) live)
     shifts live at =
         ap (λ b. b && is_shifted (live_in olds) live) (here live at)
         ∙ ap (λ b. shared live && b) (shifted_same id olds old.seen of_old live (eqb-true live.tree id at))
 
-    old_blocks : parts.old_blocks ≡ of_id live_id id (unshared_in old new (written_in pending) (length image) old)
+    old_blocks : parts.old_blocks ≡ of_id live_id id (changed_in old new (written_in pending) (length image) old)
     old_blocks =
-        c.old_blocks ∙ (ap (filter (λ live. not (shares image pending old is news live))) of_old.lives
-        ∙ filter_swap (λ live. live_id live == id) (λ live. not (shared live)) (λ live. not (shares image pending old is news live))
+        c.old_blocks ∙ (ap (filter (λ live. not (unchanged image pending old is news live))) of_old.lives
+        ∙ filter_swap (λ live. live_id live == id) (λ live. not (shared live)) (λ live. not (unchanged image pending old is news live))
         (λ live at. ap not (here live at)) (live_in old.seen))
 
-    new_blocks : parts.new_blocks ≡ of_id live_id id (unshared_in old new (written_in pending) (length image) new)
+    new_blocks : parts.new_blocks ≡ of_id live_id id (changed_in old new (written_in pending) (length image) new)
     new_blocks =
-        c.new_blocks ∙ (ap (filter (λ live. not (shares image pending old is news live))) of_new.lives
-        ∙ filter_swap (λ live. live_id live == id) (λ live. not (shared live)) (λ live. not (shares image pending old is news live))
+        c.new_blocks ∙ (ap (filter (λ live. not (unchanged image pending old is news live))) of_new.lives
+        ∙ filter_swap (λ live. live_id live == id) (λ live. not (shared live)) (λ live. not (unchanged image pending old is news live))
         (λ live at. ap not (here live at)) (live_in new.seen))

@@ -5,25 +5,25 @@ use Rattle.std.specs.Ordering.{nat_cmp}
 use Rattle.std.specs.FinMap.{FinMap}
 use Rattle.verdict.specs.declared.key.Key.{Key}
 use Rattle.live_index.specs.Pairs.{Pairs}
-use Rattle.node_reader.specs.Stored.{CopyFault, Stored, stored_in}
+use Rattle.node_reader.specs.Stored.{CopyFault, stored_in}
 use Rattle.node_reader.specs.declared.expect.Expect.{Expect}
 use Rattle.records.specs.Seen.{Seen}
 use Rattle.records.specs.Walk.{walk_of}
-use Rattle.touched_pairs.specs.Moves.{is_moved}
-use Rattle.shared_trees.specs.Keeping.{Marks, Stands, Under, kept_of, last_if_same, starts_at, starts_of}
+use Rattle.shared_trees.specs.Keeping.{Marks, Under, kept_of, last_if_same, starts_at, starts_of}
 use Rattle.shared_trees.specs.LivePairs.{Walked, live_in, table_of}
-use Rattle.shared_trees.specs.OldSide.{IsRoot}
 use Rattle.shared_trees.specs.SharedLaw.{HasTrees}
+use Rattle.shared_trees.specs.Skips.{Kept}
 use Rattle.shared_trees.specs.TableLaw.{Tree}
 use Rattle.shared_trees.specs.VisitsLaw.{IsLed}
 use Rattle.shared_trees.specs.declared.starts.Start.{Start}
-use Rattle.shared_trees.proofs.Forest.{all_lives, lives_all, others_all, table_none, tables_stand}
+use Rattle.shared_trees.proofs.Forest.{all_lives, lives_all, others_all, table_none}
 use Rattle.shared_trees.proofs.Treed.{trees_walk}
 use Rattle.tree_change.specs.LooksLaw.{IsRootTouched}
 use Rattle.tree_change.specs.OneTree.{IsOldOf, IsTree, KnowsNothing, KnowsTree}
 use Rattle.tree_change.specs.Walks.{Known, Side, kept_by, listed_by}
 use Rattle.tree_change.proofs.OneNew.{IsKeptBlock}
-use Rattle.tree_change.proofs.OneOld.{among_is, are_both, roots_of, untouched}
+use Rattle.tree_change.proofs.OneOld.{are_both, old_is}
+use Rattle.tree_change.proofs.OnePlain.{kept_same, plain}
 use Rattle.tree_change.proofs.Whole.{none_of}
 
 pub starts_length : (level : ℕ) (e : Expect) (starts : List Start) → length (starts_of level e starts) ≡ length starts
@@ -85,40 +85,18 @@ module _ (image : List ℕ) (pending : FinMap nat_cmp ℕ) (old : Walked) (trees
       → walk_of is.sup (stored_in is.image is.chunks is.sup.nodesize) now ≡ Ok news → (last : Key) → kept_by known now ≡ Some last
       → IsKeptBlock pairs (listed_by known) is.sup (stored_in is.image is.chunks is.sup.nodesize) now
   known_root knows news walk last kept =
-      by before t.was knows (subst (λ m. kept_of known.pairs known.marked m known.under now ≡ Some last) knows.moved_is kept)
+      by before t.was knows (sym (ap (λ (k : Kept). k now) (kept_same image pending old is known before knows)) ∙ kept)
     where
-      stored : Stored
-      stored = stored_in is.image is.chunks is.sup.nodesize
-
-      moved : ℕ → Bool
-      moved = is_moved old.chunks is.chunks old.sup.nodesize (length image)
-
-      by : (e : Option Expect) → IsOldOf image old trees now e → KnowsTree image pending old is known e
-          → kept_of known.pairs known.marked moved known.under now ≡ Some last → IsKeptBlock pairs (listed_by known) is.sup stored now
+      by : (e : Option Expect) → IsOldOf image old trees now e → (knows : KnowsTree image pending old is known e)
+          → kept_by (plain image pending old is known e knows) now ≡ Some last
+          → IsKeptBlock pairs (listed_by known) is.sup (stored_in is.image is.chunks is.sup.nodesize) now
       by None others knows kept =
-          absurd (not_some (kept_of known.pairs known.marked moved known.under now) last
-          (unknown known.pairs known.marked moved known.under now (new_unknown image old trees known.pairs now t.has knows.pairs_are others now.address)) kept)
+          let k = plain image pending old is known None knows in
+          absurd (not_some (kept_by k now) last
+          (unknown k.pairs k.marked k.moved k.under now (new_unknown image old trees known.pairs now t.has knows.pairs_are others now.address)) kept)
       by (Some e) old_of knows kept =
-          let steps = trees_walk image old trees t.has in
-          let table = table_of (live_in old.seen) in
-          (are_both image pending old trees pairs is known.pairs known.marked known.under now e knows.moving
-          (record {
-            alike = knows.alike;
-            same = sym old_of.0;
-            among = old_of.1;
-            root = among_is (λ tree. IsRoot tree.1) (stored_in image old.chunks old.sup.nodesize, e) trees (roots_of image old trees t.has) old_of.1;
-            high = t.root.1;
-            tables_are = knows.pairs_are;
-            pairs_are = t.pairs_are;
-            apart = steps.0;
-            walks = steps.1;
-            stands = among_is (λ tree. Stands table old.sup tree.0 tree.1) (stored_in image old.chunks old.sup.nodesize, e) trees
-                (tables_stand old.sup trees old.seen steps.0 steps.1) old_of.1;
-            marks = knows.marks;
-            moves = knows.moves.marks;
-            lists = knows.moves.lists;
-            alike_stored = untouched image pending old trees pairs is known.pairs known.marked known.under now knows.alike t.over;
-          }) news walk).new.blocks now last refl kept
+          (are_both image pending old trees pairs is known.pairs known.under now e knows.changing
+          (old_is image pending old trees pairs is known now e t.has t.pairs_are t.over t.root old_of knows) news walk).new.blocks now last refl kept
 
   -- a kept root below which a child is walked is no leaf
   root_node : (news : List Seen) → walk_of is.sup (stored_in is.image is.chunks is.sup.nodesize) now ≡ Ok news → (last : Key)

@@ -25,7 +25,7 @@ use Rattle.shared_trees.specs.Shared.{are_read_alike}
 use Rattle.shared_trees.specs.Skips.{Kept}
 use Rattle.shared_trees.specs.TableLaw.{Tree}
 use Rattle.shared_trees.specs.Visits.{visits_in}
-use Rattle.shared_trees.specs.VisitsLaw.{AreAtRest, IsLed}
+use Rattle.shared_trees.specs.VisitsLaw.{IsLed}
 use Rattle.shared_trees.proofs.Forest.{stands_as}
 use Rattle.shared_trees.proofs.OldBlocks.{unshared_are}
 use Rattle.shared_trees.proofs.Rooted.{step_ok}
@@ -38,7 +38,7 @@ use Rattle.tree_change.specs.Walks.{Known, NewWalk, Parts, Side, gone_parts, kep
 use Rattle.tree_change.proofs.EachTree.{one_tree}
 use Rattle.tree_change.proofs.FewLooks.{entries_all, entries_lives, few_seen, old_few}
 use Rattle.tree_change.proofs.LedTree.{AreLed, led as led_tree}
-use Rattle.tree_change.proofs.MetVisits.{few_met, met_rest}
+use Rattle.tree_change.proofs.MetVisits.{few_met}
 use Rattle.tree_change.proofs.Olds.{among, fine_records, fine_step, gathered, old_given, old_skip, old_stands, same_ok}
 use Rattle.tree_change.proofs.OneRead.{old_read, one_read}
 use Rattle.tree_change.proofs.OfTree.{LeadsIn, read_in}
@@ -69,13 +69,8 @@ module _ (known : Known) (is : Side) (now : Expect) where
   unfolding met_in visits_in
   met_few = few_met (kept_by known) (listed_by known) is.sup (stored_in is.image is.chunks is.sup.nodesize) now
 
-  -- none of them has moved
-  pub rest : AreAtRest known.moved (met_by known is now)
-  unfolding met_in
-  rest = met_rest known.pairs known.marked known.moved known.under (listed_by known) is.sup (stored_in is.image is.chunks is.sup.nodesize) now
-
   -- it comes to few blocks
-  pub new_few : (records : List Seen) → AreLed known now.tree → now.level < 8
+  pub new_few : (records : List Seen) → AreLed known is now → now.level < 8
       → skip_in (kept_by known) (listed_by known) is.sup is.chunks now is.image ≡ Ok records
       → new_visits known is now ≤ few_for is (lives_of (new_of records).ended (blocks_seen records))
   new_few records led low given =
@@ -94,14 +89,14 @@ module _ (known : Known) (is : Side) (now : Expect) where
       joins v p q b c few entries count = omega arith
 
   -- a block is read where the first one leads on
-  pub new_some : (records : List Seen) → AreLed known now.tree → IsLed (kept_by known) (listed_by known) now
+  pub new_some : (records : List Seen) → AreLed known is now → IsLed (kept_by known) (listed_by known) now
       → skip_in (kept_by known) (listed_by known) is.sup is.chunks now is.image ≡ Ok records → 1 ≤ length (blocks_seen records)
   unfolding skip_in
   new_some records led root given =
       read_in now.tree (kept_by known) known.under is.sup (stored_in is.image is.chunks is.sup.nodesize) now records led.new refl root given
 
 module _ (image : List ℕ) (pending : FinMap nat_cmp ℕ) (old : Walked) (trees : List Tree) (pairs : Pairs) (is : Side) (known : Known)
-    (before : Option Expect) (now : Expect) (t : IsTree image pending old trees pairs is known before now) (led : AreLed known now.tree) where
+    (before : Option Expect) (now : Expect) (t : IsTree image pending old trees pairs is known before now) (led : AreLed known is now) where
   abbrev was : Side
   was = side_of image old
 
@@ -126,7 +121,7 @@ module _ (image : List ℕ) (pending : FinMap nat_cmp ℕ) (old : Walked) (trees
   few_old parts made (Some e) read here was_of low given all =
       let news = (one_tree image pending old trees pairs is known before now t).parts parts made in
       let whole = walks_whole image pending old trees pairs is known before now t e here news.1 news.3 in
-      old_few image old pairs known t.pairs_are now.tree (met_by known is now) e read (led.old (met_by known is now) (rest known is now)) was_of.0 low
+      old_few image old pairs known t.pairs_are now.tree (met_by known is now) e read led.old was_of.0 low
       whole.0 whole.1 given all
 
   -- the new walk reads a block where the root is touched
@@ -147,7 +142,7 @@ module _ (image : List ℕ) (pending : FinMap nat_cmp ℕ) (old : Walked) (trees
   one_of_both records parts read given skips read_is parent moves =
       one_read image pending old trees pairs is known before now t parent (length (blocks_seen records)) (some_new records parts given skips)
       (λ none. new_some known is now records led (inl none) skips)
-      (led.old (met_by known is now) (rest known is now)) read moves read_is
+      led.old read moves read_is
 
   pub comes_to_few : (parts : Parts) → now.level < 8 → IfSome before (λ e. e.level < 8)
       → tree_parts pairs known was is before now ≡ Ok parts → ComesToFew image old pairs is known before now parts

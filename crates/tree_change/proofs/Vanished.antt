@@ -23,13 +23,11 @@ use Rattle.shared_trees.specs.KeepingWalk.{skip_in}
 use Rattle.shared_trees.specs.LivePairs.{Walked, live_in, table_of}
 use Rattle.shared_trees.specs.MergedLaw.{items}
 use Rattle.shared_trees.specs.OldSide.{kept_at}
-use Rattle.shared_trees.specs.Shared.{is_shared, unshared_in}
 use Rattle.shared_trees.specs.SkipLaw.{IsSound}
 use Rattle.shared_trees.specs.Skips.{Kept, nothing, skip_of, unkept}
 use Rattle.shared_trees.specs.TableLaw.{AreApart, Tree}
 use Rattle.shared_trees.specs.Unshared.{is_block_seen, items_in, pair_seen}
 use Rattle.shared_trees.specs.declared.starts.Start.{Start}
-use Rattle.shared_trees.specs.SharedLaw.{stays_between, touches_old}
 use Rattle.shared_trees.proofs.Forest.{NoneOf, stands_as, tables_stand, walks}
 use Rattle.shared_trees.proofs.OldBlocks.{unshared_are}
 use Rattle.shared_trees.proofs.OldTells.{gone}
@@ -37,6 +35,7 @@ use Rattle.shared_trees.proofs.Rooted.{step_ok}
 use Rattle.shared_trees.proofs.Skipping.{skips}
 use Rattle.tree_change.specs.Gathered.{Gathers, blocks_seen}
 use Rattle.tree_change.specs.OneTree.{IsAmong, old_tree, side_of}
+use Rattle.tree_change.specs.Unchanged.{changed_in, is_unchanged, none_touched, stays_unchanged}
 use Rattle.tree_change.specs.Walks.{Known, Parts, gone_parts, listed_by, no_walk, old_walk, pairs_at, parts_of}
 use Rattle.tree_change.proofs.FirstCopies.{skip_firsts}
 use Rattle.tree_change.proofs.OneSupers.{unkept_fine}
@@ -107,7 +106,7 @@ module _ (image : List ℕ) (pending : FinMap nat_cmp ℕ) (old new : Walked) (t
   unfolding live_in
   gone_are e records whole is none has of left =
       let gives = unshared_are pairs (λ live. false) kept old.sup stored e whole records stands comes has left in
-      let lives : filter (λ live. not false) (live_in whole) ≡ of_id live_id e.tree (unshared_in old new (written_in pending) (length image) old) =
+      let lives : filter (λ live. not false) (live_in whole) ≡ of_id live_id e.tree (changed_in old new (written_in pending) (length image) old) =
       ap (filter (λ (live : Live). not false)) of.lives
       ∙ filter_swap (λ live. live_id live == e.tree) (λ live. not (shared live)) (λ live. not false)
       (λ live at. sym (ap not (gone_one live (eqb-true live.tree e.tree at)))) (live_in old.seen) in
@@ -118,19 +117,19 @@ module _ (image : List ℕ) (pending : FinMap nat_cmp ℕ) (old new : Walked) (t
         new_blocks = none_passes live_id e.tree (λ live. not (shared live)) (live_in new.seen) nothing_new.lives;
         moved = none_passes live_id e.tree _ (live_in new.seen) nothing_new.lives;
         old_items = gives.items ∙ (ap (λ ls. items_in ls whole) lives
-            ∙ items_of_id e.tree (unshared_in old new (written_in pending) (length image) old) whole old.seen of);
-        new_items = none_passes item_id e.tree (stands_in (unshared_in old new (written_in pending) (length image) new))
+            ∙ items_of_id e.tree (changed_in old new (written_in pending) (length image) old) whole old.seen of);
+        new_items = none_passes item_id e.tree (stands_in (changed_in old new (written_in pending) (length image) new))
             (items new.seen) nothing_new.found
-            ∙ sym (ap (of_id item_id e.tree) (items_filter (unshared_in old new (written_in pending) (length image) new) new.seen));
+            ∙ sym (ap (of_id item_id e.tree) (items_filter (changed_in old new (written_in pending) (length image) new) new.seen));
         count = ap (λ n. n + 0) (blocks_count records ∙ (gives.count ∙ sym (ap length blocks)));
       }
     where
       shared : Live → Bool
-      shared live = is_shared old new (written_in pending) (length image) live
+      shared live = is_unchanged old new (written_in pending) (length image) live
 
       gone_one : (live : Live) → live.tree ≡ e.tree → shared live ≡ false
       gone_one live at =
-          gone (stays_between old new (length image)) (touches_old old (written_in pending) (length image)) old new new.sup afters live afters_apart afters_walk
+          gone (stays_unchanged old new.chunks (written_in pending) (length image)) none_touched old new new.sup afters live afters_apart afters_walk
           (subst (λ id. NoneOf new.sup id afters) (sym at) none)
 
       stands : Stands pairs old.sup stored e

@@ -1,5 +1,5 @@
 -- The walk of a tree as it was has no finding, also where both copies of its blocks are read.
-use Rattle.std.proofs.Common.{◌≡◌, ℕ, Bool, List, length, ◌⊎◌, inl, inr, ap, sym, subst, ◌∙◌}
+use Rattle.std.proofs.Common.{◌≡◌, ℕ, List, ◌⊎◌, inl, inr, ap, subst, ◌∙◌}
 use Rattle.std.specs.Prelude.{Option, Some, Ok}
 use Rattle.std.specs.Ordering.{nat_cmp}
 use Rattle.std.specs.FinMap.{FinMap}
@@ -8,23 +8,21 @@ use Rattle.node_reader.specs.Stored.{Stored, stored_in}
 use Rattle.node_reader.specs.declared.expect.Expect.{Expect}
 use Rattle.records.specs.Seen.{Seen}
 use Rattle.records.specs.Walk.{walk_of}
-use Rattle.touched_pairs.specs.Moves.{is_moved}
 use Rattle.shared_trees.specs.Keeping.{Stands}
 use Rattle.shared_trees.specs.KeepingWalk.{skip_in}
 use Rattle.shared_trees.specs.LivePairs.{Walked, live_in, table_of}
 use Rattle.shared_trees.specs.Meeting.{met_in}
-use Rattle.shared_trees.specs.OldSide.{IsRoot, kept_at}
+use Rattle.shared_trees.specs.OldSide.{kept_at}
 use Rattle.shared_trees.specs.Skips.{nothing, unkept}
 use Rattle.shared_trees.specs.TableLaw.{Tree}
-use Rattle.shared_trees.proofs.Forest.{tables_stand}
-use Rattle.shared_trees.proofs.Treed.{trees_walk}
 use Rattle.tree_change.specs.Looks.{met_by}
-use Rattle.tree_change.specs.OneTree.{IsOldOf, IsTree, KnowsNothing, KnowsTree, old_tree, shares}
+use Rattle.tree_change.specs.OneTree.{IsOldOf, IsTree, KnowsNothing, KnowsTree, old_tree, unchanged}
 use Rattle.tree_change.specs.Walks.{Known, Side, kept_by, lasts_by, listed_by}
 use Rattle.tree_change.proofs.Olds.{among, fine_records, old_skip, old_stands}
 use Rattle.tree_change.proofs.OneGives.{AreBoth}
 use Rattle.tree_change.proofs.OneNew.{met_is}
-use Rattle.tree_change.proofs.OneOld.{among_is, are_both, roots_of, untouched}
+use Rattle.tree_change.proofs.OneOld.{are_both, old_is}
+use Rattle.tree_change.proofs.OnePlain.{met_same, plain}
 use Rattle.tree_change.proofs.OneSupers.{unkept_fine}
 use Rattle.tree_change.proofs.Whole.{none_at}
 
@@ -33,9 +31,6 @@ module _ (image : List ℕ) (pending : FinMap nat_cmp ℕ) (old : Walked) (trees
   abbrev stored : Stored
   stored = stored_in is.image is.chunks is.sup.nodesize
 
-  abbrev moved : ℕ → Bool
-  moved = is_moved old.chunks is.chunks old.sup.nodesize (length image)
-
   -- it has records, by what is known
   abbrev Walks : Known → Expect → Type 0
   Walks k e = (records : List Seen) × (skip_in (kept_at k.pairs (met_by k is now) k.under) (listed_by k) old.sup old.chunks e image ≡ Ok records)
@@ -43,39 +38,21 @@ module _ (image : List ℕ) (pending : FinMap nat_cmp ℕ) (old : Walked) (trees
   known_whole : (e : Expect) → IsOldOf image old trees now (Some e) → KnowsTree image pending old is known (Some e)
       → (news : List Seen) → walk_of is.sup stored now ≡ Ok news → Walks known e
   unfolding met_in
-  known_whole e old_of knows news walk =
-      subst (λ m. Walks (record { pairs = known.pairs; marked = known.marked; moved = m; under = known.under }) e) (sym knows.moved_is) (
-        both.gone,
-        ap (λ stops. skip_in (kept_at known.pairs stops known.under) (listed_by known) old.sup old.chunks e image)
-            (met_is pairs (kept_by k) (listed_by k) (lasts_by k) (shares image pending old is news) is.sup stored now news both.new come.0 come.1)
-            ∙ both.whole_is,
-      )
+  known_whole e old_of knows news walk = (
+    both.gone,
+    ap (λ stops. skip_in (kept_at known.pairs stops known.under) (listed_by known) old.sup old.chunks e image)
+        (met_same image pending old is known (Some e) knows now
+        ∙ met_is pairs (kept_by k) (listed_by k) (lasts_by k) (unchanged image pending old is news) is.sup stored now news both.new come.0 come.1)
+        ∙ both.whole_is,
+  )
     where
       k : Known
-      k = record { pairs = known.pairs; marked = known.marked; moved = moved; under = known.under }
+      k = plain image pending old is known (Some e) knows
 
       both : AreBoth image pending old pairs is k (Some e) now news
       both =
-          let steps = trees_walk image old trees t.has in
-          let table = table_of (live_in old.seen) in
-          are_both image pending old trees pairs is known.pairs known.marked known.under now e knows.moving
-          (record {
-            alike = knows.alike;
-            same = sym old_of.0;
-            among = old_of.1;
-            root = among_is (λ tree. IsRoot tree.1) (stored_in image old.chunks old.sup.nodesize, e) trees (roots_of image old trees t.has) old_of.1;
-            high = t.root.1;
-            tables_are = knows.pairs_are;
-            pairs_are = t.pairs_are;
-            apart = steps.0;
-            walks = steps.1;
-            stands = among_is (λ tree. Stands table old.sup tree.0 tree.1) (stored_in image old.chunks old.sup.nodesize, e) trees
-                (tables_stand old.sup trees old.seen steps.0 steps.1) old_of.1;
-            marks = knows.marks;
-            moves = knows.moves.marks;
-            lists = knows.moves.lists;
-            alike_stored = untouched image pending old trees pairs is known.pairs known.marked known.under now knows.alike t.over;
-          }) news walk
+          are_both image pending old trees pairs is known.pairs known.under now e knows.changing
+          (old_is image pending old trees pairs is known now e t.has t.pairs_are t.over t.root old_of knows) news walk
 
       come : (records : List Seen) × (unkept (kept_by k) nothing is.sup stored now ≡ Ok records)
       come = unkept_fine (kept_by k) is.sup stored now news walk

@@ -18,42 +18,49 @@ use Rattle.records.specs.Contents.{chunk_map_in, chunk_tree_root, root_tree_root
 use Rattle.block_source.specs.declared.read.BlockSource.{BlockSource}
 use Rattle.touched_pairs.specs.Looks.{ArePlaced, NoneMeet, copies_of}
 use Rattle.touched_pairs.specs.Marking.{AreLow, AreMarkedFrom, HaveEach, marks_for}
-use Rattle.touched_pairs.specs.Marks.{AreAmong, count_of, marked_by, no_mark}
+use Rattle.touched_pairs.specs.Marks.{AreAmong, count_of, left_of, marked_by, no_mark}
 use Rattle.touched_pairs.specs.Moves.{AreApart, held_and_moved, is_moved}
 use Rattle.touched_pairs.specs.OneTree.{in_tree, of_tree}
 use Rattle.touched_pairs.specs.Spots.{at_address}
+use Rattle.touched_pairs.specs.Touched.{written_in}
 use Rattle.shared_trees.specs.ArrayMoves.{LieApartOrSame}
 use Rattle.shared_trees.specs.Keeping.{Marks, Under}
 use Rattle.shared_trees.specs.Listed.{AreListedBy}
-use Rattle.shared_trees.specs.Shared.{are_read_alike}
+use Rattle.shared_trees.specs.LivePairs.{Walked, walked}
+use Rattle.shared_trees.specs.Shared.{are_read_alike, unshared_in}
 use Rattle.tree_change.specs.Compared.{FitsCompared, HasNewArray, IsCompared, judged_by, side_to}
 use Rattle.tree_change.specs.Looks.{gone_all_looks, named_looks, tree_looks}
 use Rattle.tree_change.specs.Merging.{IsSortedOf, named_before, roots_left}
 use Rattle.tree_change.specs.Told.{side_with}
+use Rattle.tree_change.specs.Unchanged.{changed_in, either_mark}
 use Rattle.tree_change.specs.Walks.{Known, Parts, tree_parts}
 use Rattle.tree_change.specs.declared.sides.Compared.{Compared}
 
--- Of the pairs of a table, those are marked that move from the one list of chunks to the other, and all above them; the marked children are listed;
--- and there are this many marks, at most one for each pair that moves and has none above it, and eight for each other one that moves.
-pub record AreMoves (pairs : Pairs) (old new : List Chunk) (nodesize end : ℕ) (moving : Marks) (under : Under) (marks : ℕ) : Type 0 where
-  pub marked : AreApart new → 0 < nodesize
+-- Of the pairs of a table, those are marked that move from the one list of chunks to the other, and all above them; the children that have one of
+-- these marks, or one of others, are listed; there are so many of these marks, at most one for each pair that moves and has none above it, and
+-- eight for each other one that moves; and so many with the others, at most one more for each pair that has another mark alone.
+pub record AreMoves (pairs : Pairs) (marked : Marks) (old new : List Chunk) (nodesize end : ℕ) (moving : Marks) (under : Under) (moves all : ℕ) : Type 0 where
+  pub moved : AreApart new → 0 < nodesize
       → AreMarkedFrom pairs (at_address (held_and_moved old new nodesize end)) (at_address (is_moved old new nodesize end)) no_mark moving
-  pub listed : AreListedBy pairs moving under
-  pub few : AreLow pairs → (lives : List Live) → HaveEach pairs (is_moved old new nodesize end) lives → marks ≤ marks_for pairs lives
+  pub listed : AreListedBy pairs (either_mark moving marked) under
+  pub few : AreLow pairs → (lives : List Live) → HaveEach pairs (is_moved old new nodesize end) lives → moves ≤ marks_for pairs lives
+  pub more : (lives : List Live) → AreAmong (left_of moving marked) lives → all ≤ moves + length lives
 
--- the same of the pairs of one tree alone
-pub record AreTreeMoves (tree : ℕ) (pairs : Pairs) (old new : List Chunk) (nodesize end : ℕ) (moving : Marks) (under : Under) (marks : ℕ) : Type 0 where
-  pub marked : AreApart new → 0 < nodesize
+-- the same, where those that move are of one tree alone
+pub record AreTreeMoves (tree : ℕ) (pairs : Pairs) (marked : Marks) (old new : List Chunk) (nodesize end : ℕ) (moving : Marks) (under : Under)
+    (moves all : ℕ) : Type 0 where
+  pub moved : AreApart new → 0 < nodesize
       → AreMarkedFrom pairs (in_tree tree (held_and_moved old new nodesize end)) (in_tree tree (is_moved old new nodesize end)) no_mark moving
-  pub listed : AreListedBy pairs moving under
-  pub few : AreLow pairs → (lives : List Live) → HaveEach (of_tree tree pairs) (is_moved old new nodesize end) lives → marks ≤ marks_for pairs lives
+  pub listed : AreListedBy pairs (either_mark moving marked) under
+  pub few : AreLow pairs → (lives : List Live) → HaveEach (of_tree tree pairs) (is_moved old new nodesize end) lives → moves ≤ marks_for pairs lives
+  pub more : (lives : List Live) → AreAmong (left_of moving marked) lives → all ≤ moves + length lives
 
--- where each pair has a place and no two chunks of a list overlap, at most so many looks were counted: five for each of these marks, two for
--- each old chunk, one for each new one, and those for trees
-abbrev pub MovesLookAtMost : Pairs → List Chunk → List Chunk → ℕ → ℕ → ℕ → ℕ → ℕ → ℕ → Type 0
-MovesLookAtMost pairs old new nodesize end marks before after trees =
+-- where each pair has a place and no two chunks of a list overlap, at most so many looks were counted: two for each mark on what moves, three for
+-- each mark with the others, two for each old chunk, one for each new one, and those for trees
+abbrev pub MovesLookAtMost : Pairs → List Chunk → List Chunk → ℕ → ℕ → ℕ → ℕ → ℕ → ℕ → ℕ → Type 0
+MovesLookAtMost pairs old new nodesize end moves all before after trees =
     ArePlaced pairs old nodesize end → AreApart old → AreApart new → 0 < nodesize
-    → after ≤ before + 5 * marks + 2 * length old + length new + trees
+    → after ≤ before + 2 * moves + 3 * all + 2 * length old + length new + trees
 
 -- Where any two chunks of a list lie apart or are the same, and each has bytes at addresses of 64 bits, no two of others overlap, and all addresses
 -- stand at the same places by both.
@@ -84,43 +91,55 @@ pub record FewForMap {L : Type 0} (both : Compared L) (array : List Chunk) (imag
   pub apart : AreApart some
   pub same_place : (address n end : ℕ) → place some address n end ≡ place array address n end
   pub moving : Marks
+  pub moved : ℕ
   pub marks : ℕ
   pub known : Known
   pub by_kept : known.pairs ≡ pairs_of both.kept.now
-  pub marked_is : known.marked ≡ marked_by both.marks.now
+  pub marked_is : known.marked ≡ marked_by both.touched.now
   pub moved_is : known.moved ≡ is_moved both.was.map.now array both.was.sup.now.nodesize both.was.end
-  pub moves : AreTreeMoves 3 (pairs_of both.kept.now) olds some both.was.sup.now.nodesize both.was.end moving known.under marks
-  pub looks : MovesLookAtMost (of_tree 3 (pairs_of both.kept.now)) olds some both.was.sup.now.nodesize both.was.end marks before after
+  pub moves : AreTreeMoves 3 (pairs_of both.kept.now) (marked_by both.marks.now) olds some both.was.sup.now.nodesize both.was.end moving known.under
+      moved marks
+  pub looks : MovesLookAtMost (of_tree 3 (pairs_of both.kept.now)) olds some both.was.sup.now.nodesize both.was.end moved marks before after
       (tree_looks known (side_with both.was image) (side_to both image array) (Some (chunk_tree_root both.was.sup.now)) (chunk_tree_root both.fresh.now))
 
 -- the same for all other trees, where pairs move from the old chunks to the new ones
 pub record FewForRest {L : Type 0} (both : Compared L) (chunks : List Chunk) (image : List ℕ) (before after : ℕ) : Type 0 where
   pub moving : Marks
+  pub moved : ℕ
   pub marks : ℕ
   pub known : Known
   pub by_kept : known.pairs ≡ pairs_of both.kept.now
-  pub marked_is : known.marked ≡ marked_by both.marks.now
+  pub marked_is : known.marked ≡ marked_by both.touched.now
   pub moved_is : known.moved ≡ is_moved both.was.map.now chunks both.was.sup.now.nodesize both.was.end
-  pub moves : AreMoves (pairs_of both.kept.now) both.was.map.now chunks both.was.sup.now.nodesize both.was.end moving known.under marks
+  pub moves : AreMoves (pairs_of both.kept.now) (marked_by both.marks.now) both.was.map.now chunks both.was.sup.now.nodesize both.was.end moving known.under
+      moved marks
   pub parts : Parts
   pub roots : List RootAt
   pub tree : tree_parts (pairs_of both.table.now) known (side_with both.was image) (side_to both image chunks) (Some (root_tree_root both.was.sup.now))
       (root_tree_root both.fresh.now) ≡ Ok parts
   pub merged : IsSortedOf named_before (roots_left both.roots.now parts.old_items parts.new_items) roots
-  pub looks : MovesLookAtMost (pairs_of both.kept.now) both.was.map.now chunks both.was.sup.now.nodesize both.was.end marks before after
+  pub looks : MovesLookAtMost (pairs_of both.kept.now) both.was.map.now chunks both.was.sup.now.nodesize both.was.end moved marks before after
       (tree_looks known (side_with both.was image) (side_to both image chunks) (Some (root_tree_root both.was.sup.now)) (root_tree_root both.fresh.now)
       + named_looks both.is_same known (side_with both.was image) (side_to both image chunks) both.roots.now roots
       + gone_all_looks known (side_with both.was image) roots both.roots.now)
 
--- the looks for both, one behind the other
+-- where the new image's walks have no finding, so many looks are made for the pairs that are not shared though they did not change
+abbrev pub FewToRise : {L : Type 0} → (both : Compared L) → (image : List ℕ) → ℕ → ℕ → Type 0
+FewToRise both image before after = (is : IsCompared both image) (new : Walked) → walked (judged_by both image) ≡ Ok new
+    → after + length (changed_in is.based.old new (written_in both.cache.now) (length image) is.based.old)
+    ≤ before + length (unshared_in is.based.old new (written_in both.cache.now) (length image) is.based.old)
+
+-- the looks for all, one behind the other
 pub record FewToCompare {L : Type 0} (both : Compared L) (image : List ℕ) (before after : ℕ) : Type 0 where
   pub array : List Chunk
   pub chunks : List Chunk
   pub middle : ℕ
+  pub later : ℕ
   pub array_is : HasNewArray both array
   pub chunks_are : IsCompared both image → chunk_map_in both.fresh.now array (judged_by both image) ≡ Ok chunks
   pub for_map : FewForMap both array image before middle
-  pub for_rest : FewForRest both chunks image middle after
+  pub for_rest : FewForRest both chunks image middle later
+  pub to_rise : FewToRise both image later after
 
 -- where a disk tells its bytes, the looks are so few for the chunk tree, for all other trees, and for both
 abbrev pub LooksForMap : {L : Type 0} → Option (List ℕ) → ℕ → ℕ → Compared L → List Chunk → Type 0

@@ -1,5 +1,5 @@
 -- What changes in all trees of an image, from what changes in each.
-use Rattle.std.specs.Prelude.{ℕ, ◌≡◌, ◌==◌, ◌+◌, ◌*◌, ◌⊎◌, Bool, true, List, [], ◌∷◌, ◌++◌, length, map, Option, Some, None, Result, Ok, Err, if◌then◌else◌}
+use Rattle.std.specs.Prelude.{ℕ, ◌≡◌, ◌==◌, ◌+◌, ◌*◌, ◌⊎◌, Bool, true, List, [], ◌∷◌, ◌++◌, length, map, Option, Some, None, is_some, Result, Ok, Err, if◌then◌else◌}
 use Rattle.std.specs.List.{AllByRecursion, list_any}
 use Rattle.std.specs.List.Sorted.{IsPermutation}
 use Rattle.std.specs.Ordering.{nat_cmp}
@@ -19,18 +19,17 @@ use Rattle.touched_pairs.specs.Touched.{written_in}
 use Rattle.volume_items.specs.declared.root.RootItem.{RootItem}
 use Rattle.volume_items.specs.declared.root_at.RootAt.{RootAt}
 use Rattle.shared_trees.specs.ArrayLaw.{HasArray}
-use Rattle.shared_trees.specs.ArrayShifts.{MovesListedBy}
 use Rattle.shared_trees.specs.Keeping.{Marks}
 use Rattle.shared_trees.specs.LivePairs.{Walked, live_in, table_of}
 use Rattle.shared_trees.specs.MergedLaw.{IsInOrder}
-use Rattle.shared_trees.specs.Shared.{are_read_alike, unshared_in}
-use Rattle.shared_trees.specs.SharedLaw.{HasTrees, MarksTouched}
-use Rattle.shared_trees.specs.ShiftedLaw.{shifted_in}
+use Rattle.shared_trees.specs.Shared.{are_read_alike}
+use Rattle.shared_trees.specs.SharedLaw.{HasTrees, touches_old}
 use Rattle.shared_trees.specs.TableLaw.{Tree, trees_in}
 use Rattle.shared_trees.specs.Unshared.{items_in}
 use Rattle.tree_change.specs.Change.{is_before, item_before}
 use Rattle.tree_change.specs.Merging.{IsSortedOf, root_at}
 use Rattle.tree_change.specs.OneTree.{KnowsNothing, KnowsTree, side_of}
+use Rattle.tree_change.specs.Unchanged.{ChangesListed, changed_in, unchanged_shifted}
 use Rattle.tree_change.specs.Walks.{Known, Parts, Side, gone_parts, tree_parts}
 
 -- no parts, and parts before others
@@ -82,9 +81,10 @@ pub record KnowsTrees (image : List ℕ) (pending : FinMap nat_cmp ℕ) (old : W
   pub alike : are_read_alike old.sup is.sup ≡ true
   pub pairs_are : (tree address : ℕ) → known.pairs tree address ≡ table_of (live_in old.seen) tree address
   pub moved_is : known.moved ≡ is_moved old.chunks is.chunks old.sup.nodesize (length image)
-  pub marks : AllByRecursion (MarksTouched old (written_in pending) (length image) known.marked) trees
-  pub moving : Marks
-  pub moves : AllByRecursion (MovesListedBy old is.chunks (length image) moving known.under) trees
+  pub marked_is : (tree address : ℕ) → is_some (known.pairs tree address) ≡ true
+      → known.marked tree address ≡ touches_old old (written_in pending) (length image) address
+  pub changing : Marks
+  pub changes : AllByRecursion (ChangesListed old is.chunks (written_in pending) (length image) changing known.under) trees
 
 -- An image whose walks have no finding, by its superblock, its chunks and its root items; and pending writes over it. The table has its live
 -- pairs, and this is known of its trees.
@@ -134,16 +134,16 @@ GoneLaw = (image : List ℕ) (pending : FinMap nat_cmp ℕ) (old : Walked) (olds
     (known : Known) (news : List RootAt) (finding : Finding)
     → IsOver image pending old olds trees pairs is known → gone_all pairs known (side_of image old) news (map root_at olds) ≡ Err finding → ⊥
 
--- These parts are all that changes: the pairs that are not shared, of the old image and of the new one, in some order; in their order, the
--- shared pairs that are shifted and the items; and how many pairs are not shared.
+-- These parts are all that changes: the pairs that changed, of the old image and of the new one, in some order; in their order, the
+-- other pairs that are shifted and the items of those that changed; and how many pairs changed.
 pub record AreAllParts (old new : Walked) (pending : FinMap nat_cmp ℕ) (end : ℕ) (parts : Parts) : Type 0 where
-  pub old_blocks : IsPermutation (unshared_in old new (written_in pending) end old) parts.old_blocks
-  pub new_blocks : IsPermutation (unshared_in old new (written_in pending) end new) parts.new_blocks
-  pub moved : (sorted : List Live) → IsSortedOf is_before parts.moved sorted → IsInOrder is_before (shifted_in old new (written_in pending) end) sorted
+  pub old_blocks : IsPermutation (changed_in old new (written_in pending) end old) parts.old_blocks
+  pub new_blocks : IsPermutation (changed_in old new (written_in pending) end new) parts.new_blocks
+  pub moved : (sorted : List Live) → IsSortedOf is_before parts.moved sorted → IsInOrder is_before (unchanged_shifted old new (written_in pending) end) sorted
   pub old_items : (sorted : List Located) → IsSortedOf item_before parts.old_items sorted
-      → IsInOrder item_before (items_in (unshared_in old new (written_in pending) end old) old.seen) sorted
+      → IsInOrder item_before (items_in (changed_in old new (written_in pending) end old) old.seen) sorted
   pub new_items : (sorted : List Located) → IsSortedOf item_before parts.new_items sorted
-      → IsInOrder item_before (items_in (unshared_in old new (written_in pending) end new) new.seen) sorted
+      → IsInOrder item_before (items_in (changed_in old new (written_in pending) end new) new.seen) sorted
   pub count : parts.count ≡ length parts.old_blocks + 2 * length parts.new_blocks
 
 -- so it is

@@ -1,5 +1,5 @@
 -- The two images that are compared, as private functions have them: the image as it was, for which the bases stand, and the new one.
-use Rattle.std.specs.Prelude.{ℕ, ◌≡◌, ◌≤◌, ◌⊎◌, true, false, List, length, map, Some, Result, Ok, Err, IfSome}
+use Rattle.std.specs.Prelude.{ℕ, ◌≡◌, ◌≤◌, ◌⊎◌, ◌&&◌, true, false, List, length, map, Some, Result, Ok, Err, IfSome}
 use Rattle.std.specs.Ordering.{nat_cmp}
 use Rattle.std.specs.FinMap.{FinMap, empty}
 use Rattle.verdict.specs.Trees.{is_node_size}
@@ -58,7 +58,7 @@ KeepsBy was fresh pairs kept =
     ((are_read_alike was fresh ≡ true) × (kept ≡ pairs)) ⊎ ((are_read_alike was fresh ≡ false) × (kept ≡ no_pairs))
 
 -- Both images are read by sound sizes from a device of so many bytes, the one as it was without pending writes. Blocks are kept by a table,
--- of which those pairs are marked that writes touch, and all above them.
+-- of which those pairs are marked that writes touch, and all above them. Of these the ones that writes touch are told apart.
 pub record FitsCompared {L : Type 0} (both : Compared L) (end : ℕ) : Type 0 where
   pub was_size : is_node_size both.was.sup.now.nodesize ≡ true
   pub new_size : is_node_size both.fresh.now.nodesize ≡ true
@@ -69,6 +69,9 @@ pub record FitsCompared {L : Type 0} (both : Compared L) (end : ℕ) : Type 0 wh
   pub marked : AreMarked (pairs_of both.kept.now)
       (at_address (touches_block (written_in both.cache.now) both.was.map.now both.was.sup.now.nodesize both.was.end)) no_mark
       (marked_by both.marks.now)
+  pub touched : (tree address : ℕ) → marked_by both.touched.now tree address
+      ≡ (marked_by both.marks.now tree address
+      && touches_block (written_in both.cache.now) both.was.map.now both.was.sup.now.nodesize both.was.end address)
 
 -- the new image, and how it is read by some chunks
 abbrev pub judged_by : {L : Type 0} → Compared L → List ℕ → List ℕ

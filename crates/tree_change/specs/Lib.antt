@@ -2,9 +2,11 @@ pub mod Gathered
 pub mod Firsts
 pub mod Walks
 pub mod Merging
+pub mod Unchanged
 pub mod OneTree
 pub mod Change
 pub mod AllTrees
+pub mod Rising
 pub mod Told
 pub mod Stays
 pub mod LastKeys

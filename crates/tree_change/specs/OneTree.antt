@@ -1,5 +1,5 @@
 -- What changes in one tree, by the definitions: its pairs that are not shared or that are shifted, and the items of the first.
-use Rattle.std.specs.Prelude.{ℕ, ◌≡◌, ◌==◌, ◌+◌, ◌*◌, ◌⊎◌, Bool, ◌&&◌, true, false, not, List, [], ◌∷◌, length, map, Option, Some, None, IfSome, Ok, Err}
+use Rattle.std.specs.Prelude.{ℕ, ◌≡◌, ◌==◌, ◌+◌, ◌*◌, ◌⊎◌, Bool, ◌&&◌, true, false, not, List, [], ◌∷◌, length, map, Option, Some, None, is_some, IfSome, Ok, Err}
 use Rattle.std.specs.List.{AllByRecursion, filter}
 use Rattle.std.specs.Ordering.{nat_cmp}
 use Rattle.std.specs.FinMap.{FinMap}
@@ -13,17 +13,17 @@ use Rattle.records.specs.Seen.{Seen}
 use Rattle.records.specs.Walk.{walk_in}
 use Rattle.touched_pairs.specs.Moves.{is_moved}
 use Rattle.touched_pairs.specs.Touched.{written_in}
-use Rattle.shared_trees.specs.ArrayShifts.{MovesListedBy}
 use Rattle.shared_trees.specs.Keeping.{Marks}
 use Rattle.shared_trees.specs.LivePairs.{Walked, live_in, table_of}
 use Rattle.shared_trees.specs.MergedLaw.{IsInOrder, begins_before, chunks_seen, roots_seen}
 use Rattle.shared_trees.specs.OldSide.{IsRoot}
-use Rattle.shared_trees.specs.Shared.{are_read_alike, is_shared}
-use Rattle.shared_trees.specs.SharedLaw.{HasTrees, MarksTouched}
+use Rattle.shared_trees.specs.Shared.{are_read_alike}
+use Rattle.shared_trees.specs.SharedLaw.{HasTrees, touches_old}
 use Rattle.shared_trees.specs.ShiftedLaw.{is_shifted}
 use Rattle.shared_trees.specs.TableLaw.{Tree}
 use Rattle.shared_trees.specs.Unshared.{items_in}
 use Rattle.tree_change.specs.Merging.{chunks_left, named_before, root_at, roots_left}
+use Rattle.tree_change.specs.Unchanged.{ChangesListed, is_unchanged}
 use Rattle.tree_change.specs.Walks.{Known, Parts, Side, tree_parts}
 
 -- the image as it was, by its own superblock and chunks
@@ -39,15 +39,16 @@ abbrev pub alone : Side → List Seen → Walked
 alone is seen = record { sup = is.sup; chunks = is.chunks; seen = seen }
 
 -- Where blocks are read alike in both images, this is what is known of the old tree: the table has the old image's pairs, which blocks stand
--- elsewhere is judged by the new chunks, just those of the tree's blocks are marked which writes touch or which are above a touched one, and
--- the children are listed that moved, or are above one that did.
+-- elsewhere is judged by the new chunks, of the table's pairs just those are marked which writes touch, and the children are listed that writes
+-- touch or that moved, or that are above one of these.
 pub record KnowsTree (image : List ℕ) (pending : FinMap nat_cmp ℕ) (old : Walked) (is : Side) (known : Known) (before : Option Expect) : Type 0 where
   pub alike : are_read_alike old.sup is.sup ≡ true
   pub pairs_are : (tree address : ℕ) → known.pairs tree address ≡ table_of (live_in old.seen) tree address
   pub moved_is : known.moved ≡ is_moved old.chunks is.chunks old.sup.nodesize (length image)
-  pub marks : IfSome before (λ e. MarksTouched old (written_in pending) (length image) known.marked (old_tree image old e))
-  pub moving : Marks
-  pub moves : IfSome before (λ e. MovesListedBy old is.chunks (length image) moving known.under (old_tree image old e))
+  pub marked_is : (tree address : ℕ) → is_some (known.pairs tree address) ≡ true
+      → known.marked tree address ≡ touches_old old (written_in pending) (length image) address
+  pub changing : Marks
+  pub changes : IfSome before (λ e. ChangesListed old is.chunks (written_in pending) (length image) changing known.under (old_tree image old e))
 
 -- where they are not, nothing is known
 pub record KnowsNothing (old : Walked) (is : Side) (known : Known) : Type 0 where
@@ -80,17 +81,17 @@ abbrev pub HasRecords : List ℕ → Walked → Option Expect → List Seen → 
 HasRecords image old None olds = olds ≡ []
 HasRecords image old (Some e) olds = walk_in old.sup old.chunks e image ≡ Ok olds
 
--- whether a pair of the tree is shared
-abbrev pub shares : List ℕ → FinMap nat_cmp ℕ → Walked → Side → List Seen → Live → Bool
-shares image pending old is news live = is_shared old (alone is news) (written_in pending) (length image) live
+-- whether a pair of the tree is unchanged
+abbrev pub unchanged : List ℕ → FinMap nat_cmp ℕ → Walked → Side → List Seen → Live → Bool
+unchanged image pending old is news live = is_unchanged old (alone is news) (written_in pending) (length image) live
 
--- What changes in the tree, of which these are the old and the new records: the pairs that are not shared, of the old tree and of the new one;
--- the shared ones that are shifted; the items of the first; and how many blocks are not shared. The chunks of a chunk tree are merged of what
+-- What changes in the tree, of which these are the old and the new records: the pairs that changed, of the old tree and of the new one;
+-- the other ones that are shifted; the items of the first; and how many blocks changed. The chunks of a chunk tree are merged of what
 -- was and of what changes, and so are the root items of a root tree.
 pub record ChangesTree (image : List ℕ) (pending : FinMap nat_cmp ℕ) (old : Walked) (is : Side) (now : Expect) (olds news : List Seen) (parts : Parts) : Type 0 where
-  pub old_blocks : parts.old_blocks ≡ filter (λ live. not (shares image pending old is news live)) (live_in olds)
-  pub new_blocks : parts.new_blocks ≡ filter (λ live. not (shares image pending old is news live)) (live_in news)
-  pub moved : parts.moved ≡ filter (λ live. shares image pending old is news live && is_shifted (live_in olds) live) (live_in news)
+  pub old_blocks : parts.old_blocks ≡ filter (λ live. not (unchanged image pending old is news live)) (live_in olds)
+  pub new_blocks : parts.new_blocks ≡ filter (λ live. not (unchanged image pending old is news live)) (live_in news)
+  pub moved : parts.moved ≡ filter (λ live. unchanged image pending old is news live && is_shifted (live_in olds) live) (live_in news)
   pub old_items : parts.old_items ≡ items_in parts.old_blocks olds
   pub new_items : parts.new_items ≡ items_in parts.new_blocks news
   pub count : parts.count ≡ length parts.old_blocks + 2 * length parts.new_blocks

@@ -25,8 +25,8 @@ use Rattle.shared_trees.specs.declared.keeps.Ended.{Ended}
 use Rattle.tree_change.specs.Firsts.{first_copies}
 use Rattle.tree_change.specs.Gathered.{Gathers, blocks_seen}
 
--- What is known of trees as they were: live pairs, the marks of those that writes touch and of all above them, which blocks stand elsewhere
--- now, and the children that moved or are above one that did.
+-- What is known of trees as they were: live pairs, the marks of those that writes touch, which blocks stand elsewhere now, and the children
+-- that are touched or moved, or are above one of these.
 pub record Known : Type 0 where
   pub pairs : Pairs
   pub marked : Marks

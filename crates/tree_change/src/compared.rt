@@ -49,8 +49,9 @@ pub(crate) fn change_map<D: Disk, L>(
     let old_array = system_chunks(alloc, both.was.sup)?;
     let olds = distinct_chunks(alloc, &old_array)?;
     let some = distinct_chunks(alloc, array)?;
-    let moving = moved_pairs_of(alloc, both.kept, 3, &olds, &some, nodesize, end, steps)?;
-    let starts = Starts::listed(alloc, both.kept, &moving, steps)?;
+    let mut changing = moved_pairs_of(alloc, both.kept, 3, &olds, &some, nodesize, end, steps)?;
+    changing.join(alloc, both.marks)?;
+    let starts = Starts::listed(alloc, both.kept, &changing, steps)?;
     let moves = Move::new(both.was.map, array, nodesize, end);
     let sides = Sides {
         was: both.was,
@@ -59,7 +60,7 @@ pub(crate) fn change_map<D: Disk, L>(
         table: both.table,
         known: KnownTrees {
             table: both.kept,
-            marks: both.marks,
+            marks: both.touched,
             moves: &moves,
             starts: &starts,
         },
@@ -85,8 +86,9 @@ pub(crate) fn change_rest<D: Disk, L>(
     ensures kept { Kept D.Disk disk.old disk.new (is_disk_halt result) }
 {
     let (nodesize, end) = (both.was.sup.nodesize, both.was.end);
-    let moving = moved_pairs(alloc, both.kept, both.was.map, map, nodesize, end, steps)?;
-    let starts = Starts::listed(alloc, both.kept, &moving, steps)?;
+    let mut changing = moved_pairs(alloc, both.kept, both.was.map, map, nodesize, end, steps)?;
+    changing.join(alloc, both.marks)?;
+    let starts = Starts::listed(alloc, both.kept, &changing, steps)?;
     let moves = Move::new(both.was.map, map, nodesize, end);
     let sides = Sides {
         was: both.was,
@@ -100,7 +102,7 @@ pub(crate) fn change_rest<D: Disk, L>(
         table: both.table,
         known: KnownTrees {
             table: both.kept,
-            marks: both.marks,
+            marks: both.touched,
             moves: &moves,
             starts: &starts,
         },

@@ -16,6 +16,7 @@ use crate::change::{Change, Diff};
 use crate::compared::{change_map, change_rest};
 use crate::firsts::first_copies;
 use crate::merge::{sort_items, sort_lives};
+use crate::rising::rise;
 use crate::sides::Compared;
 use crate::trees::TreeParts;
 use block_source::{BlockSource, Fault, Halt, system_chunks, told};
@@ -24,22 +25,22 @@ use live_index::LiveIndex;
 use recon_disk::{Disk, Steps};
 use std::alloc::Global;
 use super_reader::Super;
-use touched_pairs::touched_pairs;
+use touched_pairs::{touched_of, touched_pairs};
 use verdict::{Family, Finding, NoMemory, is_node_size};
 use volume_items::RootAt;
 use write_cache::WriteCache;
 
 /// What changes from an accepted image to the image that the pending writes make of it, or the first finding of what that image holds. The
-/// disk's bytes are the accepted image, and the bases are what is known of it. `fresh` is the superblock of the new image. It reads the
-/// blocks that the two images do not share, and no others: of an old one the first copy, since an accepted image has the same in both, and
-/// of a new one each copy that the pending writes do not cover, each once. So it reads once at most for each old pair of the change and
-/// twice for each new one. A commit that writes nothing but the superblock with its own bytes reads none. Where the two superblocks do not
-/// read blocks alike, nothing is shared. Of the live table it asks for what the pending writes touch and what the walks meet. Where the
-/// answer is a change, it counts at most 58 looks into that table for each old block that changes and 35 for each new one, 56 for each
-/// pointer or item of the old ones and four for each of the new ones, one for each piece of the writes (a maximal run of written bytes),
-/// four for each old chunk, one for each new one, and 77. A change has at most one shifted pair for each pointer or item of its new blocks,
-/// eight for each new block, one for each old one, and two. The lists take their memory from this allocator. `Disk` comes only where a call
-/// of the disk fails.
+/// disk's bytes are the accepted image, and the bases are what is known of it. `fresh` is the superblock of the new image. It reads blocks
+/// that the two images do not share, and no others: of an old one the first copy, since an accepted image has the same in both, and of a new
+/// one each copy that the pending writes do not cover, each once. It does not read those that are not shared for a block below them alone. So
+/// it reads once at most for each old pair of the change and twice for each new one. A commit that writes nothing but the superblock with its
+/// own bytes reads none. Where the two superblocks do not read blocks alike, nothing is shared. Of the live table it asks for what the
+/// pending writes touch and what the walks meet. Where the answer is a change, it counts at most 58 looks into that table for each old block
+/// that changes and 35 for each new one, 56 for each pointer or item of the old ones and four for each of the new ones, one for each piece of
+/// the writes (a maximal run of written bytes), four for each old chunk, one for each new one, and 77. A change has at most one shifted pair
+/// for each pointer or item of its new blocks, eight for each new block, one for each old one, and two. The lists take their memory from this
+/// allocator. `Disk` comes only where a call of the disk fails.
 pub fn difference<D: Disk, L, B: Bases<Table = LiveIndex<L>>>(
     alloc: Global,
     disk: &mut D,
@@ -118,6 +119,7 @@ fn change_from<D: Disk, L>(
     )?;
     table.narrow_law();
     marks.count_law();
+    let touched = touched_of(alloc, &marks, cache, was.map, was.sup.nodesize, was.end)?;
     let firsts = first_copies(alloc, was.map)?;
     let both = Compared {
         was: *was,
@@ -129,6 +131,7 @@ fn change_from<D: Disk, L>(
         kept,
         is_same,
         marks: &marks,
+        touched: &touched,
     };
     compare(alloc, disk, &both, steps)
 }
@@ -152,7 +155,8 @@ fn compare<D: Disk, L>(
     let mut all = TreeParts::new(alloc);
     let map = change_map(alloc, disk, both, &array, steps, &mut room, &mut all)?;
     change_rest(alloc, disk, both, &map, steps, &mut room, &mut all)?;
-    Ok(finish(alloc, all, map)?)
+    let risen = rise(alloc, both.table, both.marks, all, steps)?;
+    Ok(finish(alloc, risen, map)?)
 }
 
 // What changes, with its lists in order.

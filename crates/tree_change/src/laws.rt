@@ -4,6 +4,7 @@ ghost use Rattle.tree_change.specs.Accepted.{AcceptedLaw};
 ghost use Rattle.tree_change.specs.AllTrees.{AllTreesLaw, GoneLaw, NamedLaw};
 ghost use Rattle.tree_change.specs.LooksLaw.{GoneLooksLaw, TreeLooksLaw};
 ghost use Rattle.tree_change.specs.OneTree.{OneTreeLaw};
+ghost use Rattle.tree_change.specs.Rising.{RisenLaw};
 
 /// What the two walks of a tree give is what changes in it, and their first finding is that of the whole walk.
 pub fn one_tree_law()
@@ -23,6 +24,11 @@ pub fn gone_trees_law()
 /// What changes in each tree of an image is all that changes.
 pub fn all_trees_law()
     ensures { AllTreesLaw }
+{}
+
+/// What changes between two images, with the marked pairs that are left, is all that they do not share.
+pub fn risen_law()
+    ensures { RisenLaw }
 {}
 
 /// In an image whose walks have no finding no two chunks overlap, no two copies of chunks overlap on the device, and each live pair has a

@@ -13,6 +13,7 @@ mod laws;
 mod lives;
 mod merge;
 mod path;
+mod rising;
 mod roots;
 mod sides;
 mod tops;
@@ -23,7 +24,7 @@ pub use change::{Change, Diff};
 pub use differ::{are_read_alike, difference};
 pub use laws::{
     accepted_law, all_trees_law, gone_looks_law, gone_trees_law, named_law, one_tree_law,
-    tree_looks_law,
+    risen_law, tree_looks_law,
 };
 pub use merge::merge_roots;
 pub use path::{Path, PathStep};

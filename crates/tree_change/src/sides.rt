@@ -33,6 +33,8 @@ pub(crate) struct Compared<'a, L> {
     pub(crate) is_same: bool,
     /// Of these the pairs that a write touches, and all above them.
     pub(crate) marks: &'a Marks,
+    /// Of these the ones that a write touches.
+    pub(crate) touched: &'a Marks,
     ghost same: { is_same ≡ true → kept.now ≡ table.now },
     ghost once: { firsts.now ≡ first_copies was.map.now },
 }

@@ -30,14 +30,14 @@ use std::alloc::{AllocError, Global};
 use touched_pairs::AddressTest;
 use volume_items::RootAt;
 
-/// What changes in trees: the pairs that are not shared, the shared ones that are shifted, and the items of the first.
+/// What changes in trees: the pairs that changed, the other ones that are shifted, and the items of the first.
 #[derive(Drop)]
 pub(crate) struct TreeParts {
-    /// The old pairs that are not shared.
+    /// The old pairs that changed.
     pub(crate) old_blocks: Vec<Live>,
-    /// The new pairs that are not shared.
+    /// The new pairs that changed.
     pub(crate) new_blocks: Vec<Live>,
-    /// The shared pairs whose node above or greatest key is another.
+    /// The other pairs whose node above or greatest key is another.
     pub(crate) moved: Vec<Live>,
     /// The items of the old pairs.
     pub(crate) old_items: Vec<ItemAt>,

@@ -27,13 +27,13 @@ use touched_pairs::{Marks, Move};
 // For how many blocks there is room at first in the lists of those that a walk comes to. Nothing rests on it.
 const CHILDREN: usize = 256;
 
-/// What is known of trees as they were: their live pairs, the marks of those that writes touch and of all above them, which blocks
-/// stand elsewhere now, and the children that moved or are above one that did.
+/// What is known of trees as they were: their live pairs, the marks of those that writes touch, which blocks stand elsewhere now, and the
+/// children that are touched or moved, or are above one of these.
 #[derive(Clone, Copy)]
 pub(crate) struct KnownTrees<'a, L> {
     /// The live pairs.
     pub(crate) table: &'a LiveIndex<L>,
-    /// The pairs that a write touches, and all above them.
+    /// The pairs that a write touches.
     pub(crate) marks: &'a Marks,
     /// Which blocks stand elsewhere.
     pub(crate) moves: &'a Move<'a>,
