@@ -8,9 +8,9 @@ Usage: tests/changes.py [PROGRAM]                 by default crates/changes/out/
 Prints one line, and ends with 1 at the first case that differs. The model reads every block of both images. It says by
 the definitions which live pairs the images share and what of the rest they hold, or the first finding of the new image.
 Compared are the finding, or the blocks, items and chunks; and the program reads at most once for each old block that is
-not shared, and twice for each new one. The rows are small images of 4096-byte nodes that are made tree by tree; the random
-cases are drawn from fixed seeds. With --real each commit of each trace of a directory is a case: NAME.img.xz with
-NAME.trace.xz."""
+written or moves, and twice for each new one: those above it that stay as they are cost no read. The rows are small images
+of 4096-byte nodes that are made tree by tree; the random cases are drawn from fixed seeds. With --real each commit of each
+trace of a directory is a case: NAME.img.xz with NAME.trace.xz."""
 import collections
 import copy
 import functools
@@ -262,12 +262,14 @@ class Difference:
         self.end, size = len(new.data), old.sup.nodesize
         a, b = self.old.sup, self.new.sup
         alike = (a.fsid, size, a.incompat, a.compat_ro, a.devid) == (b.fsid, b.nodesize, b.incompat, b.compat_ro, b.devid)
-        self.shared = set()
+        self.shared, self.same = set(), set()
         for pair, block in self.old.blocks.items():
             other = self.new.blocks.get(pair)
-            if (alike and other and same_first(block.live, other.live) and not any(map(self.is_touched, all_blocks(block)))
+            if (alike and other and same_first(block.live, other.live) and not self.is_touched(block)
                     and places(self.old.chunks, pair[1], size, self.end) == places(self.new.chunks, pair[1], size, self.end)):
-                self.shared.add(pair)
+                self.same.add(pair)
+                if not any(map(self.is_touched, all_blocks(block))):
+                    self.shared.add(pair)
 
     def is_touched(self, block):
         size = self.old.sup.nodesize
@@ -281,7 +283,8 @@ class Difference:
         moved = [self.new.blocks[pair].live for pair in sorted(self.shared, key=lambda pair: pair[::-1])
                  if place_above(self.new.blocks[pair].live) != place_above(self.old.blocks[pair].live)]
         self.count = f'change old {len(old)} new {len(new)} moved {len(moved)}'
-        self.limit, self.blocks = len(old) + 2 * len(new), len(old) + len(new)
+        read = [sum(pair not in self.same for pair in image.blocks) for image in (self.old, self.new)]
+        self.limit, self.blocks = read[0] + 2 * read[1], len(old) + len(new)
         lives = [sorted(line(name, *one.live) for one in blocks) for name, blocks in (('old', old), ('new', new))]
         items = [[line(name, tree, address, key) for tree, key, address in sorted(
             (one.live.tree, key, one.live.address) for one in blocks for key, _ in one.items)]
