@@ -114,6 +114,10 @@ pub on_ok : {A E P Q : Type 0} (result : Result A E) → (P → Q) → OnOk resu
 on_ok (Ok a) follows is = follows is
 on_ok (Err e) follows is = is
 
+pub in_err : {A E P : Type 0} (result : Result A E) → P → OnErr result P
+in_err (Ok a) is = tt
+in_err (Err e) is = is
+
 pub on_err : {A E P Q : Type 0} (result : Result A E) → (P → Q) → OnErr result P → OnErr result Q
 on_err (Ok a) follows is = is
 on_err (Err e) follows is = follows is

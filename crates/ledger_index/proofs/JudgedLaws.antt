@@ -1,12 +1,13 @@
 -- The least broken account, one entry after the other.
-use Rattle.std.proofs.Common.{◌≡◌, ℕ, ◌&&◌, Bool, true, false, cond, List, [], ◌∷◌, ◌⊎◌, inl, inr, ⊎_elim, refl, ap, sym, ◌∙◌, subst}
-use Rattle.std.specs.Prelude.{Option, Some, None, Result, Ok, Err, IfOk, is_some}
+use Rattle.std.proofs.Common.{◌≡◌, ℕ, zero, suc, ◌&&◌, Bool, true, false, cond, List, [], ◌∷◌, ◌++◌, ◌⊎◌, inl, inr, ⊎_elim, refl, ap, sym, ◌∙◌, subst}
+use Rattle.std.specs.Prelude.{Option, Some, None, Result, Ok, Err, IfOk, is_some, slice_get}
 use Rattle.std.proofs.Math.Path.{fun_ext}
 use Rattle.std.specs.Cmp.{IsEquivalence}
 use Rattle.std.specs.List.{AllByRecursion, IsDistinct}
 use Rattle.std.specs.List.Sorted.{IsStrictlySortedBy}
 use Rattle.std.specs.Map.{keys_of, lookup}
 use Rattle.std.specs.BTreeMap.{is_at}
+use Rattle.indexmap.specs.IndexMap.{IndexMap}
 use Rattle.std.specs.Ordering.{is_lt}
 use Rattle.std.specs.declared.cmp.Ordering.{Ordering}
 use Rattle.std.specs.declared.cmp.Ordering.TheVariants.{Less, Equal, Greater}
@@ -24,13 +25,13 @@ use Rattle.ledger_index.specs.declared.kept.Kept.{Kept}
 use Rattle.ledger_index.specs.declared.ledger.LedgerIndex.{LedgerIndex}
 use Rattle.ledger_index.specs.declared.place.Place.{Place}
 use Rattle.ledger_index.specs.declared.long_place.LongPlace.{LongPlace}
-use Rattle.ledger_index.specs.Entries.{by_account, by_key}
+use Rattle.ledger_index.specs.Entries.{Within, by_account, entries_in, in_part}
 use Rattle.ledger_index.specs.Judged.{IsLeastBut, breaks, is_later, lesser_of, stands_before}
 use Rattle.ledger_index.specs.Kept.{kept_sum, sums_at}
-use Rattle.ledger_index.specs.Ledger.{entry_at, entry_of, sums_of}
+use Rattle.ledger_index.specs.Ledger.{entry_at, entry_of, long_in, short_in, sums_of}
 use Rattle.ledger_index.specs.LongPlace as longer
 use Rattle.ledger_index.specs.LongPlaceLaws.{same_long}
-use Rattle.ledger_index.specs.Place.{account_of, is_same_place, place_of}
+use Rattle.ledger_index.specs.Place.{account_of, is_same_place, part_of, place_of}
 use Rattle.ledger_index.specs.PlaceLaws.{same_place}
 use Rattle.ledger_index.proofs.LedgerLaws.{at_long, at_place, at_whole}
 use Rattle.ledger_index.proofs.PlaceLaws.{of_long_place, of_place}
@@ -202,37 +203,75 @@ nothing_there : (account : Account) (entry : Option Kept) → is_some entry ≡ 
 nothing_there account None none = unposted account
 nothing_there account (Some kept) none = absurd (cc none)
 
+-- what is found in no part is not among all their entries
+module _ {K : Type 0} (same : K → K → Bool) (key : K) where
+  abbrev Neither : List (K × Kept) → List (K × Kept) → Type 0
+  Neither es fs = (is_some (lookup (same key) es) ≡ false) × (is_some (lookup (same key) fs) ≡ false)
+
+  none_step : (e : K × Kept) (es fs : List (K × Kept)) (b : Bool) → same key e.0 ≡ b → (is_some (lookup (same key) (es ++ fs)) ≡ false → Neither es fs)
+      → is_some (lookup (same key) (e ∷ es ++ fs)) ≡ false → Neither (e ∷ es) fs
+  none_step e es fs true is more none =
+      absurd (cc (sym (ap (λ c. is_some (cond c (Some e.1) (lookup (same key) (es ++ fs)))) is) ∙ none))
+  none_step e es fs false is more none =
+      let both = more (sym (ap (λ c. is_some (cond c (Some e.1) (lookup (same key) (es ++ fs)))) is) ∙ none) in
+      (ap (λ c. is_some (cond c (Some e.1) (lookup (same key) es))) is ∙ both.0, both.1)
+
+  none_apart : (es fs : List (K × Kept)) → is_some (lookup (same key) (es ++ fs)) ≡ false → Neither es fs
+  none_apart [] fs none = (refl, none)
+  none_apart (e ∷ es) fs none = none_step e es fs (same key e.0) refl (none_apart es fs) none
+
+  none_in : {S : Type 0} (parts : List (IndexMap K Kept S)) (n : ℕ) → is_some (lookup (same key) (entries_in parts)) ≡ false
+      → is_some (in_part same key (slice_get parts n)) ≡ false
+  unfolding entries_in
+  none_in [] n none = refl
+  none_in (part ∷ parts) zero none = let both = none_apart part.entries (entries_in parts) none in both.0
+  none_in (part ∷ parts) (suc n) none = let both = none_apart part.entries (entries_in parts) none in none_in parts n both.1
+
+-- entries that are found in a part are found in the table
+pub found_within : {K : Type 0} (part table : K → Option Kept) → Within part table → (es : List (K × Kept)) → Found part es → Found table es
+found_within part table within [] found = tt
+found_within part table within (e ∷ es) found = (within e.0 e.1 found.0, found_within part table within es found.1)
+
 module _ {L : Type 0} (ledger : LedgerIndex L) where
+  none_then : (whole : Option Kept) (place : Option Place) (long : Option LongPlace)
+      → is_some (entry_at place long (λ p. lookup (is_same_place p) (entries_in ledger.short.parts.items))
+      (λ p. lookup (longer.is_same_long p) (entries_in ledger.long.parts.items)) whole) ≡ false
+      → is_some (entry_at place long (short_in ledger) (long_in ledger) whole) ≡ false
+  none_then whole (Some p) long past = none_in is_same_place p ledger.short.parts.items (part_of p) past
+  none_then whole None (Some p) past = none_in longer.is_same_long p ledger.long.parts.items (longer.part_of p) past
+  none_then whole None None past = past
+
   -- before the first entry
-  pub least_of_none : IsLeastBut (sums_of ledger) (is_later ledger.short.entries.entries ledger.long.entries.entries ledger.whole.entries.entries) None
+  pub least_of_none : IsLeastBut (sums_of ledger) (is_later (entries_in ledger.short.parts.items) (entries_in ledger.long.parts.items) ledger.whole.entries.entries) None
   unfolding IsLeastBut is_later sums_of entry_of
-  least_of_none = λ account past. nothing_there account (entry_of ledger account) past
+  least_of_none = λ account past. nothing_there account (entry_of ledger account)
+      (none_then (lookup (is_at (account_cmp account)) ledger.whole.entries.entries) (place_of account) (longer.long_of account) past)
 
   -- ---- a step of a loop
 
   module _ (rest : List (Place × Kept)) (p : Place) (kept : Kept) (found : Option Account)
-      (is : IsLeastBut (sums_of ledger) (is_later ((p, kept) ∷ rest) ledger.long.entries.entries ledger.whole.entries.entries) found) where
-    pub short_kept : by_key is_same_place ledger.short.entries p ≡ Some kept → (kind : ℕ) → kind ≡ (account_of p).kind → breaks kind (kept_sum kept) ≡ false
-        → IsLeastBut (sums_of ledger) (is_later rest ledger.long.entries.entries ledger.whole.entries.entries) found
+      (is : IsLeastBut (sums_of ledger) (is_later ((p, kept) ∷ rest) (entries_in ledger.long.parts.items) ledger.whole.entries.entries) found) where
+    pub short_kept : short_in ledger p ≡ Some kept → (kind : ℕ) → kind ≡ (account_of p).kind → breaks kind (kept_sum kept) ≡ false
+        → IsLeastBut (sums_of ledger) (is_later rest (entries_in ledger.long.parts.items) ledger.whole.entries.entries) found
     short_kept there kind same keeps =
-        unbroken (sums_of ledger) (is_later ((p, kept) ∷ rest) ledger.long.entries.entries ledger.whole.entries.entries)
-        (is_later rest ledger.long.entries.entries ledger.whole.entries.entries) (λ account. place_of account ≡ Some p)
-        (λ account. short_passed account (p, kept) rest ledger.long.entries.entries ledger.whole.entries.entries)
+        unbroken (sums_of ledger) (is_later ((p, kept) ∷ rest) (entries_in ledger.long.parts.items) ledger.whole.entries.entries)
+        (is_later rest (entries_in ledger.long.parts.items) ledger.whole.entries.entries) (λ account. place_of account ≡ Some p)
+        (λ account. short_passed account (p, kept) rest (entries_in ledger.long.parts.items) ledger.whole.entries.entries)
         (λ account at. as_breaks account kind kept (sums_of ledger account) (ap (λ (a : Account). a.kind) (sym (of_place account p at)) ∙ sym same)
         (λ n. sym (at_place ledger account p (sym at) n) ∙ ap (λ o. sums_at o n) there) keeps) found is
 
     pub short_judged : (k : Account) → k ≡ account_of p → (least : Option Account) → least ≡ lesser_of (is_broken k (sums_of ledger k)) k found
-        → IsLeastBut (sums_of ledger) (is_later rest ledger.long.entries.entries ledger.whole.entries.entries) least
+        → IsLeastBut (sums_of ledger) (is_later rest (entries_in ledger.long.parts.items) ledger.whole.entries.entries) least
     short_judged k made least so =
-        subst (IsLeastBut (sums_of ledger) (is_later rest ledger.long.entries.entries ledger.whole.entries.entries)) (sym so)
-        (judged (sums_of ledger) (is_later ((p, kept) ∷ rest) ledger.long.entries.entries ledger.whole.entries.entries)
-        (is_later rest ledger.long.entries.entries ledger.whole.entries.entries) (λ account. place_of account ≡ Some p)
-        (λ account. short_passed account (p, kept) rest ledger.long.entries.entries ledger.whole.entries.entries) k
+        subst (IsLeastBut (sums_of ledger) (is_later rest (entries_in ledger.long.parts.items) ledger.whole.entries.entries)) (sym so)
+        (judged (sums_of ledger) (is_later ((p, kept) ∷ rest) (entries_in ledger.long.parts.items) ledger.whole.entries.entries)
+        (is_later rest (entries_in ledger.long.parts.items) ledger.whole.entries.entries) (λ account. place_of account ≡ Some p)
+        (λ account. short_passed account (p, kept) rest (entries_in ledger.long.parts.items) ledger.whole.entries.entries) k
         (λ account at. sym (of_place account p at) ∙ sym made) found is)
 
   module _ (rest : List (LongPlace × Kept)) (p : LongPlace) (kept : Kept) (found : Option Account)
       (is : IsLeastBut (sums_of ledger) (is_later [] ((p, kept) ∷ rest) ledger.whole.entries.entries) found) where
-    pub long_kept : by_key longer.is_same_long ledger.long.entries p ≡ Some kept → (kind : ℕ) → kind ≡ p.kind → breaks kind (kept_sum kept) ≡ false
+    pub long_kept : long_in ledger p ≡ Some kept → (kind : ℕ) → kind ≡ p.kind → breaks kind (kept_sum kept) ≡ false
         → IsLeastBut (sums_of ledger) (is_later [] rest ledger.whole.entries.entries) found
     long_kept there kind same keeps =
         unbroken (sums_of ledger) (is_later [] ((p, kept) ∷ rest) ledger.whole.entries.entries)

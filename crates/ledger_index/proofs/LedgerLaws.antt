@@ -10,13 +10,14 @@ use Rattle.ledger_index.specs.declared.kept.Kept.{Kept}
 use Rattle.ledger_index.specs.declared.ledger.LedgerIndex.{LedgerIndex}
 use Rattle.ledger_index.specs.Sums.{changed}
 use Rattle.ledger_index.specs.Kept.{IsZero, sums_at}
-use Rattle.ledger_index.specs.Entries.{AreTidy, Changes, Entries, Stays, by_account, by_key}
+use Rattle.ledger_index.specs.Entries.{AreTidy, Changes, Entries, Stays, by_account}
 use Rattle.ledger_index.specs.declared.place.Place.{Place}
 use Rattle.ledger_index.specs.declared.long_place.LongPlace.{LongPlace}
-use Rattle.ledger_index.specs.Place.{is_same_place, place_of}
-use Rattle.ledger_index.specs.LongPlace.{is_same_long, long_of}
-use Rattle.ledger_index.specs.Ledger.{IsTidy, entry_at, entry_of, has_entry, sums_of}
+use Rattle.ledger_index.specs.Place.{is_same_place, part_of, place_of}
+use Rattle.ledger_index.specs.LongPlace.{is_same_long, long_of, part_of as long_part}
+use Rattle.ledger_index.specs.Ledger.{IsTidy, entry_at, entry_of, has_entry, long_in, short_in, sums_of}
 use Rattle.ledger_index.proofs.EntryLaws.{other_amount}
+use Rattle.ledger_index.proofs.PartLaws.{tidy_parts}
 use Rattle.ledger_index.proofs.PlaceLaws.{apart, apart', longs_alike, places_alike}
 
 module _ (how : ℕ → ℕ → ℕ) (none : (sum : ℕ) → how 0 sum ≡ sum) where
@@ -66,8 +67,9 @@ module _ (short : Entries Place) (longer : Entries LongPlace) (whole : Entries A
 tidy_of : {L : Type 0} (ledger : LedgerIndex L) → AreTidy (entry_of ledger)
 unfolding entry_of
 tidy_of ledger = λ account kept at zero.
-    tidy_case (by_key is_same_place ledger.short.entries) (by_key is_same_long ledger.long.entries) (by_account ledger.whole.entries)
-    ledger.short.tidy ledger.long.tidy ledger.whole.tidy account (place_of account) (long_of account) kept at zero
+    tidy_case (short_in ledger) (long_in ledger) (by_account ledger.whole.entries)
+    (tidy_parts is_same_place part_of ledger.short.parts.items ledger.short.fit) (tidy_parts is_same_long long_part ledger.long.parts.items ledger.long.fit)
+    ledger.whole.tidy account (place_of account) (long_of account) kept at zero
 
 -- an entry stands for exactly the accounts whose sums are not all zero
 pub is_tidy : {L : Type 0} (ledger : LedgerIndex L) → IsTidy ledger
@@ -75,12 +77,12 @@ unfolding has_entry sums_of
 is_tidy ledger = λ account. entry_case (entry_of ledger account) (tidy_of ledger account)
 
 -- a ledger without entries in its tables has none
-pub none_of : {L : Type 0} (ledger : LedgerIndex L) → ((place : Place) → by_key is_same_place ledger.short.entries place ≡ None)
-    → ((place : LongPlace) → by_key is_same_long ledger.long.entries place ≡ None)
+pub none_of : {L : Type 0} (ledger : LedgerIndex L) → ((place : Place) → short_in ledger place ≡ None)
+    → ((place : LongPlace) → long_in ledger place ≡ None)
     → ((account : Account) → by_account ledger.whole.entries account ≡ None) → (account : Account) → entry_of ledger account ≡ None
 unfolding entry_of
 none_of ledger none1 none2 none3 account =
-    none_case (by_key is_same_place ledger.short.entries) (by_key is_same_long ledger.long.entries) (by_account ledger.whole.entries)
+    none_case (short_in ledger) (long_in ledger) (by_account ledger.whole.entries)
     none1 none2 none3 account (place_of account) (long_of account)
 
 -- the tables of an old ledger and a new one
@@ -126,38 +128,38 @@ module _ (how : ℕ → ℕ → ℕ) (none : (sum : ℕ) → how 0 sum ≡ sum)
 module _ (how : ℕ → ℕ → ℕ) (none : (sum : ℕ) → how 0 sum ≡ sum) {L : Type 0} (old new : LedgerIndex L) (account : Account) where
   -- an amount to a sum of an account with a place
   pub short_changed : (p : Place) (field amount : ℕ) → place_of account ≡ Some p
-      → Changes is_same_place how (by_key is_same_place old.short.entries) (by_key is_same_place new.short.entries) p field amount
-      → ((l : LongPlace) → by_key is_same_long new.long.entries l ≡ by_key is_same_long old.long.entries l)
+      → Changes is_same_place how (short_in old) (short_in new) p field amount
+      → ((l : LongPlace) → long_in new l ≡ long_in old l)
       → ((q : Account) → by_account new.whole.entries q ≡ by_account old.whole.entries q)
       → sums_of new ≡ changed how (sums_of old) account field amount
   unfolding changed sums_of entry_of
   short_changed p field amount at is stay1 stay2 = fun_ext (λ q. fun_ext (λ n.
-      short_case how none (by_key is_same_place old.short.entries) (by_key is_same_place new.short.entries)
-      (by_key is_same_long old.long.entries) (by_key is_same_long new.long.entries) (by_account old.whole.entries) (by_account new.whole.entries)
+      short_case how none (short_in old) (short_in new)
+      (long_in old) (long_in new) (by_account old.whole.entries) (by_account new.whole.entries)
       account field amount p at is stay1 stay2 q n (place_of q) (long_of q) refl))
 
   -- to one of an account with a long place
   pub long_changed : (p : LongPlace) (field amount : ℕ) → place_of account ≡ None → long_of account ≡ Some p
-      → Changes is_same_long how (by_key is_same_long old.long.entries) (by_key is_same_long new.long.entries) p field amount
-      → ((l : Place) → by_key is_same_place new.short.entries l ≡ by_key is_same_place old.short.entries l)
+      → Changes is_same_long how (long_in old) (long_in new) p field amount
+      → ((l : Place) → short_in new l ≡ short_in old l)
       → ((q : Account) → by_account new.whole.entries q ≡ by_account old.whole.entries q)
       → sums_of new ≡ changed how (sums_of old) account field amount
   unfolding changed sums_of entry_of
   long_changed p field amount none_at at is stay1 stay2 = fun_ext (λ q. fun_ext (λ n.
-      long_case how none (by_key is_same_place old.short.entries) (by_key is_same_place new.short.entries)
-      (by_key is_same_long old.long.entries) (by_key is_same_long new.long.entries) (by_account old.whole.entries) (by_account new.whole.entries)
+      long_case how none (short_in old) (short_in new)
+      (long_in old) (long_in new) (by_account old.whole.entries) (by_account new.whole.entries)
       account field amount p none_at at is stay1 stay2 q n (place_of q) (long_of q) refl refl))
 
   -- to one of an account without
   pub whole_changed : (field amount : ℕ) → place_of account ≡ None → long_of account ≡ None
       → Changes is_same how (by_account old.whole.entries) (by_account new.whole.entries) account field amount
-      → ((l : Place) → by_key is_same_place new.short.entries l ≡ by_key is_same_place old.short.entries l)
-      → ((l : LongPlace) → by_key is_same_long new.long.entries l ≡ by_key is_same_long old.long.entries l)
+      → ((l : Place) → short_in new l ≡ short_in old l)
+      → ((l : LongPlace) → long_in new l ≡ long_in old l)
       → sums_of new ≡ changed how (sums_of old) account field amount
   unfolding changed sums_of entry_of
   whole_changed field amount at at' is stay1 stay2 = fun_ext (λ q. fun_ext (λ n.
-      whole_case how none (by_key is_same_place old.short.entries) (by_key is_same_place new.short.entries)
-      (by_key is_same_long old.long.entries) (by_key is_same_long new.long.entries) (by_account old.whole.entries) (by_account new.whole.entries)
+      whole_case how none (short_in old) (short_in new)
+      (long_in old) (long_in new) (by_account old.whole.entries) (by_account new.whole.entries)
       account field amount at at' is stay1 stay2 q n (place_of q) (long_of q) refl refl))
 
 stays_case : (short short' : Entries Place) (longer longer' : Entries LongPlace) (whole whole' : Option Kept) → Stays short short' → Stays longer longer'
@@ -168,36 +170,36 @@ stays_case short short' longer longer' whole whole' is1 is2 is3 None (Some p) n 
 stays_case short short' longer longer' whole whole' is1 is2 is3 None None n = is3 n
 
 -- nothing is changed
-pub all_stay : {L : Type 0} (old new : LedgerIndex L) → Stays (by_key is_same_place old.short.entries) (by_key is_same_place new.short.entries)
-    → Stays (by_key is_same_long old.long.entries) (by_key is_same_long new.long.entries)
+pub all_stay : {L : Type 0} (old new : LedgerIndex L) → Stays (short_in old) (short_in new)
+    → Stays (long_in old) (long_in new)
     → Stays (by_account old.whole.entries) (by_account new.whole.entries) → sums_of new ≡ sums_of old
 unfolding sums_of entry_of
 all_stay old new is1 is2 is3 = fun_ext (λ q. fun_ext (λ n.
-    stays_case (by_key is_same_place old.short.entries) (by_key is_same_place new.short.entries) (by_key is_same_long old.long.entries) (by_key is_same_long new.long.entries)
+    stays_case (short_in old) (short_in new) (long_in old) (long_in new)
     (by_account old.whole.entries q) (by_account new.whole.entries q) is1 is2 (λ k. is3 q k) (place_of q) (long_of q) n))
 
 -- where the sums of an account are kept
 module _ {L : Type 0} (ledger : LedgerIndex L) (account : Account) where
-  pub at_place : (p : Place) → Some p ≡ place_of account → (n : ℕ) → sums_at (by_key is_same_place ledger.short.entries p) n ≡ sums_of ledger account n
+  pub at_place : (p : Place) → Some p ≡ place_of account → (n : ℕ) → sums_at (short_in ledger p) n ≡ sums_of ledger account n
   unfolding sums_of entry_of
   at_place p at n =
-      ap (λ o. sums_at (entry_at o (long_of account) (by_key is_same_place ledger.short.entries) (by_key is_same_long ledger.long.entries)
+      ap (λ o. sums_at (entry_at o (long_of account) (short_in ledger) (long_in ledger)
       (by_account ledger.whole.entries account)) n) at
 
   pub at_long : (p : LongPlace) → None ≡ place_of account → Some p ≡ long_of account → (n : ℕ)
-      → sums_at (by_key is_same_long ledger.long.entries p) n ≡ sums_of ledger account n
+      → sums_at (long_in ledger p) n ≡ sums_of ledger account n
   unfolding sums_of entry_of
   at_long p none at n =
-      ap (λ o. sums_at (entry_at None o (by_key is_same_place ledger.short.entries) (by_key is_same_long ledger.long.entries)
+      ap (λ o. sums_at (entry_at None o (short_in ledger) (long_in ledger)
       (by_account ledger.whole.entries account)) n) at
-      ∙ ap (λ o. sums_at (entry_at o (long_of account) (by_key is_same_place ledger.short.entries) (by_key is_same_long ledger.long.entries)
+      ∙ ap (λ o. sums_at (entry_at o (long_of account) (short_in ledger) (long_in ledger)
       (by_account ledger.whole.entries account)) n) none
 
   pub at_whole : None ≡ place_of account → None ≡ long_of account → (n : ℕ)
       → sums_at (by_account ledger.whole.entries account) n ≡ sums_of ledger account n
   unfolding sums_of entry_of
   at_whole none none' n =
-      ap (λ o. sums_at (entry_at None o (by_key is_same_place ledger.short.entries) (by_key is_same_long ledger.long.entries)
+      ap (λ o. sums_at (entry_at None o (short_in ledger) (long_in ledger)
       (by_account ledger.whole.entries account)) n) none'
-      ∙ ap (λ o. sums_at (entry_at o (long_of account) (by_key is_same_place ledger.short.entries) (by_key is_same_long ledger.long.entries)
+      ∙ ap (λ o. sums_at (entry_at o (long_of account) (short_in ledger) (long_in ledger)
       (by_account ledger.whole.entries account)) n) none

@@ -1,5 +1,6 @@
 pub mod KeptLaws
 pub mod EntryLaws
+pub mod PartLaws
 pub mod PlaceLaws
 pub mod LedgerLaws
 pub mod JudgedLaws

@@ -1,7 +1,8 @@
 -- Tables of what is kept, by keys of some kind. It serves to state what private functions keep.
-use Rattle.std.specs.Prelude.{◌≡◌, ℕ, Bool, ◌&&◌, ◌==◌, nat_lt, Option, Some, IsSome, slice_get, if◌then◌else◌}
+use Rattle.std.specs.Prelude.{◌≡◌, ℕ, ◌+◌, Bool, ◌&&◌, ◌==◌, nat_lt, List, [], ◌∷◌, ◌++◌, Option, Some, None, IsSome, slice_get, if◌then◌else◌}
 use Rattle.std.specs.BTreeMap as map
-use Rattle.indexmap.specs.IndexMap.{IndexMap, get, keys, values}
+use Rattle.std.specs.List.{AllByRecursion}
+use Rattle.indexmap.specs.IndexMap.{IndexMap, get, index_map_len, keys, values}
 use Rattle.accounts.specs.declared.account.Account.{Account}
 use Rattle.accounts.specs.Order.{account_cmp}
 use Rattle.ledger_index.specs.declared.kept.Kept.{Kept}
@@ -38,3 +39,45 @@ pub record StandsAt {K S : Type 0} (same : K → K → Bool) (entries : IndexMap
   pub key : slice_get (keys entries) i ≡ Some k
   pub value : slice_get (values entries) i ≡ by_key same entries k
   pub there : IsSome (slice_get (values entries) i)
+
+-- the entry of a key in one of the parts of a table, if there is that part
+abbrev pub in_part : {K S : Type 0} → (K → K → Bool) → K → Option (IndexMap K Kept S) → Option Kept
+in_part same key None = None
+in_part same key (Some part) = by_key same part key
+
+-- the entries of a table in parts: that of each key stands in the part with the number that the key has
+abbrev pub by_parts : {K S : Type 0} → (K → K → Bool) → (K → ℕ) → List (IndexMap K Kept S) → Entries K
+by_parts same number parts key = in_part same key (slice_get parts (number key))
+
+-- a part with a number has no entry whose sums are all zero, and none of a key with another number
+pub record IsFit {K S : Type 0} (same : K → K → Bool) (number : K → ℕ) (n : ℕ) (part : IndexMap K Kept S) : Type 0 where
+  pub tidy : AreTidy (by_key same part)
+  pub home : (key : K) (kept : Kept) → by_key same part key ≡ Some kept → number key ≡ n
+
+-- this holds of each part
+abbrev pub AreFit : {K S : Type 0} → (K → K → Bool) → (K → ℕ) → List (IndexMap K Kept S) → Type 0
+AreFit {K} {S} same number parts = (n : ℕ) (part : IndexMap K Kept S) → slice_get parts n ≡ Some part → IsFit same number n part
+
+-- the entries of parts, one behind the other
+unfoldable pub entries_in : {K S : Type 0} → List (IndexMap K Kept S) → List (K × Kept)
+entries_in [] = []
+entries_in (part ∷ parts) = part.entries ++ entries_in parts
+
+-- how many there are
+unfoldable pub count_in : {K S : Type 0} → List (IndexMap K Kept S) → ℕ
+count_in [] = 0
+count_in (part ∷ parts) = index_map_len part + count_in parts
+
+-- the entry of a key stands at an index of its part
+pub record StandsIn {K S : Type 0} (same : K → K → Bool) (number : K → ℕ) (parts : List (IndexMap K Kept S)) (i : ℕ) (k : K) : Type 0 where
+  pub part : IndexMap K Kept S
+  pub here : slice_get parts (number k) ≡ Some part
+  pub stands : StandsAt same part i k
+
+-- all parts are empty
+abbrev pub AreEmpty : {K S : Type 0} → List (IndexMap K Kept S) → Type 0
+AreEmpty {K} {S} parts = AllByRecursion (λ (part : IndexMap K Kept S). part.entries ≡ []) parts
+
+-- what is kept under keys is kept under them in other entries too
+abbrev pub Within : {K : Type 0} → Entries K → Entries K → Type 0
+Within {K} part table = (key : K) (kept : Kept) → part key ≡ Some kept → table key ≡ Some kept

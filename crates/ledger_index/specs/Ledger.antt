@@ -1,16 +1,15 @@
 -- What a ledger says: the sums of all accounts, and for which of them an entry stands.
 use Rattle.std.specs.Prelude.{◌≡◌, ◌↔◌, ℕ, ◌+◌, Bool, false, Option, Some, None, is_some}
 use Rattle.std.specs.BTreeMap.{btree_map_len}
-use Rattle.indexmap.specs.IndexMap.{index_map_len}
 use Rattle.accounts.specs.declared.account.Account.{Account}
 use Rattle.accounts.specs.Tally.{Sums}
 use Rattle.ledger_index.specs.declared.kept.Kept.{Kept}
 use Rattle.ledger_index.specs.declared.ledger.LedgerIndex.{LedgerIndex}
 use Rattle.ledger_index.specs.declared.place.Place.{Place}
 use Rattle.ledger_index.specs.declared.long_place.LongPlace.{LongPlace}
-use Rattle.ledger_index.specs.Entries.{Entries, by_account, by_key}
-use Rattle.ledger_index.specs.LongPlace.{is_same_long, long_of}
-use Rattle.ledger_index.specs.Place.{is_same_place, place_of}
+use Rattle.ledger_index.specs.Entries.{Entries, by_account, by_parts, count_in}
+use Rattle.ledger_index.specs.LongPlace.{is_same_long, long_of, part_of as long_part}
+use Rattle.ledger_index.specs.Place.{is_same_place, part_of, place_of}
 use Rattle.ledger_index.specs.Kept.{sums_at}
 
 -- what is kept of an account, if anything is: under its place, or where it has none under its long place, or else under
@@ -20,9 +19,16 @@ entry_at (Some place) long short longer whole = short place
 entry_at None (Some place) short longer whole = longer place
 entry_at None None short longer whole = whole
 
+-- the entries of the two tables of a ledger that are by places
+abbrev pub short_in : {L : Type 0} → LedgerIndex L → Entries Place
+short_in ledger = by_parts is_same_place part_of ledger.short.parts.items
+
+abbrev pub long_in : {L : Type 0} → LedgerIndex L → Entries LongPlace
+long_in ledger = by_parts is_same_long long_part ledger.long.parts.items
+
 unfoldable pub entry_of : {L : Type 0} → LedgerIndex L → Account → Option Kept
 entry_of ledger account =
-    entry_at (place_of account) (long_of account) (by_key is_same_place ledger.short.entries) (by_key is_same_long ledger.long.entries)
+    entry_at (place_of account) (long_of account) (short_in ledger) (long_in ledger)
     (by_account ledger.whole.entries account)
 
 -- the sums of all accounts, by the number of the field
@@ -40,4 +46,4 @@ IsTidy ledger = (account : Account) → (has_entry ledger account ≡ false) ↔
 -- how many entries stand
 unfoldable pub entries_of : {L : Type 0} → LedgerIndex L → ℕ
 entries_of ledger =
-    index_map_len ledger.short.entries + (index_map_len ledger.long.entries + btree_map_len ledger.whole.entries)
+    count_in ledger.short.parts.items + (count_in ledger.long.parts.items + btree_map_len ledger.whole.entries)

@@ -4,7 +4,7 @@ use Rattle.std.specs.Hash as fed
 use Rattle.std.specs.Cmp.Lexicographic.{pointwise}
 use Rattle.accounts.specs.declared.account.Account.{Account}
 use Rattle.ledger_index.specs.declared.long_place.LongPlace.{LongPlace}
-use Rattle.ledger_index.specs.Place.{head_of, two_of, wide_of}
+use Rattle.ledger_index.specs.Place.{head_of, part_at, two_of, wide_of}
 
 -- up to 36 bytes with zeros behind them
 abbrev pub padded : List ℕ → List ℕ
@@ -47,3 +47,7 @@ is_same_long p q =
 -- what is fed of a place to a hash
 abbrev pub long_fed : LongPlace → List (List ℕ)
 long_fed p = fed.u128 (wide_of (head_of p.kind p.sort p.tree) (two_of p.objectid p.offset)) ++ (fed.u64 (two_of p.detail p.length) ++ (p.tail ∷ []))
+
+-- the number of the part of a table that has its entry
+abbrev pub part_of : LongPlace → ℕ
+part_of p = part_at p.objectid

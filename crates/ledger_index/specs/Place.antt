@@ -1,5 +1,5 @@
 -- The accounts that take 32 bytes. It serves to state what private functions keep.
-use Rattle.std.specs.Prelude.{ℕ, Bool, false, nat_eq, ◌+◌, ◌*◌, ◌^◌, ◌++◌, ◌&&◌, ◌==◌, nat_le, nat_lt, List, [], ◌∷◌, length, take, drop, slice_index, Option, Some, None, if◌then◌else◌}
+use Rattle.std.specs.Prelude.{ℕ, Bool, false, nat_eq, ◌+◌, ◌*◌, ◌/◌, ◌%◌, ◌^◌, ◌++◌, ◌&&◌, ◌==◌, nat_le, nat_lt, List, [], ◌∷◌, length, take, drop, slice_index, Option, Some, None, if◌then◌else◌}
 use Rattle.std.specs.Hash as fed
 use Rattle.std.specs.Int.{w32, w64, from_le_bytes}
 use Rattle.std.specs.Cmp.Lexicographic.{pointwise}
@@ -79,3 +79,11 @@ place_fed (Plain kind sort tree block objectid offset) = fed.u128 (wide_of (head
 place_fed (Named length kind sort tree objectid offset detail tail) =
     fed.u128 (wide_of (named_head_of length kind sort tree) (two_of objectid offset))
     ++ fed.u128 (wide_of (front_number tail) (two_of (back_number tail) detail))
+
+-- the number of the part of a table that has the entries of an inode with this number, or of an address; those of 256 in a row are in one
+abbrev pub part_at : ℕ → ℕ
+part_at number = (number / 256) % 256
+
+abbrev pub part_of : Place → ℕ
+part_of (Plain kind sort tree block objectid offset) = part_at (if block == 0 then objectid else block)
+part_of (Named length kind sort tree objectid offset detail tail) = part_at objectid

@@ -1,6 +1,6 @@
 //! The ledger.
 
-ghost use Rattle.std.specs.Prelude.{◌≡◌, ℕ, ◌+◌, ◌<◌, ◌≤◌, [], false, None, IfOk, OnOk, OnErr, nat_lt};
+ghost use Rattle.std.specs.Prelude.{◌≡◌, ℕ, ◌+◌, ◌<◌, ◌≤◌, ◌++◌, List, [], false, None, IfOk, OnOk, OnErr, nat_lt};
 ghost use Rattle.std.specs.BTreeMap.{btree_map_len};
 ghost use Rattle.indexmap.specs.IndexMap.{index_map_len};
 ghost use Rattle.accounts.specs.Broken.{is_broken};
@@ -9,15 +9,24 @@ ghost use Rattle.accounts.specs.Sums.{sum_in};
 ghost use Rattle.accounts.specs.Tally.{no_sums};
 ghost use Rattle.recon_disk.specs.Outside.{counted};
 ghost use Rattle.ledger_index.specs.Sums.{changed, greatest, lower, raise};
+ghost use Rattle.ledger_index.specs.declared.kept.Kept.{Kept as AKept};
+ghost use Rattle.ledger_index.specs.declared.long_place.LongPlace.{LongPlace as ALongPlace};
+ghost use Rattle.ledger_index.specs.declared.place.Place.{Place as APlace};
+ghost use Rattle.ledger_index.specs.Entries.{Within, by_key, count_in, entries_in};
 ghost use Rattle.ledger_index.specs.Judged.{IsLeastBut, is_later, lesser_of};
-ghost use Rattle.ledger_index.specs.Place.{place_of};
+ghost use Rattle.ledger_index.specs.Ledger.{long_in, short_in};
+ghost use Rattle.ledger_index.specs.LongPlace.{is_same_long};
+ghost use Rattle.ledger_index.specs.Place.{is_same_place, place_of};
 
 use crate::judged::{breaks, stand_in, stands_before};
+use crate::kept::Kept;
 use crate::long_place::LongPlace;
 use crate::place::{Place, mixed_by};
+use crate::seeded::Seeded;
 use crate::table::Table;
 use crate::whole::{Whole, copy_of};
 use accounts::{Account, Totals, broken};
+use indexmap::IndexMap;
 use recon_disk::Steps;
 use std::alloc::Global;
 use std::marker::PhantomData;
@@ -127,7 +136,7 @@ impl<L> LedgerIndex<L> {
             return self.short.add_at(self.alloc, at, &place, field, amount);
         }
         if let Some(place) = Place::of(account) {
-            self.short.seed(self.alloc, &steps.seed());
+            self.short.seed(self.alloc, &steps.seed())?;
             return self
                 .short
                 .add_by_hash(self.alloc, &place, mixed, field, amount);
@@ -159,7 +168,7 @@ impl<L> LedgerIndex<L> {
     {
         match LongPlace::of(account) {
             Some(place) => {
-                self.long.seed(self.alloc, seed);
+                self.long.seed(self.alloc, seed)?;
                 self.long.add(self.alloc, &place, field, amount)
             }
             None => self.whole.add(self.alloc, account, field, amount),
@@ -213,12 +222,33 @@ impl<L> LedgerIndex<L> {
     // The least broken one of the accounts with short places.
     fn least_short(&self, steps: &mut Steps<L>) -> Result<Option<Account>, NoMemory>
         ensures least { IfOk result (IsLeastBut (sums_of self.now)
-            (is_later [] self.now.long.entries.entries self.now.whole.entries.entries)) }
-        ensures looks { steps.new ≤ steps.old + index_map_len self.now.short.entries }
+            (is_later [] (entries_in self.now.long.parts.items) self.now.whole.entries.entries)) }
+        ensures looks { steps.new ≤ steps.old + count_in self.now.short.parts.items }
+    {
+        let mut least = None;
+        for part in self.short.parts() {
+            least = self.least_of_short(part, least, steps)?;
+        }
+        Ok(least)
+    }
+
+    // The least broken one of those with short places whose entries are in a part, and of an account that is the least of the parts before.
+    fn least_of_short(
+        &self,
+        part: &IndexMap<Place, Kept, Seeded>,
+        first: Option<Account>,
+        steps: &mut Steps<L>,
+    ) -> Result<Option<Account>, NoMemory>
+        requires within { Within (by_key is_same_place part.now) (short_in self.now) }
+        ensures least { (rest : List (APlace × AKept)) → IsLeastBut (sums_of self.now)
+            (is_later (part.now.entries ++ rest) (entries_in self.now.long.parts.items) self.now.whole.entries.entries) first →
+            IfOk result (IsLeastBut (sums_of self.now)
+            (is_later rest (entries_in self.now.long.parts.items) self.now.whole.entries.entries)) }
+        ensures looks { steps.new ≤ steps.old + index_map_len part.now }
     {
         let mut stand_in = stand_in(self.alloc);
-        let mut least = None;
-        for (place, kept) in self.short.entries() {
+        let mut least = first;
+        for (place, kept) in part {
             steps.look();
             if breaks(place.kind(), kept, &mut stand_in) {
                 least = self.lesser(place.account(self.alloc)?, least);
@@ -227,21 +257,42 @@ impl<L> LedgerIndex<L> {
         Ok(least)
     }
 
-    // The least broken one of those with long places, and of an account that is the least with a short one.
+    // The least broken one of the accounts with long places, and of an account that is the least with a short one.
     fn least_long(
         &self,
         first: Option<Account>,
         steps: &mut Steps<L>,
     ) -> Result<Option<Account>, NoMemory>
         ensures least { IsLeastBut (sums_of self.now)
-            (is_later [] self.now.long.entries.entries self.now.whole.entries.entries) first →
+            (is_later [] (entries_in self.now.long.parts.items) self.now.whole.entries.entries) first →
             IfOk result (IsLeastBut (sums_of self.now)
             (is_later [] [] self.now.whole.entries.entries)) }
-        ensures looks { steps.new ≤ steps.old + index_map_len self.now.long.entries }
+        ensures looks { steps.new ≤ steps.old + count_in self.now.long.parts.items }
+    {
+        let mut least = first;
+        for part in self.long.parts() {
+            least = self.least_of_long(part, least, steps)?;
+        }
+        Ok(least)
+    }
+
+    // The least broken one of those with long places whose entries are in a part, and of an account that is the least of those before.
+    fn least_of_long(
+        &self,
+        part: &IndexMap<LongPlace, Kept, Seeded>,
+        first: Option<Account>,
+        steps: &mut Steps<L>,
+    ) -> Result<Option<Account>, NoMemory>
+        requires within { Within (by_key is_same_long part.now) (long_in self.now) }
+        ensures least { (rest : List (ALongPlace × AKept)) → IsLeastBut (sums_of self.now)
+            (is_later [] (part.now.entries ++ rest) self.now.whole.entries.entries) first →
+            IfOk result (IsLeastBut (sums_of self.now)
+            (is_later [] rest self.now.whole.entries.entries)) }
+        ensures looks { steps.new ≤ steps.old + index_map_len part.now }
     {
         let mut stand_in = stand_in(self.alloc);
         let mut least = first;
-        for (place, kept) in self.long.entries() {
+        for (place, kept) in part {
             steps.look();
             if breaks(place.kind(), kept, &mut stand_in) {
                 least = self.lesser(place.account(self.alloc)?, least);

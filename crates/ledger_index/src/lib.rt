@@ -5,6 +5,7 @@ mod judged;
 mod kept;
 mod ledger;
 mod long_place;
+mod part;
 mod place;
 mod seeded;
 mod table;

@@ -4,8 +4,8 @@ ghost use Rattle.std.specs.Prelude.{◌≡◌, ◌≤◌, IfOk, length};
 ghost use Rattle.ledger_index.specs.LongPlace as spec;
 ghost use Rattle.ledger_index.specs.LongPlaceLaws.{long_equiv, long_fed_alike, long_per, same_long};
 
-use crate::place::{front_of, head_of, mixed_of, two_of, wide_of};
-use crate::table::Exact;
+use crate::part::Exact;
+use crate::place::{front_of, head_of, mixed_of, part_at, two_of, wide_of};
 use accounts::Account;
 use std::alloc::Global;
 use std::hash::{Hash, Hasher};
@@ -50,10 +50,16 @@ impl Eq for LongPlace {
 }
 
 impl Exact for LongPlace {
+    ghost part_of = { spec.part_of };
+
     ghost exact = { same_long };
 
     fn kind(&self) -> u8 {
         LongPlace::kind(self)
+    }
+
+    fn part(&self) -> usize {
+        part_at(u64::from(self.objectid))
     }
 
     fn mixed(&self) -> u64 {

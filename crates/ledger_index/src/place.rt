@@ -4,7 +4,7 @@ ghost use Rattle.std.specs.Prelude.{◌≡◌, ◌≤◌, Some, true, IfOk, leng
 ghost use Rattle.ledger_index.specs.Place as spec;
 ghost use Rattle.ledger_index.specs.PlaceLaws.{fed_alike, place_equiv, place_per, same_place};
 
-use crate::table::Exact;
+use crate::part::Exact;
 use accounts::Account;
 use std::alloc::Global;
 use std::hash::{Hash, Hasher};
@@ -105,10 +105,21 @@ impl Eq for Place {
 }
 
 impl Exact for Place {
+    ghost part_of = { spec.part_of };
+
     ghost exact = { same_place };
 
     fn kind(&self) -> u8 {
         Place::kind(self)
+    }
+
+    fn part(&self) -> usize {
+        match *self {
+            Place::Plain {
+                block, objectid, ..
+            } => part_at(if block == 0 { objectid } else { block }),
+            Place::Named { objectid, .. } => part_at(u64::from(objectid)),
+        }
     }
 
     fn mixed(&self) -> u64 {
@@ -128,6 +139,23 @@ impl Exact for Place {
             } => mixed_of(kind, u64::from(objectid), u64::from(offset)),
         }
     }
+}
+
+/// The number of the part of a table that has the entries of an inode with this number, or of an address, below 256. Those of 256
+/// numbers in a row are in one part.
+pub(crate) fn part_at(number: u64) -> usize
+    ensures { result ≡ spec.part_at number }
+{
+    (number / 256 % 256) as usize
+}
+
+/// The part for the place of an account, without the place.
+pub(crate) fn part_by(account: &Account) -> usize {
+    part_at(if account.block == 0 {
+        account.key.objectid
+    } else {
+        account.block
+    })
 }
 
 /// The number of the place of an account, without the place.

@@ -1,38 +1,28 @@
-//! Sums by accounts in a few bytes.
+//! Sums by short keys.
 
-ghost use Rattle.std.specs.Prelude.{◌≡◌, ◌+◌, ◌<◌, ◌≤◌, ℕ, IsTrue, false, Some, None, IfSome, IfOk, OnOk, OnErr};
-ghost use Rattle.indexmap.specs.IndexMap.{index_map_len};
+ghost use Rattle.std.specs.Prelude.{◌≡◌, ◌+◌, ◌<◌, ◌≤◌, ℕ, false, None, Some, [], IfSome, IfOk, OnOk, OnErr};
 ghost use Rattle.accounts.specs.Sums.{sum_in};
 ghost use Rattle.ledger_index.specs.Sums.{greatest, lower, raise};
 ghost use Rattle.ledger_index.specs.Kept.{sums_at};
-ghost use Rattle.ledger_index.specs.Place.{is_same_place, place_of};
-ghost use Rattle.ledger_index.specs.Entries.{AreTidy, Changes, StandsAt, Stays, by_key};
+ghost use Rattle.ledger_index.specs.Place.{is_same_place, part_of as place_part, place_of};
+ghost use Rattle.ledger_index.specs.Entries.{AreEmpty, AreFit, Changes, StandsIn, Stays, by_parts, count_in};
 
 use crate::kept::Kept;
-use crate::place::Place;
+use crate::part::{Exact, add_at, add_by_hash, find_in, is_at, take_at, totals_at, totals_in};
+use crate::place::{Place, part_by};
 use crate::seeded::Seeded;
 use accounts::{Account, Totals};
 use indexmap::IndexMap;
-use indexmap::map::Entry;
 use std::alloc::Global;
-use std::hash::Hash;
 use verdict::NoMemory;
 
 // How many hints there are.
 const SLOTS: usize = 4096;
 
-/// Keys of which equal ones are one and the same.
-pub(crate) trait Exact: Eq + Hash + Copy {
-    /// The kind of the account.
-    fn kind(&self) -> u8;
+// How many parts there are.
+const PARTS: usize = 256;
 
-    /// A number that keys seldom have in common. It costs less than a hash, and nothing rests on it.
-    fn mixed(&self) -> u64;
-
-    ghost exact: { (x y : Self) → IsTrue (Self.eq x y) → x ≡ y };
-}
-
-// Where an entry stood that was last found, and some bits of the number of its key.
+// Where an entry stood that was last found in its part, and some bits of the number of its key.
 #[derive(Clone, Copy)]
 struct Hint {
     at: u32,
@@ -42,57 +32,59 @@ struct Hint {
 /// The sums of accounts that have keys of this type. An entry stands for exactly those whose sums are not all zero.
 #[derive(Drop)]
 pub(crate) struct Table<K: Exact> {
-    entries: IndexMap<K, Kept, Seeded>,
-    is_seeded: bool,
+    // None, or all of them. A walk posts to accounts of inodes and blocks that lie near each other, so what it needs of a large
+    // table is in few of its parts, and stays in the caches of the processor.
+    parts: Vec<IndexMap<K, Kept, Seeded>>,
     // Where entries stood that were last found, each at the slot of its key. Nothing rests on it.
     near: [Hint; SLOTS],
-    ghost tidy: { AreTidy (by_key K.eq entries) },
+    ghost fit: { AreFit K.eq K.part_of parts.items },
 }
 
 impl<K: Exact> Table<K> {
     /// No sums. They take their memory from this allocator.
     pub(crate) fn new(alloc: Global) -> Table<K>
-        ensures none { (key : K) → by_key K.eq result.entries key ≡ None }
-        ensures empty { index_map_len result.entries ≡ 0 }
+        ensures { result.parts.items ≡ [] }
     {
         Table {
-            entries: IndexMap::with_hasher(alloc, Seeded::of(&[0; 16])),
-            is_seeded: false,
+            parts: Vec::new(alloc),
             near: [Hint { at: 0, bits: 0 }; SLOTS],
         }
     }
 
-    /// Finds accounts by a hash with this seed from now on, if there was none before and no entry stands.
-    pub(crate) fn seed(&mut self, alloc: Global, seed: &[u8; 16])
+    /// Has parts, whose accounts are found by a hash with this seed, from now on.
+    pub(crate) fn seed(&mut self, alloc: Global, seed: &[u8; 16]) -> Result<(), NoMemory>
         ensures same { (key : K) →
-            by_key K.eq self.new.entries key ≡ by_key K.eq self.old.entries key }
-        ensures count { index_map_len self.new.entries ≡ index_map_len self.old.entries }
+            by_parts K.eq K.part_of self.new.parts.items key ≡ by_parts K.eq K.part_of self.old.parts.items key }
+        ensures count { count_in self.new.parts.items ≡ count_in self.old.parts.items }
     {
-        if !self.is_seeded && self.entries.is_empty() {
-            self.entries = IndexMap::with_hasher(alloc, Seeded::of(seed));
-            self.is_seeded = true;
+        if self.parts.is_empty() {
+            self.parts = parts_of(alloc, seed)?;
         }
+        Ok(())
     }
 
     /// The sums of an account.
     pub(crate) fn get(&self, key: &K) -> Totals
-        ensures { (n : ℕ) → sum_in result n ≡ sums_at (by_key K.eq self.now.entries key.now) n }
+        ensures { (n : ℕ) → sum_in result n ≡ sums_at (by_parts K.eq K.part_of self.now.parts.items key.now) n }
     {
-        match self.entries.get(key) {
-            Some(kept) => kept.totals(),
+        match self.parts.get(key.part()) {
+            Some(part) => match self.hinted(key, key.mixed()) {
+                Some(at) => totals_at(part, at, key),
+                None => totals_in(part, key),
+            },
             None => Totals::zero(),
         }
     }
 
-    /// The entries, in any order.
-    pub(crate) fn entries(&self) -> &IndexMap<K, Kept, Seeded>
-        ensures { result.now ≡ self.now.entries }
+    /// The parts, each with its entries in any order.
+    pub(crate) fn parts(&self) -> &[IndexMap<K, Kept, Seeded>]
+        ensures { result.now ≡ self.now.parts.items }
     {
-        &self.entries
+        self.parts.as_slice()
     }
 
     /// Adds an amount to a sum of an account, or as much of it as there is room for in 128 bits, and tells whether the
-    /// sum stands at the greatest number of 128 bits then. Out of memory, all sums stay.
+    /// sum stands at the greatest number of 128 bits then. Out of memory, also where there are no parts, all sums stay.
     pub(crate) fn add(
         &mut self,
         alloc: Global,
@@ -102,13 +94,13 @@ impl<K: Exact> Table<K> {
     ) -> Result<bool, NoMemory>
         requires named { field < 9 }
         requires more { 0 < amount }
-        ensures ok { OnOk result (Changes K.eq raise (by_key K.eq self.old.entries)
-            (by_key K.eq self.new.entries) key.now field amount) }
+        ensures ok { OnOk result (Changes K.eq raise (by_parts K.eq K.part_of self.old.parts.items)
+            (by_parts K.eq K.part_of self.new.parts.items) key.now field amount) }
         ensures full { IfOk result (λ full. full ≡ false →
-            sums_at (by_key K.eq self.new.entries key.now) field < greatest) }
+            sums_at (by_parts K.eq K.part_of self.new.parts.items key.now) field < greatest) }
         ensures err { OnErr result
-            (Stays (by_key K.eq self.old.entries) (by_key K.eq self.new.entries)) }
-        ensures few { index_map_len self.new.entries ≤ index_map_len self.old.entries + 1 }
+            (Stays (by_parts K.eq K.part_of self.old.parts.items) (by_parts K.eq K.part_of self.new.parts.items)) }
+        ensures few { count_in self.new.parts.items ≤ count_in self.old.parts.items + 1 }
     {
         let mixed = key.mixed();
         if let Some(at) = self.hinted(key, mixed) {
@@ -117,7 +109,7 @@ impl<K: Exact> Table<K> {
         self.add_by_hash(alloc, key, mixed, field, amount)
     }
 
-    /// Adds as `add` does, to an account whose entry stands at this index.
+    /// Adds as `add` does, to an account whose entry stands at this index of its part.
     pub(crate) fn add_at(
         &mut self,
         alloc: Global,
@@ -126,19 +118,21 @@ impl<K: Exact> Table<K> {
         field: u8,
         amount: u64,
     ) -> Result<bool, NoMemory>
-        requires there { StandsAt K.eq self.old.entries at key.now }
+        requires there { StandsIn K.eq K.part_of self.old.parts.items at key.now }
         requires named { field < 9 }
         requires more { 0 < amount }
-        ensures ok { OnOk result (Changes K.eq raise (by_key K.eq self.old.entries)
-            (by_key K.eq self.new.entries) key.now field amount) }
+        ensures ok { OnOk result (Changes K.eq raise (by_parts K.eq K.part_of self.old.parts.items)
+            (by_parts K.eq K.part_of self.new.parts.items) key.now field amount) }
         ensures full { IfOk result (λ full. full ≡ false →
-            sums_at (by_key K.eq self.new.entries key.now) field < greatest) }
+            sums_at (by_parts K.eq K.part_of self.new.parts.items key.now) field < greatest) }
         ensures err { OnErr result
-            (Stays (by_key K.eq self.old.entries) (by_key K.eq self.new.entries)) }
-        ensures few { index_map_len self.new.entries ≤ index_map_len self.old.entries + 1 }
+            (Stays (by_parts K.eq K.part_of self.old.parts.items) (by_parts K.eq K.part_of self.new.parts.items)) }
+        ensures few { count_in self.new.parts.items ≤ count_in self.old.parts.items + 1 }
     {
-        let kept = self.entries.get_index_mut(at).unwrap();
-        kept.raise(alloc, field, amount)
+        match self.parts.get_mut(key.part()) {
+            Some(part) => add_at(part, alloc, at, key, field, amount),
+            None => Err(NoMemory),
+        }
     }
 
     /// Adds as `add` does, and finds the account by its hash, which is computed once.
@@ -153,75 +147,66 @@ impl<K: Exact> Table<K> {
     ) -> Result<bool, NoMemory>
         requires named { field < 9 }
         requires more { 0 < amount }
-        ensures ok { OnOk result (Changes K.eq raise (by_key K.eq self.old.entries)
-            (by_key K.eq self.new.entries) key.now field amount) }
+        ensures ok { OnOk result (Changes K.eq raise (by_parts K.eq K.part_of self.old.parts.items)
+            (by_parts K.eq K.part_of self.new.parts.items) key.now field amount) }
         ensures full { IfOk result (λ full. full ≡ false →
-            sums_at (by_key K.eq self.new.entries key.now) field < greatest) }
+            sums_at (by_parts K.eq K.part_of self.new.parts.items key.now) field < greatest) }
         ensures err { OnErr result
-            (Stays (by_key K.eq self.old.entries) (by_key K.eq self.new.entries)) }
-        ensures few { index_map_len self.new.entries ≤ index_map_len self.old.entries + 1 }
+            (Stays (by_parts K.eq K.part_of self.old.parts.items) (by_parts K.eq K.part_of self.new.parts.items)) }
+        ensures few { count_in self.new.parts.items ≤ count_in self.old.parts.items + 1 }
     {
-        match self.entries.entry(*key) {
-            Ok(Entry::Occupied(entry)) => {
-                self.near[slot_of(mixed)] = hint_of(mixed, entry.index());
-                entry.into_mut().raise(alloc, field, amount)
-            }
-            Ok(Entry::Vacant(entry)) => match Kept::one(alloc, field, amount) {
-                Ok(kept) => {
-                    self.near[slot_of(mixed)] = hint_of(mixed, entry.index());
-                    entry.insert(kept);
-                    Ok(false)
+        match self.parts.get_mut(key.part()) {
+            Some(part) => match add_by_hash(part, alloc, key, field, amount) {
+                Ok((full, at)) => {
+                    self.near[slot_of(mixed)] = hint_of(mixed, at);
+                    Ok(full)
                 }
-                Err(_) => {
-                    entry.into_key();
-                    Err(NoMemory)
-                }
+                Err(_) => Err(NoMemory),
             },
-            Err(_) => Err(NoMemory),
+            None => Err(NoMemory),
         }
     }
 
     /// Takes an amount from a sum of an account, or all of it where it is less.
     pub(crate) fn take(&mut self, key: &K, field: u8, amount: u64)
         requires { field < 9 }
-        ensures { Changes K.eq lower (by_key K.eq self.old.entries)
-            (by_key K.eq self.new.entries) key.now field amount }
+        ensures { Changes K.eq lower (by_parts K.eq K.part_of self.old.parts.items)
+            (by_parts K.eq K.part_of self.new.parts.items) key.now field amount }
     {
         let Some(at) = self.index_of(key) else {
             return;
         };
-        let kept = self.entries.get_index_mut(at).unwrap();
-        kept.lower(field, amount);
-        if kept.is_zero() {
-            self.entries.swap_remove_index(at);
+        if let Some(part) = self.parts.get_mut(key.part()) {
+            take_at(part, at, key, field, amount);
         }
     }
 
-    // Where the entry of an account stands, or `None` where it has none.
+    // Where the entry of an account stands in its part, or `None` where it has none.
     fn index_of(&mut self, key: &K) -> Option<usize>
-        ensures entries { self.new.entries ≡ self.old.entries }
-        ensures found { IfSome result (λ i. StandsAt K.eq self.old.entries i key.now) }
-        ensures none { result ≡ None → by_key K.eq self.old.entries key.now ≡ None }
+        ensures parts { self.new.parts ≡ self.old.parts }
+        ensures found { IfSome result (λ i. StandsIn K.eq K.part_of self.old.parts.items i key.now) }
+        ensures none { result ≡ None → by_parts K.eq K.part_of self.old.parts.items key.now ≡ None }
     {
         let mixed = key.mixed();
         if let Some(at) = self.hinted(key, mixed) {
             return Some(at);
         }
-        let (at, _, _) = self.entries.get_full(key)?;
+        let part = self.parts.get(key.part())?;
+        let at = find_in(part, key)?;
         self.near[slot_of(mixed)] = hint_of(mixed, at);
         Some(at)
     }
 
-    // Where the entry of an account stands, if it is the one that was last found for an account of the same slot. That one is
-    // looked at without a hash, where its bits are those of the account: accounts come again soon, as those of the names in a
+    // Where the entry of an account stands in its part, if it is the one that was last found for an account of the same slot. That one
+    // is looked at without a hash, where its bits are those of the account: accounts come again soon, as those of the names in a
     // directory do.
     fn hinted(&self, key: &K, mixed: u64) -> Option<usize>
-        ensures { IfSome result (λ i. StandsAt K.eq self.now.entries i key.now) }
+        ensures { IfSome result (λ i. StandsIn K.eq K.part_of self.now.parts.items i key.now) }
     {
         let hint = self.near[slot_of(mixed)];
         if hint.bits == bits_of(mixed)
-            && let Some((there, _)) = self.entries.get_index(hint.at as usize)
-            && *there == *key
+            && let Some(part) = self.parts.get(key.part())
+            && is_at(part, hint.at as usize, key)
         {
             return Some(hint.at as usize);
         }
@@ -230,20 +215,51 @@ impl<K: Exact> Table<K> {
 }
 
 impl Table<Place> {
-    /// Where the entry of an account stands, and its place, if it is the one that was last found for an account of the same
+    /// Where the entry of an account stands in its part, and its place, if it is the one that was last found for an account of the same
     /// slot. The place is not made of the account: the account is compared with what stands there.
     pub(crate) fn hinted_of(&self, account: &Account, mixed: u64) -> Option<(usize, Place)>
         ensures { IfSome result (λ p. (place_of account.now ≡ Some p.1)
-            × StandsAt is_same_place self.now.entries p.0 p.1) }
+            × StandsIn is_same_place place_part self.now.parts.items p.0 p.1) }
     {
         let hint = self.near[slot_of(mixed)];
         if hint.bits == bits_of(mixed)
-            && let Some((place, _)) = self.entries.get_index(hint.at as usize)
+            && let Some(part) = self.parts.get(part_by(account))
+            && let Some((place, _)) = part.get_index(hint.at as usize)
             && place.is_of(account)
         {
             return Some((hint.at as usize, *place));
         }
         None
+    }
+}
+
+// Parts without entries, whose accounts are found by a hash with this seed.
+fn parts_of<K: Exact>(
+    alloc: Global,
+    seed: &[u8; 16],
+) -> Result<Vec<IndexMap<K, Kept, Seeded>>, NoMemory>
+    ensures { IfOk result (λ parts. AreEmpty parts.items) }
+{
+    let mut parts = Vec::new(alloc);
+    if parts.reserve(PARTS).is_err() {
+        return Err(NoMemory);
+    }
+    for _number in 0..PARTS {
+        put_part(&mut parts, IndexMap::with_hasher(alloc, Seeded::of(seed)))?;
+    }
+    Ok(parts)
+}
+
+// Puts a part without entries behind others.
+fn put_part<K: Exact>(
+    parts: &mut Vec<IndexMap<K, Kept, Seeded>>,
+    part: IndexMap<K, Kept, Seeded>,
+) -> Result<(), NoMemory>
+    ensures { part.entries ≡ [] → AreEmpty parts.old.items → OnOk result (AreEmpty parts.new.items) }
+{
+    match parts.push(part) {
+        Ok(()) => Ok(()),
+        Err(_) => Err(NoMemory),
     }
 }
 

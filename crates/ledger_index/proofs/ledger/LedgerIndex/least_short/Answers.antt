@@ -1,55 +1,48 @@
-use Rattle.std.proofs.Common.{◌≡◌, ap, arith, length, subst, sym, ◌∙◌}
+use Rattle.std.proofs.Common.{◌+◌, ap, arith, drop, subst, sym}
 use Rattle.std.specs.Prelude.{None}
-use Rattle.indexmap.specs.IndexMap.{IsUnique}
-use Rattle.ledger_index.specs.Entries.{by_key}
+use Rattle.std.specs.List.{AllByRecursion}
+use Rattle.std.proofs.lemmas.List.{drop_all}
+use Rattle.ledger_index.specs.Entries.{Within, by_key, count_in, entries_in}
 use Rattle.ledger_index.specs.Judged.{IsLeastBut, is_later}
-use Rattle.ledger_index.specs.Ledger.{sums_of}
-use Rattle.ledger_index.specs.Place.{is_same_place}
-use Rattle.ledger_index.specs.PlaceLaws.{place_equiv}
-use Rattle.ledger_index.proofs.JudgedLaws.{Found, found_all, least_of_none, short_judged, short_kept}
+use Rattle.ledger_index.specs.Ledger.{short_in, sums_of}
+use Rattle.ledger_index.specs.Place.{is_same_place, part_of}
+use Rattle.ledger_index.proofs.JudgedLaws.{least_of_none}
+use Rattle.ledger_index.proofs.PartLaws.{drop_step, within_parts}
 use Rattle.ledger_index.proofs.ledger.LedgerIndex.least_short.Goals as goal
 
-pub loop-place-init : goal.loop-place-init
-loop-place-init g c =
-    let self = c.args.self.now in
-    let e : c.into_iter-place-iterator.result ≡ self.short.entries.entries =
-    c.into_iter-place-iterator.ensures.into_iter_gives.0 ∙ ap (λ m. m.entries) c.entries-place-items.ensures in
-    record {
-      least = subst (λ es. IsLeastBut (sums_of self) (is_later es self.long.entries.entries self.whole.entries.entries) None) (sym e) (least_of_none self);
-      found = subst (Found (by_key is_same_place self.short.entries)) (sym e)
-          (found_all is_same_place place_equiv self.short.entries.entries
-          (subst (λ m. IsUnique is_same_place m) c.entries-place-items.ensures c.into_iter-place-iterator.ensures.into_iter_gives.4));
-      looks = omega (arith, ap length e);
+pub loop-part-init : goal.loop-part-init
+loop-part-init g c =
+    let self = c.args.self.now in record {
+      least = subst (λ ps. IsLeastBut (sums_of self) (is_later (entries_in ps) (entries_in self.long.parts.items) self.whole.entries.entries) None) (sym c.parts-part-items.ensures) (least_of_none self);
+      within = subst (AllByRecursion (λ part. Within (by_key is_same_place part) (short_in self))) (sym c.parts-part-items.ensures)
+          (within_parts is_same_place part_of self.short.parts.items self.short.fit);
+      looks = omega (arith, ap count_in c.parts-part-items.ensures);
     }
 
--- the entry breaks its account
-pub loop-place-preserved-then-breaks : goal.loop-place-preserved-then-breaks
-loop-place-preserved-then-breaks g c =
+-- a part is judged
+pub loop-part-preserved : goal.loop-part-preserved
+unfolding count_in entries_in
+loop-part-preserved g c =
     let self = c.args.self.now in
-    let e = c.in-Some.ensures.steps in
+    let items = c.parts-part-items.result.now in
+    let e = drop_step items c.loop-part.part-index c.part-item.result c.loop-part-test.true c.part-item.is in
     record {
-      least = short_judged self c.next.new.self c.in-Some.place.now c.in-Some.kept.now c.loop-place.least
-          (subst (λ es. IsLeastBut (sums_of self) (is_later es self.long.entries.entries self.whole.entries.entries) c.loop-place.least) e c.loop-place.invariant.least)
-          c.in_ok-account.field-0 c.in_ok-account.ensures c.lesser-least.result c.lesser-least.ensures;
-      found = (subst (Found (by_key is_same_place self.short.entries)) e c.loop-place.invariant.found).1;
-      looks = omega (arith, c.look.ensures, c.loop-place.invariant.looks, ap length e);
+      least = c.in_ok-least.ensures.least (entries_in (drop (c.loop-part.part-index + 1) items))
+          (subst (λ ps. IsLeastBut (sums_of self) (is_later (entries_in ps) (entries_in self.long.parts.items) self.whole.entries.entries) c.loop-part.least) e c.loop-part.invariant.least);
+      within = (subst (AllByRecursion (λ part. Within (by_key is_same_place part) (short_in self))) e c.loop-part.invariant.within).1;
+      looks = omega (arith, ap count_in e, c.loop-part.invariant.looks, c.least_of_short.ensures.looks);
     }
 
--- it breaks none
-pub loop-place-preserved : goal.loop-place-preserved
-loop-place-preserved g c =
-    let self = c.args.self.now in
-    let e = c.in-Some.ensures.steps in
-    let found = subst (Found (by_key is_same_place self.short.entries)) e c.loop-place.invariant.found in
-    record {
-      least = short_kept self c.next.new.self c.in-Some.place.now c.in-Some.kept.now c.loop-place.least
-          (subst (λ es. IsLeastBut (sums_of self) (is_later es self.long.entries.entries self.whole.entries.entries) c.loop-place.least) e c.loop-place.invariant.least)
-          found.0 c.kind.result c.kind.ensures (sym c.breaks.ensures ∙ c.if-breaks.false);
-      found = found.1;
-      looks = omega (arith, c.look.ensures, c.loop-place.invariant.looks, ap length e);
-    }
+pub returns-in_err-least-clause-looks : goal.returns-in_err-least-clause-looks
+unfolding count_in
+returns-in_err-least-clause-looks g c =
+    let items = c.parts-part-items.result.now in
+    let e = drop_step items c.loop-part.part-index c.part-item.result c.loop-part-test.true c.part-item.is in
+    omega (arith, ap count_in e, c.loop-part.invariant.looks, c.least_of_short.ensures.looks)
 
 pub returns-clause-least : goal.returns-clause-least
+unfolding entries_in
 returns-clause-least g c =
     let self = c.args.self.now in
-    subst (λ es. IsLeastBut (sums_of self) (is_later es self.long.entries.entries self.whole.entries.entries) c.loop-place.least) c.in-None.ensures.steps.0 c.loop-place.invariant.least
+    subst (λ ps. IsLeastBut (sums_of self) (is_later (entries_in ps) (entries_in self.long.parts.items) self.whole.entries.entries) c.loop-part.least)
+    (drop_all c.loop-part.part-index c.parts-part-items.result.now c.loop-part-test.false) c.loop-part.invariant.least

@@ -1,64 +1,44 @@
-use Rattle.std.proofs.Common.{◌≡◌, cond, length, arith, refl, ap, sym, ◌∙◌}
-use Rattle.std.specs.Prelude.{Some}
-use Rattle.indexmap.specs.IndexMap.{with_value_at}
-use Rattle.indexmap.specs.Layout.{length-set_value_at, set_value_at}
-use Rattle.ledger_index.specs.Entries.{by_key}
+use Rattle.std.proofs.Common.{arith, ap, refl, sym, length}
+use Rattle.std.proofs.lemmas.Option.{slice_get_read}
 use Rattle.ledger_index.specs.Kept.{sums_at}
-use Rattle.ledger_index.specs.Sums.{amount_at, raise}
-use Rattle.ledger_index.proofs.EntryLaws.{changed_entry, full_as, on_err, on_ok, raise_none, stays_entry, tidy_raise}
-use Rattle.ledger_index.proofs.PlacedLaws.{kept_at, put_at}
+use Rattle.ledger_index.specs.Sums.{raise}
+use Rattle.ledger_index.proofs.EntryLaws.{full_as, on_err, on_ok, raise_none}
+use Rattle.ledger_index.proofs.PartLaws.{changes_part, count_set, fit_part, here_new, others_added, stays_part}
 use Rattle.ledger_index.proofs.table.Table.add_at.Goals as goal
 
 pub invariant_of-self : goal.invariant_of-self
 invariant_of-self g c =
-    let same = g.K.PartialEq.eq in
-    let m = c.args.self.now.entries in record {
-      tidy = tidy_raise same g.met.K.Exact.exact c.raise.result (by_key same m) (by_key same (with_value_at m c.args.at c.raise.new.self)) c.args.key.now
-          c.unwrap-kept.result.now c.raise.new.self c.args.field c.args.amount
-          (put_at same g.met.K.Eq.laws m c.args.at c.args.key.now c.raise.new.self c.get_index_mut.ensures.unique c.requires.there)
-          c.raise.ensures.ok c.raise.ensures.err
-          (kept_at same m m c.args.at c.args.key.now c.get_index_mut.result c.unwrap-kept.result refl c.requires.there
-          c.unwrap-kept.ensures c.get_index_mut.ensures.value)
-          c.args.self.now.tidy;
+    let parts = c.args.self.now.parts.items in
+    let there = slice_get_read parts (length parts) c.part.result c.in-Some.part.now refl c.in-Some.ensures.item.3.0 c.in-Some.ensures.item.1 in record {
+      fit = fit_part g.K.PartialEq.eq g.met.K.Exact.exact g.K.Exact.part_of parts c.part.result c.in-Some.part.now c.add_at.new.part c.in-Some.ensures.item.3.0 there
+          c.args.key.now (sym c.part.ensures) c.args.self.now.fit c.add_at.ensures.tidy
+          (others_added g.K.PartialEq.eq _ _ c.args.key.now c.args.field c.args.amount c.add_at.result c.add_at.ensures.ok c.add_at.ensures.err);
     }
 
-pub returns-clause-ok : goal.returns-clause-ok
-returns-clause-ok g c =
-    let same = g.K.PartialEq.eq in
-    let m = c.args.self.now.entries in
-    let had : by_key same m c.args.key.now ≡ Some c.unwrap-kept.result.now =
-    kept_at same m m c.args.at c.args.key.now c.get_index_mut.result c.unwrap-kept.result refl c.requires.there
-    c.unwrap-kept.ensures c.get_index_mut.ensures.value in
-    on_ok c.raise.result (λ more. changed_entry same g.met.K.Exact.exact raise raise_none (by_key same m)
-    (by_key same (with_value_at m c.args.at c.raise.new.self)) c.args.key.now c.args.field c.args.amount (Some c.raise.new.self)
-    (put_at same g.met.K.Eq.laws m c.args.at c.args.key.now c.raise.new.self c.get_index_mut.ensures.unique c.requires.there)
-    (λ k. more k ∙ ap (λ o. raise (amount_at c.args.field c.args.amount k) (sums_at o k)) (sym had))) c.raise.ensures.ok
+pub returns-in-Some-clause-ok : goal.returns-in-Some-clause-ok
+returns-in-Some-clause-ok g c =
+    let parts = c.args.self.now.parts.items in
+    let there = slice_get_read parts (length parts) c.part.result c.in-Some.part.now refl c.in-Some.ensures.item.3.0 c.in-Some.ensures.item.1 in
+    on_ok c.add_at.result (λ is. changes_part g.K.PartialEq.eq g.met.K.Exact.exact g.K.Exact.part_of parts c.part.result c.in-Some.part.now c.add_at.new.part
+    c.in-Some.ensures.item.3.0 there raise raise_none c.args.key.now (sym c.part.ensures) c.args.field c.args.amount is) c.add_at.ensures.ok
 
-pub returns-clause-full : goal.returns-clause-full
-returns-clause-full g c =
-    let same = g.K.PartialEq.eq in
-    let m = c.args.self.now.entries in
-    let key = c.args.key.now in
-    let put = put_at same g.met.K.Eq.laws m c.args.at key c.raise.new.self c.get_index_mut.ensures.unique c.requires.there key in
-    full_as c.raise.result _ _
-    (ap (λ o. sums_at o c.args.field) (sym (put ∙ ap (λ b. cond b (Some c.raise.new.self) (by_key same m key)) (g.met.K.Eq.laws.refl key))))
-    c.raise.ensures.full
+pub returns-in-Some-clause-full : goal.returns-in-Some-clause-full
+returns-in-Some-clause-full g c =
+    let parts = c.args.self.now.parts.items in
+    let there = slice_get_read parts (length parts) c.part.result c.in-Some.part.now refl c.in-Some.ensures.item.3.0 c.in-Some.ensures.item.1 in
+    full_as c.add_at.result _ _ (ap (λ o. sums_at o c.args.field) (sym (here_new g.K.PartialEq.eq g.met.K.Exact.exact g.K.Exact.part_of parts c.part.result
+    c.in-Some.part.now c.add_at.new.part c.in-Some.ensures.item.3.0 there c.args.key.now c.part.ensures))) c.add_at.ensures.full
 
-pub returns-clause-err : goal.returns-clause-err
-returns-clause-err g c =
-    let same = g.K.PartialEq.eq in
-    let m = c.args.self.now.entries in
-    let had : by_key same m c.args.key.now ≡ Some c.unwrap-kept.result.now =
-    kept_at same m m c.args.at c.args.key.now c.get_index_mut.result c.unwrap-kept.result refl c.requires.there
-    c.unwrap-kept.ensures c.get_index_mut.ensures.value in
-    on_err c.raise.result (λ stay. stays_entry same g.met.K.Exact.exact (by_key same m)
-    (by_key same (with_value_at m c.args.at c.raise.new.self)) c.args.key.now (Some c.raise.new.self)
-    (put_at same g.met.K.Eq.laws m c.args.at c.args.key.now c.raise.new.self c.get_index_mut.ensures.unique c.requires.there)
-    (λ k. stay k ∙ ap (λ o. sums_at o k) (sym had))) c.raise.ensures.err
+pub returns-in-Some-clause-err : goal.returns-in-Some-clause-err
+returns-in-Some-clause-err g c =
+    let parts = c.args.self.now.parts.items in
+    let there = slice_get_read parts (length parts) c.part.result c.in-Some.part.now refl c.in-Some.ensures.item.3.0 c.in-Some.ensures.item.1 in
+    on_err c.add_at.result (λ is. stays_part g.K.PartialEq.eq g.met.K.Exact.exact g.K.Exact.part_of parts c.part.result c.in-Some.part.now c.add_at.new.part
+    c.in-Some.ensures.item.3.0 there is) c.add_at.ensures.err
 
--- there are as many entries
-pub returns-clause-few : goal.returns-clause-few
-returns-clause-few g c =
-    let m = c.args.self.now.entries in
-    let put : length (set_value_at m.entries c.args.at c.raise.new.self) ≡ length m.entries = length-set_value_at m.entries c.args.at c.raise.new.self in
-    omega (arith, put)
+-- there is an entry more at most
+pub returns-in-Some-clause-few : goal.returns-in-Some-clause-few
+returns-in-Some-clause-few g c =
+    let parts = c.args.self.now.parts.items in
+    let there = slice_get_read parts (length parts) c.part.result c.in-Some.part.now refl c.in-Some.ensures.item.3.0 c.in-Some.ensures.item.1 in
+    omega (arith, count_set parts c.part.result c.in-Some.part.now c.add_at.new.part there, c.add_at.ensures.few)

@@ -1,26 +1,60 @@
-use Rattle.std.proofs.Common.{◌≡◌, rules, ap, sym, ◌∙◌}
-use Rattle.std.specs.Prelude.{Some}
-use Rattle.ledger_index.specs.Entries.{by_key}
+use Rattle.std.proofs.Common.{◌<◌, arith, ap, refl, sym, length, subst}
+use Rattle.std.proofs.lemmas.Option.{slice_get_read}
 use Rattle.ledger_index.specs.Kept.{sums_at}
-use Rattle.ledger_index.specs.Sums.{amount_at, raise}
-use Rattle.ledger_index.proofs.EntryLaws.{amount_stands, changed_entry, on_ok, raise_none, tidy_put}
+use Rattle.ledger_index.specs.Sums.{greatest, raise}
+use Rattle.ledger_index.proofs.EntryLaws.{raise_none}
+use Rattle.ledger_index.proofs.PartLaws.{changes_part, count_set, fit_part, here_new, others_added, stays_part}
 use Rattle.ledger_index.proofs.table.Table.add_by_hash.Goals as goal
 
--- there stood none
-pub invariant_of-self-in-Ok : goal.invariant_of-self-in-Ok
-invariant_of-self-in-Ok g c =
-    let same = g.K.PartialEq.eq in record {
-      tidy = tidy_put same g.met.K.Exact.exact (by_key same c.args.self.now.entries) _ c.args.key.now c.in-Ok.kept
-          (search rules) c.args.self.now.tidy
-          (amount_stands c.in-Ok.kept c.args.field c.args.amount c.in-Ok.ensures c.requires.named c.requires.more);
+-- the amount was added
+pub invariant_of-self : goal.invariant_of-self
+invariant_of-self g c =
+    let parts = c.args.self.now.parts.items in
+    let there = slice_get_read parts (length parts) c.part.result c.in-Some.part.now refl c.in-Some.ensures.item.3.0 c.in-Some.ensures.item.1 in record {
+      fit = fit_part g.K.PartialEq.eq g.met.K.Exact.exact g.K.Exact.part_of parts c.part.result c.in-Some.part.now c.add_by_hash.new.part c.in-Some.ensures.item.3.0 there
+          c.args.key.now (sym c.part.ensures) c.args.self.now.fit c.add_by_hash.ensures.tidy
+          (others_added g.K.PartialEq.eq _ _ c.args.key.now c.args.field c.args.amount c.add_by_hash.result c.add_by_hash.ensures.ok c.add_by_hash.ensures.err);
     }
 
--- what stood there was raised
-pub returns-in-Ok-Occupied-clause-ok : goal.returns-in-Ok-Occupied-clause-ok
-returns-in-Ok-Occupied-clause-ok g c =
-    let same = g.K.PartialEq.eq in
-    let m = c.args.self.now.entries in
-    let had : by_key same m c.args.key.now ≡ Some c.into_mut.result.now = search rules in
-    on_ok c.raise.result (λ more. changed_entry same g.met.K.Exact.exact raise raise_none (by_key same m) _
-    c.args.key.now c.args.field c.args.amount (Some c.raise.new.self) (search rules)
-    (λ k. more k ∙ ap (λ o. raise (amount_at c.args.field c.args.amount k) (sums_at o k)) (sym had))) c.raise.ensures.ok
+pub returns-in-Ok-clause-ok : goal.returns-in-Ok-clause-ok
+returns-in-Ok-clause-ok g c =
+    let parts = c.args.self.now.parts.items in
+    let there = slice_get_read parts (length parts) c.part.result c.in-Some.part.now refl c.in-Some.ensures.item.3.0 c.in-Some.ensures.item.1 in
+    changes_part g.K.PartialEq.eq g.met.K.Exact.exact g.K.Exact.part_of parts c.part.result c.in-Some.part.now c.add_by_hash.new.part
+    c.in-Some.ensures.item.3.0 there raise raise_none c.args.key.now (sym c.part.ensures) c.args.field c.args.amount c.in-Ok.ensures.ok
+
+pub returns-in-Ok-clause-full : goal.returns-in-Ok-clause-full
+returns-in-Ok-clause-full g c =
+    let parts = c.args.self.now.parts.items in
+    let there = slice_get_read parts (length parts) c.part.result c.in-Some.part.now refl c.in-Some.ensures.item.3.0 c.in-Some.ensures.item.1 in
+    λ none. subst (λ n. n < greatest) (ap (λ o. sums_at o c.args.field) (sym (here_new g.K.PartialEq.eq g.met.K.Exact.exact g.K.Exact.part_of parts c.part.result
+    c.in-Some.part.now c.add_by_hash.new.part c.in-Some.ensures.item.3.0 there c.args.key.now c.part.ensures))) (c.in-Ok.ensures.full none)
+
+pub returns-in-Ok-clause-few : goal.returns-in-Ok-clause-few
+returns-in-Ok-clause-few g c =
+    let parts = c.args.self.now.parts.items in
+    let there = slice_get_read parts (length parts) c.part.result c.in-Some.part.now refl c.in-Some.ensures.item.3.0 c.in-Some.ensures.item.1 in
+    omega (arith, count_set parts c.part.result c.in-Some.part.now c.add_by_hash.new.part there, c.add_by_hash.ensures.few)
+
+-- it was not
+pub invariant_of-self-in-Err : goal.invariant_of-self-in-Err
+invariant_of-self-in-Err g c =
+    let parts = c.args.self.now.parts.items in
+    let there = slice_get_read parts (length parts) c.part.result c.in-Some.part.now refl c.in-Some.ensures.item.3.0 c.in-Some.ensures.item.1 in record {
+      fit = fit_part g.K.PartialEq.eq g.met.K.Exact.exact g.K.Exact.part_of parts c.part.result c.in-Some.part.now c.add_by_hash.new.part c.in-Some.ensures.item.3.0 there
+          c.args.key.now (sym c.part.ensures) c.args.self.now.fit c.add_by_hash.ensures.tidy
+          (others_added g.K.PartialEq.eq _ _ c.args.key.now c.args.field c.args.amount c.add_by_hash.result c.add_by_hash.ensures.ok c.add_by_hash.ensures.err);
+    }
+
+pub returns-in-Err-clause-err : goal.returns-in-Err-clause-err
+returns-in-Err-clause-err g c =
+    let parts = c.args.self.now.parts.items in
+    let there = slice_get_read parts (length parts) c.part.result c.in-Some.part.now refl c.in-Some.ensures.item.3.0 c.in-Some.ensures.item.1 in
+    stays_part g.K.PartialEq.eq g.met.K.Exact.exact g.K.Exact.part_of parts c.part.result c.in-Some.part.now c.add_by_hash.new.part
+    c.in-Some.ensures.item.3.0 there c.in-Err.ensures.err
+
+pub returns-in-Err-clause-few : goal.returns-in-Err-clause-few
+returns-in-Err-clause-few g c =
+    let parts = c.args.self.now.parts.items in
+    let there = slice_get_read parts (length parts) c.part.result c.in-Some.part.now refl c.in-Some.ensures.item.3.0 c.in-Some.ensures.item.1 in
+    omega (arith, count_set parts c.part.result c.in-Some.part.now c.add_by_hash.new.part there, c.add_by_hash.ensures.few)

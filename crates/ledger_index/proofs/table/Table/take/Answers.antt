@@ -1,60 +1,36 @@
-use Rattle.std.proofs.Common.{◌≡◌, refl, ap}
-use Rattle.std.specs.Prelude.{Some, None}
-use Rattle.indexmap.specs.IndexMap.{with_value_at}
-use Rattle.ledger_index.specs.Entries.{by_key}
+use Rattle.std.proofs.Common.{◌<◌, arith, refl, sym, length, slice_set, subst}
+use Rattle.std.proofs.lemmas.Option.{slice_get_read, slice_get_within}
+use Rattle.ledger_index.specs.Entries.{Changes, by_parts}
 use Rattle.ledger_index.specs.Sums.{lower}
-use Rattle.ledger_index.proofs.EntryLaws.{changed_entry, lower_none, lowered_absent, lowered_away, lowered_had, tidy_entry, tidy_put}
-use Rattle.ledger_index.proofs.PlacedLaws.{gone_placed, kept_at, put_after}
+use Rattle.ledger_index.proofs.EntryLaws.{lower_none}
+use Rattle.ledger_index.proofs.PartLaws.{changes_part, fit_part, others_stay}
 use Rattle.ledger_index.proofs.table.Table.take.Goals as goal
 
-pub returns-in_default : goal.returns-in_default
-returns-in_default g c =
-    lowered_absent g.K.PartialEq.eq g.met.K.Exact.exact (by_key g.K.PartialEq.eq c.args.self.now.entries) (by_key g.K.PartialEq.eq c.index_of.new.self.entries) c.args.key.now c.args.field c.args.amount
-    (λ q. ap (λ m. by_key g.K.PartialEq.eq m q) c.index_of.ensures.entries) (c.in_default.ensures.none refl)
-
--- the entry went away
 pub invariant_of-self : goal.invariant_of-self
 invariant_of-self g c =
-    let same = g.K.PartialEq.eq in
-    let m = c.args.self.now.entries in record {
-      tidy = tidy_entry same g.met.K.Exact.exact (by_key same m) (by_key same c.swap_remove_index.new.self) c.args.key.now None
-          (gone_placed same g.met.K.Eq.laws m c.index_of.new.self.entries c.swap_remove_index.new.self c.in-Some.at c.args.key.now c.lower.new.self c.swap_remove_index.result
-          c.in-Some.ensures.entries c.get_index_mut.ensures.unique c.in-Some.ensures.found c.swap_remove_index.ensures.entry c.swap_remove_index.ensures.updates)
-          c.args.self.now.tidy (λ t at. absurd (cc at));
+    let parts = c.index_of.new.self.parts.items in
+    let there = slice_get_read parts (length parts) c.part.result c.in-Some-get_mut.part.now refl c.in-Some-get_mut.ensures.item.3.0 c.in-Some-get_mut.ensures.item.1 in record {
+      fit = fit_part g.K.PartialEq.eq g.met.K.Exact.exact g.K.Exact.part_of parts c.part.result c.in-Some-get_mut.part.now c.take_at.new.part c.in-Some-get_mut.ensures.item.3.0 there
+          c.args.key.now (sym c.part.ensures) c.index_of.new.self.fit c.take_at.ensures.tidy
+          (others_stay g.K.PartialEq.eq lower lower_none _ _ c.args.key.now c.args.field c.args.amount c.take_at.ensures.changes);
     }
 
-pub returns-then-is_zero : goal.returns-then-is_zero
-returns-then-is_zero g c =
+pub returns-in-Some-get_mut : goal.returns-in-Some-get_mut
+returns-in-Some-get_mut g c =
     let same = g.K.PartialEq.eq in
-    let m = c.args.self.now.entries in
-    let n = c.index_of.new.self.entries in
-    let had : by_key same m c.args.key.now ≡ Some c.unwrap-kept.result.now =
-    kept_at same m n c.in-Some.at c.args.key.now c.get_index_mut.result c.unwrap-kept.result c.in-Some.ensures.entries c.in-Some.ensures.found
-    c.unwrap-kept.ensures c.get_index_mut.ensures.value in
-    changed_entry same g.met.K.Exact.exact lower lower_none (by_key same m) (by_key same c.swap_remove_index.new.self) c.args.key.now c.args.field c.args.amount None
-    (gone_placed same g.met.K.Eq.laws m n c.swap_remove_index.new.self c.in-Some.at c.args.key.now c.lower.new.self c.swap_remove_index.result
-    c.in-Some.ensures.entries c.get_index_mut.ensures.unique c.in-Some.ensures.found c.swap_remove_index.ensures.entry c.swap_remove_index.ensures.updates)
-    (lowered_away (by_key same m c.args.key.now) c.unwrap-kept.result.now c.lower.new.self c.args.field c.args.amount c.lower.ensures had (c.if-is_zero.ensures.0 refl))
+    let number = g.K.Exact.part_of in
+    let parts = c.index_of.new.self.parts.items in
+    let there = slice_get_read parts (length parts) c.part.result c.in-Some-get_mut.part.now refl c.in-Some-get_mut.ensures.item.3.0 c.in-Some-get_mut.ensures.item.1 in
+    subst (λ v. Changes same lower (by_parts same number v.items) (by_parts same number (slice_set parts c.part.result c.take_at.new.part)) c.args.key.now c.args.field c.args.amount)
+    c.in-Some.ensures.parts
+    (changes_part same g.met.K.Exact.exact number parts c.part.result c.in-Some-get_mut.part.now c.take_at.new.part
+    c.in-Some-get_mut.ensures.item.3.0 there lower lower_none c.args.key.now (sym c.part.ensures) c.args.field c.args.amount c.take_at.ensures.changes)
 
--- it has the sums that are left
-pub invariant_of-self-else-is_zero : goal.invariant_of-self-else-is_zero
-invariant_of-self-else-is_zero g c =
-    let same = g.K.PartialEq.eq in
-    let m = c.args.self.now.entries in
-    let n = c.index_of.new.self.entries in record {
-      tidy = tidy_put same g.met.K.Exact.exact (by_key same m) (by_key same (with_value_at n c.in-Some.at c.lower.new.self)) c.args.key.now c.lower.new.self
-          (put_after same g.met.K.Eq.laws m n c.in-Some.at c.args.key.now c.lower.new.self c.in-Some.ensures.entries c.get_index_mut.ensures.unique c.in-Some.ensures.found)
-          c.args.self.now.tidy (λ zero. absurd (cc (c.if-is_zero.ensures.1 zero)));
-    }
-
-pub returns-else-is_zero : goal.returns-else-is_zero
-returns-else-is_zero g c =
-    let same = g.K.PartialEq.eq in
-    let m = c.args.self.now.entries in
-    let n = c.index_of.new.self.entries in
-    let had : by_key same m c.args.key.now ≡ Some c.unwrap-kept.result.now =
-    kept_at same m n c.in-Some.at c.args.key.now c.get_index_mut.result c.unwrap-kept.result c.in-Some.ensures.entries c.in-Some.ensures.found
-    c.unwrap-kept.ensures c.get_index_mut.ensures.value in
-    changed_entry same g.met.K.Exact.exact lower lower_none (by_key same m) (by_key same (with_value_at n c.in-Some.at c.lower.new.self)) c.args.key.now c.args.field c.args.amount (Some c.lower.new.self)
-    (put_after same g.met.K.Eq.laws m n c.in-Some.at c.args.key.now c.lower.new.self c.in-Some.ensures.entries c.get_index_mut.ensures.unique c.in-Some.ensures.found)
-    (lowered_had (by_key same m c.args.key.now) c.unwrap-kept.result.now c.lower.new.self c.args.field c.args.amount c.lower.ensures had)
+-- there is a part, since an entry was found in it
+pub returns-in_default-get_mut : goal.returns-in_default-get_mut
+returns-in_default-get_mut g c =
+    let parts = c.args.self.now.parts.items in
+    let within : g.K.Exact.part_of c.args.key.now < length parts = slice_get_within parts (g.K.Exact.part_of c.args.key.now) c.in-Some.ensures.found.part c.in-Some.ensures.found.here in
+    let there : c.part.result < length c.index_of.new.self.parts.items =
+    subst (λ v. c.part.result < length v.items) (sym c.in-Some.ensures.parts) (subst (λ n. n < length parts) (sym c.part.ensures) within) in
+    absurd (cc (c.in_default-get_mut.ensures.variant.1 (omega (arith, there, c.index_of.new.self.parts.ok))))

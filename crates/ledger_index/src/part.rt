@@ -1,0 +1,166 @@
+//! A part of a table: the sums of accounts under keys, in one map.
+
+ghost use Rattle.std.specs.Prelude.{◌≡◌, ℕ, ◌+◌, ◌<◌, ◌≤◌, IsTrue, false, None, IfSome, IfOk, OnOk, OnErr};
+ghost use Rattle.indexmap.specs.IndexMap.{index_map_len};
+ghost use Rattle.accounts.specs.Sums.{sum_in};
+ghost use Rattle.ledger_index.specs.Sums.{greatest, lower, raise};
+ghost use Rattle.ledger_index.specs.Kept.{sums_at};
+ghost use Rattle.ledger_index.specs.Entries.{AreTidy, Changes, StandsAt, Stays, by_key};
+
+use crate::kept::Kept;
+use crate::seeded::Seeded;
+use accounts::Totals;
+use indexmap::IndexMap;
+use indexmap::map::Entry;
+use std::alloc::Global;
+use std::hash::Hash;
+use verdict::NoMemory;
+
+/// Keys of which equal ones are one and the same.
+pub(crate) trait Exact: Eq + Hash + Copy {
+    /// The number of the part of a table that has the key's entry.
+    ghost part_of: { Self → ℕ };
+
+    /// The kind of the account.
+    fn kind(&self) -> u8;
+
+    /// A number that keys seldom have in common. It costs less than a hash, and nothing rests on it.
+    fn mixed(&self) -> u64;
+
+    /// The number of the part of a table that has the key's entry, below 256.
+    fn part(&self) -> usize
+        ensures { result ≡ part_of self.now };
+
+    ghost exact: { (x y : Self) → IsTrue (Self.eq x y) → x ≡ y };
+}
+
+/// The sums under a key.
+pub(crate) fn totals_in<K: Exact>(part: &IndexMap<K, Kept, Seeded>, key: &K) -> Totals
+    ensures { (n : ℕ) → sum_in result n ≡ sums_at (by_key K.eq part.now key.now) n }
+{
+    match part.get(key) {
+        Some(kept) => kept.totals(),
+        None => Totals::zero(),
+    }
+}
+
+/// The sums of the entry at an index, which is that of a key.
+pub(crate) fn totals_at<K: Exact>(
+    part: &IndexMap<K, Kept, Seeded>,
+    at: usize,
+    key: &K,
+) -> Totals
+    requires { StandsAt K.eq part.now at key.now }
+    ensures { (n : ℕ) → sum_in result n ≡ sums_at (by_key K.eq part.now key.now) n }
+{
+    let _key = key;
+    let (_, kept) = part.get_index(at).unwrap();
+    kept.totals()
+}
+
+/// Whether the entry at an index is that of a key.
+pub(crate) fn is_at<K: Exact>(part: &IndexMap<K, Kept, Seeded>, at: usize, key: &K) -> bool
+    ensures { IsTrue result → StandsAt K.eq part.now at key.now }
+{
+    match part.get_index(at) {
+        Some((there, _)) => *there == *key,
+        None => false,
+    }
+}
+
+/// Where the entry of a key stands, or `None` where it has none.
+pub(crate) fn find_in<K: Exact>(part: &IndexMap<K, Kept, Seeded>, key: &K) -> Option<usize>
+    ensures found { IfSome result (λ i. StandsAt K.eq part.now i key.now) }
+    ensures none { result ≡ None → by_key K.eq part.now key.now ≡ None }
+{
+    let (at, _, _) = part.get_full(key)?;
+    Some(at)
+}
+
+/// Adds an amount to a sum of the account whose entry stands at an index, or as much of it as there is room for in 128 bits,
+/// and tells whether the sum stands at the greatest number of 128 bits then. Out of memory, all sums stay.
+pub(crate) fn add_at<K: Exact>(
+    part: &mut IndexMap<K, Kept, Seeded>,
+    alloc: Global,
+    at: usize,
+    key: &K,
+    field: u8,
+    amount: u64,
+) -> Result<bool, NoMemory>
+    requires there { StandsAt K.eq part.old at key.now }
+    requires named { field < 9 }
+    requires more { 0 < amount }
+    ensures ok { OnOk result (Changes K.eq raise (by_key K.eq part.old)
+        (by_key K.eq part.new) key.now field amount) }
+    ensures full { IfOk result (λ full. full ≡ false →
+        sums_at (by_key K.eq part.new key.now) field < greatest) }
+    ensures err { OnErr result (Stays (by_key K.eq part.old) (by_key K.eq part.new)) }
+    ensures tidy { AreTidy (by_key K.eq part.old) → AreTidy (by_key K.eq part.new) }
+    ensures few { index_map_len part.new ≤ index_map_len part.old + 1 }
+{
+    let _key = key;
+    let kept = part.get_index_mut(at).unwrap();
+    kept.raise(alloc, field, amount)
+}
+
+/// Adds as `add_at` does, and finds the account by its hash, which is computed once. It tells where the entry stands too.
+pub(crate) fn add_by_hash<K: Exact>(
+    part: &mut IndexMap<K, Kept, Seeded>,
+    alloc: Global,
+    key: &K,
+    field: u8,
+    amount: u64,
+) -> Result<(bool, usize), NoMemory>
+    requires named { field < 9 }
+    requires more { 0 < amount }
+    ensures ok { OnOk result (Changes K.eq raise (by_key K.eq part.old)
+        (by_key K.eq part.new) key.now field amount) }
+    ensures full { IfOk result (λ made. made.0 ≡ false →
+        sums_at (by_key K.eq part.new key.now) field < greatest) }
+    ensures err { OnErr result (Stays (by_key K.eq part.old) (by_key K.eq part.new)) }
+    ensures tidy { AreTidy (by_key K.eq part.old) → AreTidy (by_key K.eq part.new) }
+    ensures few { index_map_len part.new ≤ index_map_len part.old + 1 }
+{
+    match part.entry(*key) {
+        Ok(Entry::Occupied(entry)) => {
+            let at = entry.index();
+            match entry.into_mut().raise(alloc, field, amount) {
+                Ok(full) => Ok((full, at)),
+                Err(_) => Err(NoMemory),
+            }
+        }
+        Ok(Entry::Vacant(entry)) => match Kept::one(alloc, field, amount) {
+            Ok(kept) => {
+                let at = entry.index();
+                entry.insert(kept);
+                Ok((false, at))
+            }
+            Err(_) => {
+                entry.into_key();
+                Err(NoMemory)
+            }
+        },
+        Err(_) => Err(NoMemory),
+    }
+}
+
+/// Takes an amount from a sum of the account whose entry stands at an index, or all of it where it is less.
+pub(crate) fn take_at<K: Exact>(
+    part: &mut IndexMap<K, Kept, Seeded>,
+    at: usize,
+    key: &K,
+    field: u8,
+    amount: u64,
+)
+    requires there { StandsAt K.eq part.old at key.now }
+    requires named { field < 9 }
+    ensures changes { Changes K.eq lower (by_key K.eq part.old) (by_key K.eq part.new) key.now field amount }
+    ensures tidy { AreTidy (by_key K.eq part.old) → AreTidy (by_key K.eq part.new) }
+{
+    let _key = key;
+    let kept = part.get_index_mut(at).unwrap();
+    kept.lower(field, amount);
+    if kept.is_zero() {
+        part.swap_remove_index(at);
+    }
+}
