@@ -51,9 +51,9 @@ module _ {K S : Type 0} (same : K → K → Bool) (number : K → ℕ) where
       → AllByRecursion (λ (part : IndexMap K Kept S). Within (by_key same part) (by_parts same number parts)) parts
   within_parts parts fit = all_by (λ (part : IndexMap K Kept S). Within (by_key same part) (by_parts same number parts)) parts
       (λ n part at. λ key kept is. (let
-        home : number key ≡ n = (fit n part at).home key kept is in let
-        there : slice_get parts (number key) ≡ Some part = ap (slice_get parts) home ∙ at in
-        ap (in_part same key) there ∙ is))
+      home : number key ≡ n = (fit n part at).home key kept is in let
+      there : slice_get parts (number key) ≡ Some part = ap (slice_get parts) home ∙ at in
+      ap (in_part same key) there ∙ is))
 
   -- a table of empty parts
   empty_case : (key : K) (parts : List (IndexMap K Kept S)) (n : ℕ) → AreEmpty parts → in_part same key (slice_get parts n) ≡ None
@@ -72,9 +72,9 @@ module _ {K S : Type 0} (same : K → K → Bool) (number : K → ℕ) where
   pub empty_fit : (parts : List (IndexMap K Kept S)) → AreEmpty parts → AreFit same number parts
   empty_fit parts none = λ n part at. (let
       is : part.entries ≡ [] = empty_at parts n part none at in record {
-      tidy = λ key kept there none_there. (let e : by_key same part key ≡ None = ap (lookup (same key)) is in absurd (cc (e, there)));
-      home = λ key kept there. (let e : by_key same part key ≡ None = ap (lookup (same key)) is in absurd (cc (e, there)));
-    })
+        tidy = λ key kept there none_there. (let e : by_key same part key ≡ None = ap (lookup (same key)) is in absurd (cc (e, there)));
+        home = λ key kept there. (let e : by_key same part key ≡ None = ap (lookup (same key)) is in absurd (cc (e, there)));
+      })
 
 pub empty_count : {K S : Type 0} (parts : List (IndexMap K Kept S)) → AreEmpty parts → count_in parts ≡ 0
 unfolding count_in

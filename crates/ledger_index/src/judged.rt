@@ -1,6 +1,8 @@
 //! Which of two accounts a ledger breaks, and what an entry's sums break.
 
-ghost use Rattle.std.specs.Prelude.{◌≡◌};
+ghost use Rattle.std.specs.Prelude.{◌≡◌, slice_index, IfSome};
+ghost use Rattle.accounts.specs.Broken.{inode_keeps, is_broken};
+ghost use Rattle.ledger_index.specs.declared.kept.Kept.TheVariants.{Long};
 ghost use Rattle.ledger_index.specs.Judged.{breaks, stands_before};
 ghost use Rattle.ledger_index.specs.Kept.{kept_sum};
 
@@ -29,8 +31,62 @@ pub(crate) fn stand_in(alloc: Global) -> Account {
 pub(crate) fn breaks(kind: u8, kept: &Kept, stand_in: &mut Account) -> bool
     ensures { result ≡ breaks kind (kept_sum kept.now) }
 {
-    stand_in.kind = kind;
-    broken(stand_in, &kept.totals())
+    match small_breaks(kind, kept) {
+        Some(is) => is,
+        None => {
+            stand_in.kind = kind;
+            broken(stand_in, &kept.totals())
+        }
+    }
+}
+
+/// Whether an account is broken by these sums.
+pub(crate) fn is_broken(account: &Account, kept: &Kept) -> bool
+    ensures { result ≡ is_broken account.now (kept_sum kept.now) }
+{
+    match small_breaks(account.kind, kept) {
+        Some(is) => is,
+        None => broken(account, &kept.totals()),
+    }
+}
+
+// The same by the kind, where the sums are small and the account is of an inode, of its type or of its names, as most accounts of an image
+// are. The sums are looked at where they are kept.
+#[tactic(auto, unfolding(crate::specs::Judged::breaks, crate::specs::Kept::kept_sum))]
+fn small_breaks(kind: u8, kept: &Kept) -> Option<bool>
+    ensures { IfSome result (λ is. is ≡ breaks kind (kept_sum kept.now)) }
+{
+    match (kind, kept) {
+        (9, Kept::Few(few)) => Some(!inode_keeps(few)),
+        (9, Kept::Long(few, long)) => Some(!long_inode_keeps(few, long)),
+        (10, Kept::Few(few)) => Some(few[0] > 0 && few[1] != 1),
+        (11, Kept::Few(few)) => Some(few[0] != few[1]),
+        (12, Kept::Few(few)) => Some(few[0] != few[1]),
+        _ => None,
+    }
+}
+
+// The rule on an inode, of nine small sums.
+fn inode_keeps(f: &[u8; 9]) -> bool
+    ensures { result ≡ inode_keeps (slice_index f.now) }
+{
+    (f[1] == 0 || f[0] == 1)
+        && f[2] == f[3]
+        && (f[0] != 1 || f[2] != 0 || f[4] > 0)
+        && f[5] == f[6]
+        && f[7] == f[8]
+}
+
+// The same of seven small sums and two longer ones.
+#[tactic(auto, unfolding(crate::specs::Kept::kept_sum))]
+fn long_inode_keeps(f: &[u8; 7], long: &[u32; 2]) -> bool
+    ensures { result ≡ inode_keeps (kept_sum (Long f.now long.now)) }
+{
+    (f[1] == 0 || f[0] == 1)
+        && f[2] == f[3]
+        && (f[0] != 1 || f[2] != 0 || f[4] > 0)
+        && f[5] == f[6]
+        && long[0] == long[1]
 }
 
 /// Whether an account stands before another, if there is another.

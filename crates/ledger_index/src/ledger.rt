@@ -2,6 +2,7 @@
 
 ghost use Rattle.std.specs.Prelude.{◌≡◌, ℕ, ◌+◌, ◌<◌, ◌≤◌, ◌++◌, List, [], false, None, IfOk, OnOk, OnErr, nat_lt};
 ghost use Rattle.std.specs.BTreeMap.{btree_map_len};
+ghost use Rattle.std.specs.Option.{option_copied};
 ghost use Rattle.indexmap.specs.IndexMap.{index_map_len};
 ghost use Rattle.accounts.specs.Broken.{is_broken};
 ghost use Rattle.accounts.specs.Least.{IsLeastBroken};
@@ -14,14 +15,14 @@ ghost use Rattle.ledger_index.specs.declared.long_place.LongPlace.{LongPlace as 
 ghost use Rattle.ledger_index.specs.declared.place.Place.{Place as APlace};
 ghost use Rattle.ledger_index.specs.Entries.{Within, by_key, count_in, entries_in};
 ghost use Rattle.ledger_index.specs.Judged.{IsLeastBut, is_later, lesser_of};
-ghost use Rattle.ledger_index.specs.Ledger.{long_in, short_in};
+ghost use Rattle.ledger_index.specs.Ledger.{entry_of, long_in, short_in};
 ghost use Rattle.ledger_index.specs.LongPlace.{is_same_long};
 ghost use Rattle.ledger_index.specs.Place.{is_same_place, place_of};
 
-use crate::judged::{breaks, stand_in, stands_before};
+use crate::judged::{breaks, is_broken, stand_in, stands_before};
 use crate::kept::Kept;
 use crate::long_place::LongPlace;
-use crate::place::{Place, mixed_by};
+use crate::place::{Place, mixed_by, part_by};
 use crate::seeded::Seeded;
 use crate::table::Table;
 use crate::whole::{Whole, copy_of};
@@ -74,16 +75,39 @@ impl<L> LedgerIndex<L> {
         self.totals_of(account)
     }
 
+    /// Whether the totals of an account break its rule.
+    pub fn breaks(&self, account: &Account, steps: &mut Steps<L>) -> bool
+        ensures broken { result ≡ is_broken account.now (sums_of self.now account.now) }
+        ensures looks { steps.new ≡ counted steps.old }
+    {
+        steps.look();
+        match self.kept_of(account) {
+            Some(kept) => is_broken(account, kept),
+            None => false,
+        }
+    }
+
     // The totals of an account, by a look that is not counted.
     fn totals_of(&self, account: &Account) -> Totals
         ensures { (n : ℕ) → sum_in result n ≡ sums_of self.now account.now n }
     {
+        match self.kept_of(account) {
+            Some(kept) => kept.totals(),
+            None => Totals::zero(),
+        }
+    }
+
+    // What is kept of an account, if anything is.
+    #[tactic(auto, unfolding(crate::specs::Ledger::entry_of))]
+    fn kept_of(&self, account: &Account) -> Option<&Kept>
+        ensures { option_copied result ≡ entry_of self.now account.now }
+    {
         if let Some(place) = Place::of(account) {
-            return self.short.get(&place);
+            return self.short.kept(&place);
         }
         match LongPlace::of(account) {
-            Some(place) => self.long.get(&place),
-            None => self.whole.get(account),
+            Some(place) => self.long.kept(&place),
+            None => self.whole.kept(account),
         }
     }
 
@@ -132,8 +156,11 @@ impl<L> LedgerIndex<L> {
             return Ok(self.is_full_at(account, field));
         }
         let mixed = mixed_by(account);
-        if let Some((at, place)) = self.short.hinted_of(account, mixed) {
-            return self.short.add_at(self.alloc, at, &place, field, amount);
+        let number = part_by(account);
+        if let Some((at, place)) = self.short.hinted_of(account, number, mixed) {
+            return self
+                .short
+                .add_at(self.alloc, number, at, &place, field, amount);
         }
         if let Some(place) = Place::of(account) {
             self.short.seed(self.alloc, &steps.seed())?;

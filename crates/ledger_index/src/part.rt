@@ -1,15 +1,14 @@
 //! A part of a table: the sums of accounts under keys, in one map.
 
 ghost use Rattle.std.specs.Prelude.{◌≡◌, ℕ, ◌+◌, ◌<◌, ◌≤◌, IsTrue, false, None, IfSome, IfOk, OnOk, OnErr};
+ghost use Rattle.std.specs.Option.{option_copied};
 ghost use Rattle.indexmap.specs.IndexMap.{index_map_len};
-ghost use Rattle.accounts.specs.Sums.{sum_in};
 ghost use Rattle.ledger_index.specs.Sums.{greatest, lower, raise};
 ghost use Rattle.ledger_index.specs.Kept.{sums_at};
 ghost use Rattle.ledger_index.specs.Entries.{AreTidy, Changes, StandsAt, Stays, by_key};
 
 use crate::kept::Kept;
 use crate::seeded::Seeded;
-use accounts::Totals;
 use indexmap::IndexMap;
 use indexmap::map::Entry;
 use std::alloc::Global;
@@ -34,28 +33,18 @@ pub(crate) trait Exact: Eq + Hash + Copy {
     ghost exact: { (x y : Self) → IsTrue (Self.eq x y) → x ≡ y };
 }
 
-/// The sums under a key.
-pub(crate) fn totals_in<K: Exact>(part: &IndexMap<K, Kept, Seeded>, key: &K) -> Totals
-    ensures { (n : ℕ) → sum_in result n ≡ sums_at (by_key K.eq part.now key.now) n }
-{
-    match part.get(key) {
-        Some(kept) => kept.totals(),
-        None => Totals::zero(),
-    }
-}
-
-/// The sums of the entry at an index, which is that of a key.
-pub(crate) fn totals_at<K: Exact>(
-    part: &IndexMap<K, Kept, Seeded>,
+/// What is kept under a key, by its entry, which stands at an index.
+pub(crate) fn kept_at<'a, K: Exact>(
+    part: &'a IndexMap<K, Kept, Seeded>,
     at: usize,
     key: &K,
-) -> Totals
+) -> Option<&'a Kept>
     requires { StandsAt K.eq part.now at key.now }
-    ensures { (n : ℕ) → sum_in result n ≡ sums_at (by_key K.eq part.now key.now) n }
+    ensures { option_copied result ≡ by_key K.eq part.now key.now }
 {
     let _key = key;
-    let (_, kept) = part.get_index(at).unwrap();
-    kept.totals()
+    let (_, kept) = part.get_index(at)?;
+    Some(kept)
 }
 
 /// Whether the entry at an index is that of a key.

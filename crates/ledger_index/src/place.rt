@@ -116,7 +116,9 @@ impl Exact for Place {
     fn part(&self) -> usize {
         match *self {
             Place::Plain {
-                block, objectid, ..
+                block,
+                objectid,
+                ..
             } => part_at(if block == 0 { objectid } else { block }),
             Place::Named { objectid, .. } => part_at(u64::from(objectid)),
         }

@@ -1,17 +1,17 @@
 //! Sums by short keys.
 
 ghost use Rattle.std.specs.Prelude.{◌≡◌, ◌+◌, ◌<◌, ◌≤◌, ℕ, false, None, Some, [], IfSome, IfOk, OnOk, OnErr};
-ghost use Rattle.accounts.specs.Sums.{sum_in};
+ghost use Rattle.std.specs.Option.{option_copied};
 ghost use Rattle.ledger_index.specs.Sums.{greatest, lower, raise};
 ghost use Rattle.ledger_index.specs.Kept.{sums_at};
 ghost use Rattle.ledger_index.specs.Place.{is_same_place, part_of as place_part, place_of};
 ghost use Rattle.ledger_index.specs.Entries.{AreEmpty, AreFit, Changes, StandsIn, Stays, by_parts, count_in};
 
 use crate::kept::Kept;
-use crate::part::{Exact, add_at, add_by_hash, find_in, is_at, take_at, totals_at, totals_in};
-use crate::place::{Place, part_by};
+use crate::part::{Exact, add_at, add_by_hash, find_in, is_at, kept_at, take_at};
+use crate::place::Place;
 use crate::seeded::Seeded;
-use accounts::{Account, Totals};
+use accounts::Account;
 use indexmap::IndexMap;
 use std::alloc::Global;
 use verdict::NoMemory;
@@ -63,16 +63,14 @@ impl<K: Exact> Table<K> {
         Ok(())
     }
 
-    /// The sums of an account.
-    pub(crate) fn get(&self, key: &K) -> Totals
-        ensures { (n : ℕ) → sum_in result n ≡ sums_at (by_parts K.eq K.part_of self.now.parts.items key.now) n }
+    /// What is kept of an account, if anything is.
+    pub(crate) fn kept(&self, key: &K) -> Option<&Kept>
+        ensures { option_copied result ≡ by_parts K.eq K.part_of self.now.parts.items key.now }
     {
-        match self.parts.get(key.part()) {
-            Some(part) => match self.hinted(key, key.mixed()) {
-                Some(at) => totals_at(part, at, key),
-                None => totals_in(part, key),
-            },
-            None => Totals::zero(),
+        let part = self.parts.get(key.part())?;
+        match self.hinted(key, key.mixed()) {
+            Some(at) => kept_at(part, at, key),
+            None => part.get(key),
         }
     }
 
@@ -104,20 +102,22 @@ impl<K: Exact> Table<K> {
     {
         let mixed = key.mixed();
         if let Some(at) = self.hinted(key, mixed) {
-            return self.add_at(alloc, at, key, field, amount);
+            return self.add_at(alloc, key.part(), at, key, field, amount);
         }
         self.add_by_hash(alloc, key, mixed, field, amount)
     }
 
-    /// Adds as `add` does, to an account whose entry stands at this index of its part.
+    /// Adds as `add` does, to an account whose entry stands at this index of the part with this number.
     pub(crate) fn add_at(
         &mut self,
         alloc: Global,
+        number: usize,
         at: usize,
         key: &K,
         field: u8,
         amount: u64,
     ) -> Result<bool, NoMemory>
+        requires home { number ≡ K.part_of key.now }
         requires there { StandsIn K.eq K.part_of self.old.parts.items at key.now }
         requires named { field < 9 }
         requires more { 0 < amount }
@@ -129,7 +129,7 @@ impl<K: Exact> Table<K> {
             (Stays (by_parts K.eq K.part_of self.old.parts.items) (by_parts K.eq K.part_of self.new.parts.items)) }
         ensures few { count_in self.new.parts.items ≤ count_in self.old.parts.items + 1 }
     {
-        match self.parts.get_mut(key.part()) {
+        match self.parts.get_mut(number) {
             Some(part) => add_at(part, alloc, at, key, field, amount),
             None => Err(NoMemory),
         }
@@ -191,8 +191,7 @@ impl<K: Exact> Table<K> {
         if let Some(at) = self.hinted(key, mixed) {
             return Some(at);
         }
-        let part = self.parts.get(key.part())?;
-        let at = find_in(part, key)?;
+        let at = find_in(self.parts.get(key.part())?, key)?;
         self.near[slot_of(mixed)] = hint_of(mixed, at);
         Some(at)
     }
@@ -216,14 +215,21 @@ impl<K: Exact> Table<K> {
 
 impl Table<Place> {
     /// Where the entry of an account stands in its part, and its place, if it is the one that was last found for an account of the same
-    /// slot. The place is not made of the account: the account is compared with what stands there.
-    pub(crate) fn hinted_of(&self, account: &Account, mixed: u64) -> Option<(usize, Place)>
+    /// slot. It is looked for in the part with this number. The place is not made of the account: the account is compared with what
+    /// stands there.
+    pub(crate) fn hinted_of(
+        &self,
+        account: &Account,
+        number: usize,
+        mixed: u64,
+    ) -> Option<(usize, Place)>
         ensures { IfSome result (λ p. (place_of account.now ≡ Some p.1)
+            × (number ≡ place_part p.1)
             × StandsIn is_same_place place_part self.now.parts.items p.0 p.1) }
     {
         let hint = self.near[slot_of(mixed)];
         if hint.bits == bits_of(mixed)
-            && let Some(part) = self.parts.get(part_by(account))
+            && let Some(part) = self.parts.get(number)
             && let Some((place, _)) = part.get_index(hint.at as usize)
             && place.is_of(account)
         {

@@ -2,14 +2,15 @@
 
 ghost use Rattle.std.specs.Prelude.{◌≡◌, ◌+◌, ◌<◌, ◌≤◌, ℕ, false, None, IfOk, OnOk, OnErr};
 ghost use Rattle.std.specs.BTreeMap.{btree_map_len};
+ghost use Rattle.std.specs.Option.{option_copied};
 ghost use Rattle.accounts.specs.declared.account.Account.{Account as AnAccount};
-ghost use Rattle.accounts.specs.Sums.{is_same, sum_in};
+ghost use Rattle.accounts.specs.Sums.{is_same};
 ghost use Rattle.ledger_index.specs.Sums.{greatest, lower, raise};
 ghost use Rattle.ledger_index.specs.Kept.{sums_at};
 ghost use Rattle.ledger_index.specs.Entries.{AreTidy, Changes, Stays, by_account};
 
 use crate::kept::Kept;
-use accounts::{Account, Totals};
+use accounts::Account;
 use std::alloc::Global;
 use std::collections::BTreeMap;
 use verdict::{Bytes, NoMemory};
@@ -32,15 +33,11 @@ impl Whole {
         }
     }
 
-    /// The sums of an account.
-    pub(crate) fn get(&self, account: &Account) -> Totals
-        ensures { (n : ℕ) →
-            sum_in result n ≡ sums_at (by_account self.now.entries account.now) n }
+    /// What is kept of an account, if anything is.
+    pub(crate) fn kept(&self, account: &Account) -> Option<&Kept>
+        ensures { option_copied result ≡ by_account self.now.entries account.now }
     {
-        match self.entries.get(account) {
-            Some(kept) => kept.totals(),
-            None => Totals::zero(),
-        }
+        self.entries.get(account)
     }
 
     /// The entries, in the order of their accounts.

@@ -153,10 +153,6 @@ pub none_touched : (sums : Sums) → IsLeastTouched sums [] None
 unfolding is_touched
 none_touched sums = λ account one. absurd (cc one)
 
--- an account is broken or not by equal sums
-pub broken_as : (account : Account) {f g : ℕ → ℕ} {b : Bool} → ((n : ℕ) → f n ≡ g n) → is_broken account f ≡ b → is_broken account g ≡ b
-broken_as account same is = ap (is_broken account) (fun_ext (λ n. sym (same n))) ∙ is
-
 next_list : (earlier ps : List Posting) (i : ℕ) (d p : Posting) → i < length ps → p ≡ get_or ps i d → (earlier ++ take i ps) ++ p ∷ [] ≡ earlier ++ take (i + 1) ps
 next_list earlier ps i d p inside item =
     append_assoc earlier (take i ps) (p ∷ [])

@@ -8,7 +8,7 @@ ghost use Rattle.touched_accounts.specs.Least.{IsLeastTouched, stands_before};
 ghost use Rattle.touched_accounts.specs.Looks.{HaveLooks, counted_times};
 ghost use Rattle.touched_accounts.specs.Sums.{less_all, with_all};
 
-use accounts::{Account, Postings, broken};
+use accounts::{Account, Postings};
 use ledger_index::LedgerIndex;
 use recon_disk::Steps;
 use verdict::NoMemory;
@@ -83,8 +83,7 @@ fn judge_more<'a, L>(
     for posting in postings.as_slice() {
         let account = &posting.account;
         if stands_before(account, found) {
-            let totals = ledger.get(account, steps);
-            if broken(account, &totals) {
+            if ledger.breaks(account, steps) {
                 found = Some(account);
             }
         }

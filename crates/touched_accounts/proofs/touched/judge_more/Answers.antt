@@ -3,9 +3,9 @@ use Rattle.std.specs.Option.{option_copied}
 use Rattle.std.proofs.lemmas.List.{take_all}
 use Rattle.ledger_index.specs.Ledger.{sums_of}
 use Rattle.touched_accounts.specs.Least.{IsLeastTouched}
-use Rattle.touched_accounts.proofs.LeastTouched.{before_next, behind_next, broken_as, unbroken_next}
+use Rattle.touched_accounts.proofs.LeastTouched.{before_next, behind_next, unbroken_next}
 use Rattle.touched_accounts.proofs.touched.judge_more.Goals as goal
-use Rattle.touched_accounts.proofs.touched.judge_more.Goals.{then-stands_before+then-broken, then-stands_before+else-broken, else-stands_before}
+use Rattle.touched_accounts.proofs.touched.judge_more.Goals.{then-stands_before+then-breaks, then-stands_before+else-breaks, else-stands_before}
 
 pub loop-posting-preserved : goal.loop-posting-preserved
 loop-posting-preserved g c =
@@ -15,20 +15,20 @@ loop-posting-preserved g c =
     let p = c.posting-item.result in
     let so = c.loop-posting.invariant.least in
     elim c.if-stands_before.branch [
-      | then-stands_before+then-broken w ↦ record {
+      | then-stands_before+then-breaks w ↦ record {
         least = λ earlier first.
             subst (λ o. IsLeastTouched sums (earlier ++ take (i + 1) ps) (option_copied o)) (sym w.found-is)
             (before_next sums earlier ps i p p (option_copied c.loop-posting.found) c.loop-posting-test.true c.posting-item.is
             (sym c.stands_before.ensures ∙ w.if-stands_before.true)
-            (broken_as p.account w.get-totals.ensures.sums (sym w.broken.ensures ∙ w.if-broken.true)) (so earlier first));
-        looks = omega (arith, w.get-totals.ensures.looks, w.steps-is, c.loop-posting.invariant.looks);
+            (sym w.breaks.ensures.broken ∙ w.if-breaks.true) (so earlier first));
+        looks = omega (arith, w.breaks.ensures.looks, w.steps-is, c.loop-posting.invariant.looks);
       }
-      | then-stands_before+else-broken w ↦ record {
+      | then-stands_before+else-breaks w ↦ record {
         least = λ earlier first.
             subst (λ o. IsLeastTouched sums (earlier ++ take (i + 1) ps) (option_copied o)) (sym w.found-is)
             (unbroken_next sums earlier ps i p p (option_copied c.loop-posting.found) c.loop-posting-test.true c.posting-item.is
-            (broken_as p.account w.get-totals.ensures.sums (sym w.broken.ensures ∙ w.if-broken.false)) (so earlier first));
-        looks = omega (arith, w.get-totals.ensures.looks, w.steps-is, c.loop-posting.invariant.looks);
+            (sym w.breaks.ensures.broken ∙ w.if-breaks.false) (so earlier first));
+        looks = omega (arith, w.breaks.ensures.looks, w.steps-is, c.loop-posting.invariant.looks);
       }
       | else-stands_before w ↦ record {
         least = λ earlier first.
