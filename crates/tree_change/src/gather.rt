@@ -10,7 +10,10 @@ use records::{BlockAt, ItemAt, RecAt, Record, Taker};
 use std::alloc::Global;
 use verdict::NoMemory;
 
-// For how many items room is made where a block is taken, so that those of a leaf seldom move. Nothing rests on it.
+// For how many items room is made where the first block is taken, and where another is, so that those of some leaves seldom move.
+// Nothing rests on it.
+const FIRST_ITEMS: usize = 512;
+
 const ITEMS: usize = 128;
 
 /// The blocks and the items of walks, in their order.
@@ -66,7 +69,12 @@ impl Taker for Gathered {
     fn take(&mut self, one: &Record<'_>) -> Result<(), NoMemory> {
         match one {
             Record::Block(block) => {
-                if self.blocks.push(*block).is_err() || self.items.reserve(ITEMS).is_err() {
+                let room = if self.blocks.is_empty() {
+                    FIRST_ITEMS
+                } else {
+                    ITEMS
+                };
+                if self.blocks.push(*block).is_err() || self.items.reserve(room).is_err() {
                     return Err(NoMemory);
                 }
                 Ok(())
