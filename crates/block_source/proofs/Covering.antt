@@ -64,3 +64,9 @@ pub covered_range : (m : FinMap nat_cmp ℕ) (image xs : List ℕ) (at : ℕ) �
 covered_range m image xs at all inside =
     same_laid m at xs (range at (length xs) image) (length-range image at (length xs) inside) all
     ∙ sym (range-overlaid_image m image at (length xs))
+
+-- what waits, where it is the same over any bytes, is the range of an image with it laid over
+pub lent_range : (m : FinMap nat_cmp ℕ) (image lent : List ℕ) (at n : ℕ) → ((under : List ℕ) → length under ≡ n → overlaid m at under ≡ lent) → at + n ≤ length image
+    → range at n (overlaid m 0 image) ≡ lent
+lent_range m image lent at n each inside =
+    range-overlaid_image m image at n ∙ each (range at n image) (length-range image at n inside)

@@ -11,8 +11,7 @@ ghost use Rattle.node_reader.specs.Stored.{block_in, bytes_at, found_by, least_d
 ghost use Rattle.node_reader.specs.Layout.{level_of};
 ghost use Rattle.block_source.specs.Counts.{after_block, after_copies, after_copy, cover};
 ghost use Rattle.block_source.specs.Gives.{Gives, is_disk_fault, is_disk_halt};
-ghost use Rattle.block_source.specs.Takes.{leaving};
-ghost use Rattle.block_source.specs.Private.{FitsIn};
+ghost use Rattle.block_source.specs.Private.{FitsIn, lending};
 
 use crate::Fault;
 use crate::halt::Halt;
@@ -65,31 +64,35 @@ fn is_covered(cache: &WriteCache, at: u64, len: u64) -> bool
     cache.covers(at, len)
 }
 
-// Reads a copy of a block, of a tree block's size. Where the waiting writes cover it, all its bytes are theirs, and the disk is
-// not read.
-#[tactic(auto, using(crate::proofs::Covering::covered_range))]
-fn read_copy<D: Disk>(
+// The bytes of a copy of a block, of a tree block's size: lent where one run of the waiting writes has them all, else in the
+// buffer. Where the waiting writes cover the copy, all its bytes are theirs, and the disk is not read.
+#[tactic(auto, using(crate::proofs::Covering::covered_range, crate::proofs::Covering::lent_range))]
+fn read_copy<'a, 's: 'a, D: Disk>(
     disk: &mut D,
-    source: &BlockSource<'_>,
+    source: &BlockSource<'s>,
     at: u64,
-    into: &mut [u8],
-) -> Result<(), Halt>
+    into: &'a mut [u8],
+) -> Result<&'a [u8], Halt>
     requires size { is_node_size (length into.old) ≡ true }
     requires inside { at + length into.old ≤ source.now.end }
     requires end { source.now.end ≡ D.len disk.old }
-    ensures gives { Gives D.Disk disk.old source.now.cache.now (leaving result into.new)
+    ensures gives { Gives D.Disk disk.old source.now.cache.now (lending result)
         (λ image. Ok (range at (length into.old) image)) }
+    ensures whole { IfOk result (λ bytes. length bytes.now ≡ length into.old) }
     ensures reads { let n = length into.old in
         D.reads disk.new ≡ after_copy source.now.cache.now n at (D.reads disk.old) }
     ensures kept { Kept D.Disk disk.old disk.new (is_disk_halt result) }
 {
     let _end = source.end;
     if is_covered(source.cache, at, into.len() as u64) {
+        if let Some(lent) = source.cache.lend(at, into.len()) {
+            return Ok(lent);
+        }
         source.cache.overlay(at, into);
-        return Ok(());
+        return Ok(into);
     }
     read_under(disk, source.cache, at, into)?;
-    Ok(())
+    Ok(into)
 }
 
 // The least place at which the second of two lists of bytes of one length differs from the first. They are compared in lanes.
@@ -101,21 +104,22 @@ fn first_difference(first: &[u8], second: &[u8]) -> Option<usize>
     recon_lanes::first_difference(first, second)
 }
 
-// Reads the first copy of a block, or gives the finding that it has none, or that a second copy differs from it.
-fn read_copies<D: Disk>(
+// The bytes of the first copy of a block, or the finding that it has none, or that a second copy differs from it.
+fn read_copies<'a, 's: 'a, D: Disk>(
     disk: &mut D,
-    source: &BlockSource<'_>,
+    source: &BlockSource<'s>,
     e: &Expect,
     place: Place,
-    first: &mut [u8],
+    first: &'a mut [u8],
     second: &mut [u8],
-) -> Result<(), Halt>
+) -> Result<&'a [u8], Halt>
     requires size { is_node_size (length first.old) ≡ true }
     requires same { length second.old ≡ length first.old }
     requires fits { FitsIn (length first.old) source.now.end place }
     requires end { source.now.end ≡ D.len disk.old }
-    ensures gives { Gives D.Disk disk.old source.now.cache.now (leaving result first.new)
+    ensures gives { Gives D.Disk disk.old source.now.cache.now (lending result)
         (λ image. found_by e.now (bytes_at (length first.old) image place)) }
+    ensures whole { IfOk result (λ bytes. length bytes.now ≡ length first.old) }
     ensures reads { let n = length first.old in OnOk result (D.reads disk.new ≡
         after_copies source.now.cache.now n place (D.reads disk.old)) }
     ensures kept { Kept D.Disk disk.old disk.new (is_disk_halt result) }
@@ -124,32 +128,33 @@ fn read_copies<D: Disk>(
         Place::Nowhere => Err(Halt::Found(e.finding(Family::N, 1, 0))),
         Place::One(at) => read_copy(disk, source, at, first),
         Place::Two(at, other) => {
-            read_copy(disk, source, at, first)?;
-            read_copy(disk, source, other, second)?;
+            let first = read_copy(disk, source, at, first)?;
+            let second = read_copy(disk, source, other, second)?;
             match first_difference(first, second) {
-                None => Ok(()),
+                None => Ok(first),
                 Some(place) => Err(Halt::Found(e.finding(Family::N, 2, place as u64))),
             }
         }
     }
 }
 
-// Reads the bytes of the block that is expected, or gives the finding: its address is no multiple of 4096 or has no
-// place (N1), or its two copies differ (N2).
+// The bytes of the block that is expected, or the finding: its address is no multiple of 4096 or has no place (N1), or
+// its two copies differ (N2).
 #[tactic(auto, using(crate::proofs::Copies::block_steps))]
-fn read_bytes<D: Disk>(
+fn read_bytes<'a, 's: 'a, D: Disk>(
     disk: &mut D,
-    source: &BlockSource<'_>,
+    source: &BlockSource<'s>,
     e: &Expect,
-    first: &mut [u8],
+    first: &'a mut [u8],
     second: &mut [u8],
-) -> Result<(), Halt>
+) -> Result<&'a [u8], Halt>
     requires size { is_node_size (length first.old) ≡ true }
     requires same { length second.old ≡ length first.old }
     requires end { source.now.end ≡ D.len disk.old }
-    ensures gives { Gives D.Disk disk.old source.now.cache.now (leaving result first.new)
+    ensures gives { Gives D.Disk disk.old source.now.cache.now (lending result)
         (λ image. found_by e.now
         (stored_in image source.now.map.now (length first.old) e.now.address)) }
+    ensures whole { IfOk result (λ bytes. length bytes.now ≡ length first.old) }
     ensures reads { let n = length first.old in OnOk result (D.reads disk.new ≡
         after_copies source.now.cache.now n
         (place source.now.map.now e.now.address n source.now.end) (D.reads disk.old)) }
@@ -162,13 +167,14 @@ fn read_bytes<D: Disk>(
     read_copies(disk, source, e, place, first, second)
 }
 
-/// Reads the block that is expected into a buffer of a tree block's size, and lends it there. The second buffer is for
-/// its second copy. A finding is that of the copies (N1, N2), else that of the rules of a block. An
-/// Ok has read the disk once for each copy that the waiting writes do not cover.
+/// Reads the block that is expected, and lends it: from the waiting writes where one run of them has the whole copy, else
+/// from the first buffer, of a tree block's size, into which it is read. The second buffer is for its second copy. A
+/// finding is that of the copies (N1, N2), else that of the rules of a block. An Ok has read the disk once for each copy
+/// that the waiting writes do not cover.
 #[tactic(auto, unfolding(node_reader::specs::Stored::block_in))]
-pub fn read_block<'a, D: Disk>(
+pub fn read_block<'a, 's: 'a, D: Disk>(
     disk: &mut D,
-    source: &BlockSource<'_>,
+    source: &BlockSource<'s>,
     e: &Expect,
     first: &'a mut [u8],
     second: &mut [u8],
@@ -185,8 +191,8 @@ pub fn read_block<'a, D: Disk>(
         after_block source.now e.now.address (D.reads disk.old)) }
     ensures kept { Kept D.Disk disk.old disk.new (is_disk_halt result) }
 {
-    read_bytes(disk, source, e, first, second)?;
-    let sum = folded_sum(&first[0x20..]);
-    let block = read_block_summed(first, &source.sup.fsid, e, sum)?;
+    let bytes = read_bytes(disk, source, e, first, second)?;
+    let sum = folded_sum(&bytes[0x20..]);
+    let block = read_block_summed(bytes, &source.sup.fsid, e, sum)?;
     Ok(block)
 }

@@ -214,3 +214,51 @@ fn what_waits_is_read_by_ranges(rt: HostRuntime) -> Result<(), NoMemory> {
     assert_eq!(rt; short, [2, 8, 9]);
     Ok(())
 }
+
+#[test]
+fn a_range_in_one_run_is_lent(rt: HostRuntime) -> Result<(), NoMemory> {
+    // The last of these writes ends the first run, and goes on over the start of the second: the two touch.
+    let puts: &[Part] = &[
+        (10, &[1, 2]),
+        (14, &[5, 6, 7]),
+        (12, &[3, 4, 9]),
+        (20, &[8]),
+    ];
+    let mut cache = put_all(&rt, rt.alloc(), puts, true)?;
+    cache.put(u64::MAX - 2, &[5, 6])?;
+    let rows: [(u64, usize, Option<&[u8]>); 19] = [
+        (10, 4, Some(&[1, 2, 3, 4])),
+        (10, 1, Some(&[1])),
+        (11, 2, Some(&[2, 3])),
+        (14, 3, Some(&[9, 6, 7])),
+        (16, 1, Some(&[7])),
+        (20, 1, Some(&[8])),
+        (u64::MAX - 2, 2, Some(&[5, 6])),
+        // No bytes, in a run and away from all.
+        (12, 0, Some(&[])),
+        (5, 0, None),
+        (50, 0, None),
+        // Begun outside, ended outside, and both.
+        (9, 2, None),
+        (16, 2, None),
+        (0, 30, None),
+        (18, 1, None),
+        (u64::MAX - 1, 2, None),
+        (u64::MAX, usize::MAX, None),
+        // In no gap, but over the two runs that touch.
+        (10, 7, None),
+        (13, 2, None),
+        (10, 5, None),
+    ];
+    for (at, len, wanted) in rows {
+        assert_eq!(rt; cache.lend(at, len), wanted, "{len} bytes at {at}");
+    }
+    cache.join();
+    if cache.pieces().is_none() {
+        return Err(NoMemory);
+    }
+    assert_eq!(rt; cache.lend(10, 7), Some([1, 2, 3, 4, 9, 6, 7].as_slice()));
+    assert_eq!(rt; cache.lend(13, 2), Some([4, 9].as_slice()));
+    assert_eq!(rt; cache.lend(13, 5), None);
+    Ok(())
+}

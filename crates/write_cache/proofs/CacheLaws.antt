@@ -92,7 +92,7 @@ get-overlaid m at (x ∷ xs) (suc i) h =
     get-overlaid m (at + 1) xs i (omega arith) ∙ ap (λ q. unwrap_or (get m q) (get_or xs i 0)) (omega arith)
 
 -- two buffers of one length that agree at each place are one
-same_bytes : (xs ys : List ℕ) → length xs ≡ length ys → ((i : ℕ) → i < length xs → get_or xs i 0 ≡ get_or ys i 0) → xs ≡ ys
+pub same_bytes : (xs ys : List ℕ) → length xs ≡ length ys → ((i : ℕ) → i < length xs → get_or xs i 0 ≡ get_or ys i 0) → xs ≡ ys
 same_bytes xs ys = ext_get_or 0 xs ys
 
 pub overlaid-empty : (at : ℕ) (xs : List ℕ) → overlaid empty at xs ≡ xs

@@ -1,8 +1,9 @@
 -- The runs of an ordered map, by the offset where each begins, and the map that they make.
-use Rattle.std.proofs.Common.{subst, ◌≡◌, ℕ, ◌+◌, ◌-◌, ◌<◌, ◌≤◌, ◌≢◌, ◌⊎◌, inl, inr, Bool, true, false, cond, not, ◌&&◌, List, [], ◌∷◌, ◌++◌, length, get_or, min, refl, sym, ap, ◌∙◌, arith}
+use Rattle.std.proofs.Common.{subst, ◌≡◌, ℕ, ◌+◌, ◌-◌, ◌<◌, ◌≤◌, ◌≢◌, ◌⊎◌, inl, inr, Bool, true, false, cond, not, ◌&&◌, List, [], ◌∷◌, ◌++◌, length, take, drop, get_or, min, refl, sym, ap, ◌∙◌, arith}
 use lib.Dec.{leb, ltb}
 use denote.Ref.{Bor}
 use Rattle.std.specs.Prelude.{Option, Some, None, IsSome, option_copied}
+use Rattle.std.specs.Option.{unwrap_or}
 use Rattle.std.specs.Ordering.{nat_cmp, is_gt, is_lt}
 use Rattle.std.specs.List.{filter}
 use Rattle.std.specs.Map.{lookup}
@@ -14,10 +15,11 @@ use Rattle.std.specs.declared.ops.Bound.TheVariants.{Included, Unbounded}
 use Rattle.std.proofs.lemmas.Bool.{cases_lt}
 use Rattle.std.proofs.lemmas.Bool.Decides.{nat_tests}
 use Rattle.std.proofs.lemmas.Map.Keys.{le_from_not_gt, ge_from_not_lt}
+use Rattle.verdict.specs.Image.{range}
 use Rattle.write_cache.specs.Cache.{with_bytes, overlaid}
 use Rattle.write_cache.specs.Pieces.{AreDisjoint, map_of}
 use Rattle.write_cache.specs.Runs.{pieces_of, EndBy, AreKept, run_at, NoneFrom, IsLast, NoneBehind, IsFirst}
-use Rattle.write_cache.proofs.CacheLaws.{eqb-same, eqb-other, get-with_bytes_in, get-with_bytes_behind, get-with_bytes_out, overlaid-with_bytes, overlaid-misses, overlaid-empty}
+use Rattle.write_cache.proofs.CacheLaws.{eqb-same, eqb-other, same_bytes, get-with_bytes_in, get-with_bytes_behind, get-with_bytes_out, length-range, get-range, length-overlaid, get-overlaid, overlaid-with_bytes, overlaid-misses, overlaid-empty}
 
 pub same_or_not : (a b : ℕ) → (a ≡ b) ⊎ (a ≢ b)
 same_or_not a b =
@@ -299,6 +301,20 @@ held_on runs begin at from to bytes kept last reach held i low high =
       | inl before ↦ held i low before
       | inr behind ↦ rw (get_in runs 0 kept.0 begin bytes i last.here (omega arith) (omega arith)) refl
     ]
+
+-- bytes of the last run that begins at an offset or before it, from that offset on, are what the map has there
+pub lent_bytes : (runs : List (ℕ × List ℕ)) (m : FinMap nat_cmp ℕ) (at begin from n : ℕ) (bytes behind lent under : List ℕ) → AreKept runs → map_of (pieces_of runs) ≡ m → IsLast runs at begin bytes → behind ≡ drop from bytes → lent ≡ take n behind → length lent ≡ n → from ≡ at - begin → length under ≡ n → overlaid m at under ≡ lent
+lent_bytes runs m at begin from n bytes behind lent under kept is last back front has place size =
+    let first : begin ≤ at = last.low in
+    let part : lent ≡ range from n bytes = front ∙ ap (take n) back in
+    let reach : length lent ≡ min n (length bytes - from) = ap length part ∙ length-range from n bytes in
+    same_bytes _ _ (length-overlaid m at under ∙ size ∙ sym has) (λ i h.
+    let j : i < length under = omega (arith, length-overlaid m at under) in
+    let k : i < n = omega arith in
+    get-overlaid m at under i j
+    ∙ ap (λ o. unwrap_or o (get_or under i 0)) (ap (λ x. get x (at + i)) (sym is) ∙ get_in runs 0 kept.0 begin bytes (at + i) last.here (omega arith) (omega arith))
+    ∙ ap (λ p. get_or bytes p 0) (omega arith)
+    ∙ sym (ap (λ bs. get_or bs i 0) part ∙ get-range from n bytes i k))
 
 -- to lay the last of some runs over a buffer, and then the others, is to lay all of them over
 pub over_last : (runs : List (ℕ × List ℕ)) (run : ℕ × List ℕ) (at : ℕ) (xs : List ℕ) → overlaid (map_of (pieces_of (runs ++ run ∷ []))) at xs ≡ overlaid (map_of (pieces_of runs)) at (overlaid (with_bytes empty run.0 run.1) at xs)

@@ -1,6 +1,6 @@
 //! The cache of the pending writes.
 
-ghost use Rattle.std.specs.Prelude.{◌≡◌, ℕ, ◌+◌, ◌≤◌, ◌<◌, ◌^◌, ◌↔◌, length, IfSome, OnOk, OnErr, IsTrue, IsSome};
+ghost use Rattle.std.specs.Prelude.{◌≡◌, ℕ, ◌+◌, ◌≤◌, ◌<◌, ◌^◌, ◌↔◌, List, length, IfSome, OnOk, OnErr, IsTrue, IsSome};
 ghost use Rattle.std.specs.FinMap as map;
 ghost use Rattle.write_cache.specs.Cache.{with_bytes, overlaid};
 ghost use Rattle.write_cache.specs.Lent.{pieces_left};
@@ -146,6 +146,20 @@ impl WriteCache {
             from = end;
         }
         true
+    }
+
+    /// The `len` bytes from the offset `at` on, lent, where one run of pending bytes has them all; `None`
+    /// where no one run has.
+    #[tactic(auto, using(crate::proofs::RunLaws::lent_bytes))]
+    pub fn lend(&self, at: u64, len: usize) -> Option<&[u8]>
+        ensures size { IfSome result (λ bytes. length bytes.now ≡ len) }
+        ensures lent { (under : List ℕ) → length under ≡ len
+            → IfSome result (λ bytes. overlaid self.now at under ≡ bytes.now) }
+    {
+        let (begin, bytes) = last_from(&self.runs, at)?;
+        let (_, behind) = bytes.split_at_checked((at - begin) as usize)?;
+        let (lent, _) = behind.split_at_checked(len)?;
+        Some(lent)
     }
 
     /// Lets go of all that waits.

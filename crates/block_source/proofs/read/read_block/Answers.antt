@@ -5,5 +5,5 @@ use Rattle.block_source.proofs.read.read_block.Goals as goal
 
 pub read_block_summed-requires-clause-sum : goal.read_block_summed-requires-clause-sum
 read_block_summed-requires-clause-sum g c =
-    let bytes = c.read_bytes.new.first in
+    let bytes = c.in_ok-bytes.bytes.now in
     c.folded_sum-sum.ensures ∙ ap crc32c_of (take_all (length bytes - 32) (drop 32 bytes) (omega (arith, length-drop 32 bytes)))
