@@ -132,3 +132,34 @@ fn finds_the_least_broken_account(rt: HostRuntime) -> Result<(), NoMemory> {
     assert!(rt; ledger.least_broken(&mut steps)? == Some(named(alloc, 4, 200)?));
     Ok(())
 }
+
+#[test]
+fn finds_accounts_among_many(rt: HostRuntime) -> Result<(), NoMemory> {
+    let alloc = rt.alloc();
+    let mut steps = Steps::seeded((), [9; 16]);
+    let mut ledger = LedgerIndex::new(alloc);
+    // Inodes whose numbers are 128 apart: so their accounts are in all parts of the table, four in each.
+    for i in 0..1024 {
+        let inode = Account::inode(alloc, 5, i * 128);
+        ledger.add(&inode, 0, 1, &mut steps)?;
+        ledger.add(&inode, 4, i + 1, &mut steps)?;
+        assert!(rt; !ledger.breaks(&inode, &mut steps));
+    }
+    assert!(rt; ledger.least_broken(&mut steps)?.is_none());
+    for i in [1000, 700, 3, 2, 0] {
+        let inode = Account::inode(alloc, 5, i * 128);
+        ledger.take(&inode, 4, i + 1, &mut steps);
+        assert!(rt; ledger.get(&inode, &mut steps) == two(1, 0));
+        assert!(rt; ledger.breaks(&inode, &mut steps));
+        assert!(rt; ledger.least_broken(&mut steps)? == Some(inode));
+    }
+    for i in 0..1024 {
+        let inode = Account::inode(alloc, 5, i * 128);
+        ledger.take(&inode, 0, 1, &mut steps);
+        ledger.take(&inode, 4, 1025, &mut steps);
+        assert!(rt; ledger.get(&inode, &mut steps) == two(0, 0));
+        assert!(rt; !ledger.breaks(&inode, &mut steps));
+    }
+    assert!(rt; ledger.least_broken(&mut steps)?.is_none());
+    Ok(())
+}
