@@ -214,14 +214,14 @@ impl Hash for Place {
 }
 
 // A kind, a sort and a tree in one number.
-pub(crate) fn head_of(kind: u8, sort: u8, tree: u32) -> u64
+fn head_of(kind: u8, sort: u8, tree: u32) -> u64
     ensures { result ≡ spec.head_of kind sort tree }
 {
     u64::from(kind) + 256 * u64::from(sort) + 65536 * u64::from(tree)
 }
 
 // A length of a tail, a kind, a sort and a tree in one number.
-fn named_head_of(length: u8, kind: u8, sort: u8, tree: u32) -> u64
+pub(crate) fn named_head_of(length: u8, kind: u8, sort: u8, tree: u32) -> u64
     ensures { result ≡ spec.named_head_of length kind sort tree }
 {
     head_of(kind, sort, tree) + 281474976710656 * u64::from(length)
