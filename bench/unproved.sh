@@ -4,6 +4,7 @@
 #
 # `rt try` lowers the whole program to one LLVM module with checks in it that stop it where its code would not be sound. It is taken here
 # before it is compiled. The checks and what they need are left out, and the kit's own compiler makes the program of the rest.
+# Hints on inlining have no effect there, so that a profile shows other functions than that of the program of the gate does.
 # Usage: bench/unproved.sh PROGRAM    It needs python3. PROGRAM is then given to the other benches: PROGRAM=... bench/commits.sh
 set -eu
 cd "$(dirname "$0")/.."
