@@ -1,6 +1,6 @@
 -- The judgement of a commit.
 use Rattle.std.proofs.Common.{◌≡◌, ℕ, ◌+◌, ◌*◌, ◌≤◌, List, length, refl, ap, sym, ◌∙◌, subst}
-use Rattle.std.specs.Prelude.{Option, Some, None, Result, Ok, Err, IfSome}
+use Rattle.std.specs.Prelude.{Option, Some, None, Result, Ok, Err, IfOk, IfSome}
 use Rattle.std.specs.List.{count_by}
 use Rattle.std.specs.Ordering.{nat_cmp}
 use Rattle.std.specs.FinMap.{FinMap}
@@ -65,6 +65,13 @@ found_by image finding is = rw is refl
 
 one_finding : {A : Type 0} (a b : Finding) → told {A = A} (Err (Found a)) ≡ Ok (Err b) → a ≡ b
 one_finding a b is = cc
+
+-- what holds of what a step gives, where it is told what that is
+pub given : {A : Type 0} (P : A → Type 0) (result : Result A Halt) (a : A) → told result ≡ Ok (Ok a) → IfOk result P → P a
+given P (Ok b) a is holds = let e : b ≡ a = cc in subst P e holds
+given P (Err (Found finding)) a is holds = absurd (cc)
+given P (Err Disk) a is holds = absurd (cc)
+given P (Err NoMemory) a is holds = absurd (cc)
 
 -- a finding of what the judged image holds rejects the commit
 pub refused : {L : Type 0} (bytes : Option (List ℕ)) (pending : FinMap nat_cmp ℕ) (old new : Index L) (before after : ℕ) (result : Result Judged Halt)
