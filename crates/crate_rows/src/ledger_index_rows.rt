@@ -138,8 +138,8 @@ fn finds_accounts_among_many(rt: HostRuntime) -> Result<(), NoMemory> {
     let alloc = rt.alloc();
     let mut steps = Steps::seeded((), [9; 16]);
     let mut ledger = LedgerIndex::new(alloc);
-    // Inodes whose numbers are 128 apart: so their accounts are in all parts of the table, four in each.
-    for i in 0..1024 {
+    // Inodes whose numbers are 128 apart: so their accounts are in all parts of the table, two in each.
+    for i in 0..2048 {
         let inode = Account::inode(alloc, 5, i * 128);
         ledger.add(&inode, 0, 1, &mut steps)?;
         ledger.add(&inode, 4, i + 1, &mut steps)?;
@@ -153,10 +153,10 @@ fn finds_accounts_among_many(rt: HostRuntime) -> Result<(), NoMemory> {
         assert!(rt; ledger.breaks(&inode, &mut steps));
         assert!(rt; ledger.least_broken(&mut steps)? == Some(inode));
     }
-    for i in 0..1024 {
+    for i in 0..2048 {
         let inode = Account::inode(alloc, 5, i * 128);
         ledger.take(&inode, 0, 1, &mut steps);
-        ledger.take(&inode, 4, 1025, &mut steps);
+        ledger.take(&inode, 4, 2049, &mut steps);
         assert!(rt; ledger.get(&inode, &mut steps) == two(0, 0));
         assert!(rt; !ledger.breaks(&inode, &mut steps));
     }

@@ -82,7 +82,7 @@ place_fed (Named length kind sort tree objectid offset detail tail) =
 
 -- the number of the part of a table that has the entries of an inode with this number, or of an address; those of 256 in a row are in one
 abbrev pub part_at : ℕ → ℕ
-part_at number = (number / 256) % 256
+part_at number = (number / 256) % 1024
 
 abbrev pub part_of : Place → ℕ
 part_of (Plain kind sort tree block objectid offset) = part_at (if block == 0 then objectid else block)

@@ -13,8 +13,8 @@ ghost use Rattle.ledger_index.specs.Sums.{changed, greatest, lower, raise};
 ghost use Rattle.ledger_index.specs.declared.kept.Kept.{Kept as AKept};
 ghost use Rattle.ledger_index.specs.declared.long_place.LongPlace.{LongPlace as ALongPlace};
 ghost use Rattle.ledger_index.specs.declared.place.Place.{Place as APlace};
-ghost use Rattle.ledger_index.specs.Entries.{Within, by_key, count_in, entries_in};
-ghost use Rattle.ledger_index.specs.Judged.{IsLeastBut, is_later, lesser_of};
+ghost use Rattle.ledger_index.specs.Entries.{Within, by_key, count_in};
+ghost use Rattle.ledger_index.specs.Judged.{IsLeastBut, is_later, left_long, left_short, lesser_of};
 ghost use Rattle.ledger_index.specs.Ledger.{entry_of, long_in, short_in};
 ghost use Rattle.ledger_index.specs.LongPlace.{is_same_long};
 ghost use Rattle.ledger_index.specs.Place.{is_same_place, place_of};
@@ -249,7 +249,7 @@ impl<L> LedgerIndex<L> {
     // The least broken one of the accounts with short places.
     fn least_short(&self, steps: &mut Steps<L>) -> Result<Option<Account>, NoMemory>
         ensures least { IfOk result (IsLeastBut (sums_of self.now)
-            (is_later [] (entries_in self.now.long.parts.items) self.now.whole.entries.entries)) }
+            (left_short self.now [])) }
         ensures looks { steps.new ≤ steps.old + count_in self.now.short.parts.items }
     {
         let mut least = None;
@@ -267,10 +267,9 @@ impl<L> LedgerIndex<L> {
         steps: &mut Steps<L>,
     ) -> Result<Option<Account>, NoMemory>
         requires within { Within (by_key is_same_place part.now) (short_in self.now) }
-        ensures least { (rest : List (APlace × AKept)) → IsLeastBut (sums_of self.now)
-            (is_later (part.now.entries ++ rest) (entries_in self.now.long.parts.items) self.now.whole.entries.entries) first →
-            IfOk result (IsLeastBut (sums_of self.now)
-            (is_later rest (entries_in self.now.long.parts.items) self.now.whole.entries.entries)) }
+        ensures least { (rest : List (APlace × AKept)) →
+            IsLeastBut (sums_of self.now) (left_short self.now (part.now.entries ++ rest)) first →
+            IfOk result (IsLeastBut (sums_of self.now) (left_short self.now rest)) }
         ensures looks { steps.new ≤ steps.old + index_map_len part.now }
     {
         let mut stand_in = stand_in(self.alloc);
@@ -290,10 +289,8 @@ impl<L> LedgerIndex<L> {
         first: Option<Account>,
         steps: &mut Steps<L>,
     ) -> Result<Option<Account>, NoMemory>
-        ensures least { IsLeastBut (sums_of self.now)
-            (is_later [] (entries_in self.now.long.parts.items) self.now.whole.entries.entries) first →
-            IfOk result (IsLeastBut (sums_of self.now)
-            (is_later [] [] self.now.whole.entries.entries)) }
+        ensures least { IsLeastBut (sums_of self.now) (left_short self.now []) first →
+            IfOk result (IsLeastBut (sums_of self.now) (left_long self.now [])) }
         ensures looks { steps.new ≤ steps.old + count_in self.now.long.parts.items }
     {
         let mut least = first;
@@ -311,10 +308,9 @@ impl<L> LedgerIndex<L> {
         steps: &mut Steps<L>,
     ) -> Result<Option<Account>, NoMemory>
         requires within { Within (by_key is_same_long part.now) (long_in self.now) }
-        ensures least { (rest : List (ALongPlace × AKept)) → IsLeastBut (sums_of self.now)
-            (is_later [] (part.now.entries ++ rest) self.now.whole.entries.entries) first →
-            IfOk result (IsLeastBut (sums_of self.now)
-            (is_later [] rest self.now.whole.entries.entries)) }
+        ensures least { (rest : List (ALongPlace × AKept)) →
+            IsLeastBut (sums_of self.now) (left_long self.now (part.now.entries ++ rest)) first →
+            IfOk result (IsLeastBut (sums_of self.now) (left_long self.now rest)) }
         ensures looks { steps.new ≤ steps.old + index_map_len part.now }
     {
         let mut stand_in = stand_in(self.alloc);
@@ -334,8 +330,7 @@ impl<L> LedgerIndex<L> {
         first: Option<Account>,
         steps: &mut Steps<L>,
     ) -> Result<Option<Account>, NoMemory>
-        ensures least { IsLeastBut (sums_of self.now)
-            (is_later [] [] self.now.whole.entries.entries) first →
+        ensures least { IsLeastBut (sums_of self.now) (left_long self.now []) first →
             IfOk result (IsLeastBut (sums_of self.now) (is_later [] [] [])) }
         ensures looks { steps.new ≤ steps.old + btree_map_len self.now.whole.entries }
     {

@@ -26,7 +26,7 @@ pub(crate) trait Exact: Eq + Hash + Copy {
     /// A number that keys seldom have in common. It costs less than a hash, and nothing rests on it.
     fn mixed(&self) -> u64;
 
-    /// The number of the part of a table that has the key's entry, below 256.
+    /// The number of the part of a table that has the key's entry, below 1,024.
     fn part(&self) -> usize
         ensures { result ≡ part_of self.now };
 
@@ -42,7 +42,6 @@ pub(crate) fn kept_at<'a, K: Exact>(
     requires { StandsAt K.eq part.now at key.now }
     ensures { option_copied result ≡ by_key K.eq part.now key.now }
 {
-    let _key = key;
     let (_, kept) = part.get_index(at)?;
     Some(kept)
 }
@@ -87,7 +86,6 @@ pub(crate) fn add_at<K: Exact>(
     ensures tidy { AreTidy (by_key K.eq part.old) → AreTidy (by_key K.eq part.new) }
     ensures few { index_map_len part.new ≤ index_map_len part.old + 1 }
 {
-    let _key = key;
     let kept = part.get_index_mut(at).unwrap();
     kept.raise(alloc, field, amount)
 }
@@ -143,10 +141,10 @@ pub(crate) fn take_at<K: Exact>(
 )
     requires there { StandsAt K.eq part.old at key.now }
     requires named { field < 9 }
-    ensures changes { Changes K.eq lower (by_key K.eq part.old) (by_key K.eq part.new) key.now field amount }
+    ensures changes { Changes K.eq lower (by_key K.eq part.old) (by_key K.eq part.new)
+        key.now field amount }
     ensures tidy { AreTidy (by_key K.eq part.old) → AreTidy (by_key K.eq part.new) }
 {
-    let _key = key;
     let kept = part.get_index_mut(at).unwrap();
     kept.lower(field, amount);
     if kept.is_zero() {

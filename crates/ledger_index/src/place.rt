@@ -143,12 +143,12 @@ impl Exact for Place {
     }
 }
 
-/// The number of the part of a table that has the entries of an inode with this number, or of an address, below 256. Those of 256
+/// The number of the part of a table that has the entries of an inode with this number, or of an address, below 1,024. Those of 256
 /// numbers in a row are in one part.
 pub(crate) fn part_at(number: u64) -> usize
     ensures { result ≡ spec.part_at number }
 {
-    (number / 256 % 256) as usize
+    (number / 256 % 1024) as usize
 }
 
 /// The part for the place of an account, without the place.

@@ -20,7 +20,7 @@ use verdict::NoMemory;
 const SLOTS: usize = 4096;
 
 // How many parts there are.
-const PARTS: usize = 256;
+const PARTS: usize = 1024;
 
 // Where an entry stood that was last found in its part, and some bits of the number of its key.
 #[derive(Clone, Copy)]
@@ -53,8 +53,8 @@ impl<K: Exact> Table<K> {
 
     /// Has parts, whose accounts are found by a hash with this seed, from now on.
     pub(crate) fn seed(&mut self, alloc: Global, seed: &[u8; 16]) -> Result<(), NoMemory>
-        ensures same { (key : K) →
-            by_parts K.eq K.part_of self.new.parts.items key ≡ by_parts K.eq K.part_of self.old.parts.items key }
+        ensures same { (key : K) → by_parts K.eq K.part_of self.new.parts.items key
+            ≡ by_parts K.eq K.part_of self.old.parts.items key }
         ensures count { count_in self.new.parts.items ≡ count_in self.old.parts.items }
     {
         if self.parts.is_empty() {
@@ -96,8 +96,8 @@ impl<K: Exact> Table<K> {
             (by_parts K.eq K.part_of self.new.parts.items) key.now field amount) }
         ensures full { IfOk result (λ full. full ≡ false →
             sums_at (by_parts K.eq K.part_of self.new.parts.items key.now) field < greatest) }
-        ensures err { OnErr result
-            (Stays (by_parts K.eq K.part_of self.old.parts.items) (by_parts K.eq K.part_of self.new.parts.items)) }
+        ensures err { OnErr result (Stays (by_parts K.eq K.part_of self.old.parts.items)
+            (by_parts K.eq K.part_of self.new.parts.items)) }
         ensures few { count_in self.new.parts.items ≤ count_in self.old.parts.items + 1 }
     {
         let mixed = key.mixed();
@@ -125,8 +125,8 @@ impl<K: Exact> Table<K> {
             (by_parts K.eq K.part_of self.new.parts.items) key.now field amount) }
         ensures full { IfOk result (λ full. full ≡ false →
             sums_at (by_parts K.eq K.part_of self.new.parts.items key.now) field < greatest) }
-        ensures err { OnErr result
-            (Stays (by_parts K.eq K.part_of self.old.parts.items) (by_parts K.eq K.part_of self.new.parts.items)) }
+        ensures err { OnErr result (Stays (by_parts K.eq K.part_of self.old.parts.items)
+            (by_parts K.eq K.part_of self.new.parts.items)) }
         ensures few { count_in self.new.parts.items ≤ count_in self.old.parts.items + 1 }
     {
         match self.parts.get_mut(number) {
@@ -151,8 +151,8 @@ impl<K: Exact> Table<K> {
             (by_parts K.eq K.part_of self.new.parts.items) key.now field amount) }
         ensures full { IfOk result (λ full. full ≡ false →
             sums_at (by_parts K.eq K.part_of self.new.parts.items key.now) field < greatest) }
-        ensures err { OnErr result
-            (Stays (by_parts K.eq K.part_of self.old.parts.items) (by_parts K.eq K.part_of self.new.parts.items)) }
+        ensures err { OnErr result (Stays (by_parts K.eq K.part_of self.old.parts.items)
+            (by_parts K.eq K.part_of self.new.parts.items)) }
         ensures few { count_in self.new.parts.items ≤ count_in self.old.parts.items + 1 }
     {
         match self.parts.get_mut(key.part()) {
@@ -184,8 +184,10 @@ impl<K: Exact> Table<K> {
     // Where the entry of an account stands in its part, or `None` where it has none.
     fn index_of(&mut self, key: &K) -> Option<usize>
         ensures parts { self.new.parts ≡ self.old.parts }
-        ensures found { IfSome result (λ i. StandsIn K.eq K.part_of self.old.parts.items i key.now) }
-        ensures none { result ≡ None → by_parts K.eq K.part_of self.old.parts.items key.now ≡ None }
+        ensures found { IfSome result
+            (λ i. StandsIn K.eq K.part_of self.old.parts.items i key.now) }
+        ensures none { result ≡ None →
+            by_parts K.eq K.part_of self.old.parts.items key.now ≡ None }
     {
         let mixed = key.mixed();
         if let Some(at) = self.hinted(key, mixed) {
@@ -261,7 +263,8 @@ fn put_part<K: Exact>(
     parts: &mut Vec<IndexMap<K, Kept, Seeded>>,
     part: IndexMap<K, Kept, Seeded>,
 ) -> Result<(), NoMemory>
-    ensures { part.entries ≡ [] → AreEmpty parts.old.items → OnOk result (AreEmpty parts.new.items) }
+    ensures { part.entries ≡ [] → AreEmpty parts.old.items →
+        OnOk result (AreEmpty parts.new.items) }
 {
     match parts.push(part) {
         Ok(()) => Ok(()),

@@ -82,10 +82,8 @@ fn judge_more<'a, L>(
     let mut found = least;
     for posting in postings.as_slice() {
         let account = &posting.account;
-        if stands_before(account, found) {
-            if ledger.breaks(account, steps) {
-                found = Some(account);
-            }
+        if stands_before(account, found) && ledger.breaks(account, steps) {
+            found = Some(account);
         }
     }
     found

@@ -84,5 +84,6 @@ pub mod TreeSums
 pub mod ArrayFew
 pub mod MovedSums
 pub mod MovesFew
+pub mod FewSums
 pub mod AllFew
 pub mod DifferenceFew

@@ -5,7 +5,7 @@ use Rattle.ledger_index.specs.Ledger.{sums_of}
 use Rattle.touched_accounts.specs.Least.{IsLeastTouched}
 use Rattle.touched_accounts.proofs.LeastTouched.{before_next, behind_next, unbroken_next}
 use Rattle.touched_accounts.proofs.touched.judge_more.Goals as goal
-use Rattle.touched_accounts.proofs.touched.judge_more.Goals.{then-stands_before+then-breaks, then-stands_before+else-breaks, else-stands_before}
+use Rattle.touched_accounts.proofs.touched.judge_more.Goals.{then-stands_before+then-breaks, else-stands_before, else-stands_before-via-then-stands_before+else-breaks, else-stands_before-via-else-stands_before}
 
 pub loop-posting-preserved : goal.loop-posting-preserved
 loop-posting-preserved g c =
@@ -23,20 +23,22 @@ loop-posting-preserved g c =
             (sym w.breaks.ensures.broken ∙ w.if-breaks.true) (so earlier first));
         looks = omega (arith, w.breaks.ensures.looks, w.steps-is, c.loop-posting.invariant.looks);
       }
-      | then-stands_before+else-breaks w ↦ record {
-        least = λ earlier first.
-            subst (λ o. IsLeastTouched sums (earlier ++ take (i + 1) ps) (option_copied o)) (sym w.found-is)
-            (unbroken_next sums earlier ps i p p (option_copied c.loop-posting.found) c.loop-posting-test.true c.posting-item.is
-            (sym w.breaks.ensures.broken ∙ w.if-breaks.false) (so earlier first));
-        looks = omega (arith, w.breaks.ensures.looks, w.steps-is, c.loop-posting.invariant.looks);
-      }
-      | else-stands_before w ↦ record {
-        least = λ earlier first.
-            subst (λ o. IsLeastTouched sums (earlier ++ take (i + 1) ps) (option_copied o)) (sym w.found-is)
-            (behind_next sums earlier ps i p p (option_copied c.loop-posting.found) c.loop-posting-test.true c.posting-item.is
-            (sym c.stands_before.ensures ∙ w.if-stands_before.false) (so earlier first));
-        looks = omega (arith, w.steps-is, c.loop-posting.invariant.looks);
-      }
+      | else-stands_before w ↦ elim w.else-stands_before.branch [
+        | else-stands_before-via-then-stands_before+else-breaks v ↦ record {
+          least = λ earlier first.
+              subst (λ o. IsLeastTouched sums (earlier ++ take (i + 1) ps) (option_copied o)) (sym w.found-is)
+              (unbroken_next sums earlier ps i p p (option_copied c.loop-posting.found) c.loop-posting-test.true c.posting-item.is
+              (sym v.breaks.ensures.broken ∙ v.if-breaks.false) (so earlier first));
+          looks = omega (arith, v.breaks.ensures.looks, v.steps-is, w.steps-is, c.loop-posting.invariant.looks);
+        }
+        | else-stands_before-via-else-stands_before v ↦ record {
+          least = λ earlier first.
+              subst (λ o. IsLeastTouched sums (earlier ++ take (i + 1) ps) (option_copied o)) (sym w.found-is)
+              (behind_next sums earlier ps i p p (option_copied c.loop-posting.found) c.loop-posting-test.true c.posting-item.is
+              (sym c.stands_before.ensures ∙ v.if-stands_before.false) (so earlier first));
+          looks = omega (arith, v.steps-is, w.steps-is, c.loop-posting.invariant.looks);
+        }
+      ]
     ]
 
 pub returns-clause-least : goal.returns-clause-least
