@@ -1,84 +1,98 @@
--- Postings that are put behind others.
-use Rattle.std.proofs.Common.{◌≡◌, ◌+◌, List, [], ◌∷◌, ◌++◌, length, take, ap, sym, ◌∙◌, append_assoc, append-nil, length-append, subst, arith}
+-- Postings that are handed on behind others.
+use Rattle.std.proofs.Common.{◌≡◌, List, [], ◌∷◌, ◌++◌, sym, subst}
 use Rattle.std.specs.List.{flat_map}
-use Rattle.std.specs.Prelude.{Result, Ok, Err, IsOk, IsErr}
-use Rattle.std.proofs.Math.Seq.{take-append-add}
-use Rattle.std.proofs.lemmas.List.{take-append-le}
-use Rattle.verdict.specs.declared.bytes.NoMemory.{NoMemory}
+use Rattle.std.specs.Prelude.{Ok, Err, IsOk, IsErr}
 use Rattle.accounts.specs.declared.postings.Posting.{Posting}
-use Rattle.accounts.specs.Posts.{Posts, StandInPart}
+use Rattle.accounts.specs.Posts.{Done, Passes}
 
--- what a call that posts gives
-abbrev pub Done : Type 0
-Done = Result (Unit {0}) NoMemory
+-- what calls that post leave of something
+abbrev pub Relation : Type 0 → Type 1
+Relation S = S → S → Done → List Posting → Type 0
 
--- a first part of some postings is one of these and more
-part_of_more : (old new first later : List Posting) → StandInPart old new first → StandInPart old new (first ++ later)
-part_of_more old new first later part = record {
-  count = part.count;
-  fewer = omega (arith, part.fewer, length-append first later);
-  front = part.front ∙ ap (λ l. old ++ l) (sym (take-append-le part.count first later (omega (arith, part.fewer))));
-}
+cut : {S : Type 0} (leaves : Relation S) → Passes leaves → (old new : S) (before result : Done) (first later : List Posting)
+    → leaves old new before first → IsErr before → IsErr result → leaves old new result (first ++ later)
+cut leaves laws old new (Ok t) result first later posts failed fails = absurd (cc)
+cut leaves laws old new (Err e) (Ok t) first later posts failed fails = absurd (cc)
+cut leaves laws old new (Err e) (Err f) first later posts failed fails = laws.cut old new e f first later posts
 
-cut : {T : Type 0} (old new : List Posting) (before : Result T NoMemory) (result : Done) (first later : List Posting)
-    → Posts old new before first → IsErr before → IsErr result → Posts old new result (first ++ later)
-cut old new (Ok t) result first later posts failed fails = absurd (cc)
-cut old new (Err e) (Ok t) first later posts failed fails = absurd (cc)
-cut old new (Err e) (Err f) first later posts failed fails = record { all = tt; some = part_of_more old new first later posts.some }
+-- where some postings could not be put whole, neither were these and more
+pub posts_cut : {S : Type 0} {leaves : Relation S} {old new : S} {before result : Done} {first : List Posting} → Passes leaves → (later : List Posting)
+    → leaves old new before first → IsErr before → IsErr result → leaves old new result (first ++ later)
+posts_cut {leaves = leaves} {old = old} {new = new} {before = before} {result = result} {first = first} laws later posts failed fails =
+    cut leaves laws old new before result first later posts failed fails
 
--- where some postings could not be put whole, a first part of these and of more stands
-pub posts_cut : {T : Type 0} {old new : List Posting} {before : Result T NoMemory} {result : Done} {first : List Posting} (later : List Posting)
-    → Posts old new before first → IsErr before → IsErr result → Posts old new result (first ++ later)
-posts_cut {old = old} {new = new} {before = before} {result = result} {first = first} later posts failed fails = cut old new before result first later posts failed fails
-
-more : {T : Type 0} (old mid new : List Posting) (before : Result T NoMemory) (result : Done) (first later : List Posting)
-    → Posts old mid before first → IsOk before → Posts mid new result later → Posts old new result (first ++ later)
-more old mid new (Err e) result first later posts done rest = absurd (cc)
-more old mid new (Ok t) (Ok u) first later posts done rest =
-    record { all = rest.all ∙ ap (λ l. l ++ later) posts.all ∙ append_assoc old first later; some = tt }
-more old mid new (Ok t) (Err e) first later posts done rest =
-    record {
-      all = tt;
-      some = record {
-        count = length first + rest.some.count;
-        fewer = omega (arith, rest.some.fewer, length-append first later);
-        front =
-            rest.some.front
-            ∙ ap (λ l. l ++ take rest.some.count later) posts.all
-            ∙ append_assoc old first (take rest.some.count later)
-            ∙ ap (λ l. old ++ l) (sym (take-append-add first later rest.some.count));
-      };
-    }
+more : {S : Type 0} (leaves : Relation S) → Passes leaves → (old mid new : S) (before result : Done) (first later : List Posting)
+    → leaves old mid before first → IsOk before → leaves mid new result later → leaves old new result (first ++ later)
+more leaves laws old mid new (Err e) result first later posts done rest = absurd (cc)
+more leaves laws old mid new (Ok t) result first later posts done rest = laws.more old mid new result first later posts rest
 
 -- some postings were put, and others behind them
-pub posts_more : {T : Type 0} {old mid new : List Posting} {before : Result T NoMemory} {result : Done} {first later : List Posting}
-    → Posts old mid before first → IsOk before → Posts mid new result later → Posts old new result (first ++ later)
-posts_more {old = old} {mid = mid} {new = new} {before = before} {result = result} {first = first} {later = later} posts done rest =
-    more old mid new before result first later posts done rest
+pub posts_more : {S : Type 0} {leaves : Relation S} {old mid new : S} {before result : Done} {first later : List Posting} → Passes leaves
+    → leaves old mid before first → IsOk before → leaves mid new result later → leaves old new result (first ++ later)
+posts_more {leaves = leaves} {old = old} {mid = mid} {new = new} {before = before} {result = result} {first = first} {later = later} laws posts done rest =
+    more leaves laws old mid new before result first later posts done rest
 
--- so many of some things are left that what posts their rows behind a list posts those of all behind the old one
-pub record Leaves {A : Type 0} (row : A → List Posting) (old now : List Posting) (left all : List A) : Type 0 where
-  pub then : (new : List Posting) (result : Done) → Posts now new result (flat_map row left) → Posts old new result (flat_map row all)
+missed : {S : Type 0} (leaves : Relation S) → Passes leaves → (now : S) (result : Done) (first : Posting) (later : List Posting)
+    → IsErr result → leaves now now result (first ∷ later)
+missed leaves laws now (Ok t) first later fails = absurd (cc)
+missed leaves laws now (Err e) first later fails = laws.missed now e first later
+
+-- a call failed before it put any
+pub posts_missed : {S : Type 0} {leaves : Relation S} {now : S} {result : Done} {first : Posting} {later : List Posting} → Passes leaves
+    → IsErr result → leaves now now result (first ∷ later)
+posts_missed {leaves = leaves} {now = now} {result = result} {first = first} {later = later} laws fails = missed leaves laws now result first later fails
+
+-- so many of some things are left that what leaves their rows behind leaves those of all
+pub record Leaves {A S : Type 0} (leaves : Relation S) (row : A → List Posting) (old now : S) (left all : List A) : Type 0 where
+  pub then : (new : S) (result : Done) → leaves now new result (flat_map row left) → leaves old new result (flat_map row all)
 
 -- all are left
-pub leaves_all : {A : Type 0} {row : A → List Posting} {old : List Posting} {left all : List A} → left ≡ all → Leaves row old old left all
-leaves_all {row = row} {old = old} start = record { then = λ new result posts. subst (λ xs. Posts old new result (flat_map row xs)) start posts }
+pub leaves_all : {A S : Type 0} {leaves : Relation S} {row : A → List Posting} {old : S} {left all : List A} → left ≡ all → Leaves leaves row old old left all
+leaves_all {leaves = leaves} {row = row} {old = old} start =
+    record { then = λ new result posts. subst (λ xs. leaves old new result (flat_map row xs)) start posts }
 
 -- the row of the first was posted
-pub leaves_rest : {A T : Type 0} {row : A → List Posting} {old now next : List Posting} {left rest all : List A} {one : A} {before : Result T NoMemory}
-    → Leaves row old now left all → left ≡ one ∷ rest → Posts now next before (row one) → IsOk before → Leaves row old next rest all
-leaves_rest {row = row} {now = now} leaves step posts done = record {
-  then = λ new result later. leaves.then new result (subst (λ xs. Posts now new result (flat_map row xs)) (sym step) (posts_more posts done later));
+pub leaves_rest : {A S : Type 0} {leaves : Relation S} {row : A → List Posting} {old now next : S} {left rest all : List A} {one : A} {before : Done} → Passes leaves
+    → Leaves leaves row old now left all → left ≡ one ∷ rest → leaves now next before (row one) → IsOk before → Leaves leaves row old next rest all
+leaves_rest {leaves = leaves} {row = row} {now = now} laws so_far step posts done = record {
+  then = λ new result later. so_far.then new result
+      (subst (λ xs. leaves now new result (flat_map row xs)) (sym step) (posts_more laws posts done later));
 }
 
 -- the row of the first could not be posted whole
-pub leaves_cut : {A T : Type 0} {row : A → List Posting} {old now next : List Posting} {left rest all : List A} {one : A} {before : Result T NoMemory} {result : Done}
-    → Leaves row old now left all → left ≡ one ∷ rest → Posts now next before (row one) → IsErr before → IsErr result → Posts old next result (flat_map row all)
-leaves_cut {row = row} {now = now} {next = next} {rest = rest} {result = result} leaves step posts failed fails =
-    leaves.then next result (subst (λ xs. Posts now next result (flat_map row xs)) (sym step) (posts_cut (flat_map row rest) posts failed fails))
+pub leaves_cut : {A S : Type 0} {leaves : Relation S} {row : A → List Posting} {old now next : S} {left rest all : List A} {one : A} {before result : Done} → Passes leaves
+    → Leaves leaves row old now left all → left ≡ one ∷ rest → leaves now next before (row one) → IsErr before → IsErr result → leaves old next result (flat_map row all)
+leaves_cut {leaves = leaves} {row = row} {now = now} {next = next} {rest = rest} {result = result} laws so_far step posts failed fails =
+    so_far.then next result (subst (λ xs. leaves now next result (flat_map row xs)) (sym step) (posts_cut laws (flat_map row rest) posts failed fails))
 
 -- nothing is left
-pub leaves_none : {A : Type 0} {row : A → List Posting} {old now : List Posting} {left all : List A}
-    → Leaves row old now left all → left ≡ [] → Posts {T = Unit {0}} {E = NoMemory} old now (Ok tt) (flat_map row all)
-leaves_none {row = row} {now = now} leaves end =
-    leaves.then now (Ok tt) (subst (λ xs. Posts {T = Unit {0}} {E = NoMemory} now now (Ok tt) (flat_map row xs)) (sym end) (record { all = sym (append-nil now); some = tt }))
+pub leaves_none : {A S : Type 0} {leaves : Relation S} {row : A → List Posting} {old now : S} {left all : List A} → Passes leaves
+    → Leaves leaves row old now left all → left ≡ [] → leaves old now (Ok tt) (flat_map row all)
+leaves_none {leaves = leaves} {row = row} {now = now} laws so_far end =
+    so_far.then now (Ok tt) (subst (λ xs. leaves now now (Ok tt) (flat_map row xs)) (sym end) (laws.none now))
+
+-- some postings are left, of all: what leaves these leaves all
+pub record Left {S : Type 0} (leaves : Relation S) (old now : S) (left all : List Posting) : Type 0 where
+  pub then : (new : S) (result : Done) → leaves now new result left → leaves old new result all
+
+-- all are left
+pub left_all : {S : Type 0} {leaves : Relation S} {old : S} {left all : List Posting} → left ≡ all → Left leaves old old left all
+left_all {leaves = leaves} {old = old} start = record { then = λ new result posts. subst (leaves old new result) start posts }
+
+-- the first of them were posted
+pub left_rest : {S : Type 0} {leaves : Relation S} {old now next : S} {left first rest all : List Posting} {before : Done} → Passes leaves
+    → Left leaves old now left all → left ≡ first ++ rest → leaves now next before first → IsOk before → Left leaves old next rest all
+left_rest {leaves = leaves} {now = now} laws so_far step posts done = record {
+  then = λ new result later. so_far.then new result (subst (leaves now new result) (sym step) (posts_more laws posts done later));
+}
+
+-- the first of them could not be posted whole
+pub left_cut : {S : Type 0} {leaves : Relation S} {old now next : S} {left first all : List Posting} {before result : Done} → Passes leaves → (rest : List Posting)
+    → Left leaves old now left all → left ≡ first ++ rest → leaves now next before first → IsErr before → IsErr result → leaves old next result all
+left_cut {leaves = leaves} {now = now} {next = next} {result = result} laws rest so_far step posts failed fails =
+    so_far.then next result (subst (leaves now next result) (sym step) (posts_cut laws rest posts failed fails))
+
+-- none is left
+pub left_none : {S : Type 0} {leaves : Relation S} {old now : S} {left all : List Posting} → Passes leaves
+    → Left leaves old now left all → left ≡ [] → leaves old now (Ok tt) all
+left_none {leaves = leaves} {now = now} laws so_far end = so_far.then now (Ok tt) (subst (leaves now now (Ok tt)) (sym end) (laws.none now))

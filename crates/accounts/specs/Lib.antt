@@ -7,5 +7,6 @@ pub mod Context
 pub mod Kinds
 pub mod Taken
 pub mod Posts
+pub mod PostsLaws
 pub mod Tally
 pub mod Apart

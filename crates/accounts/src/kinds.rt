@@ -198,20 +198,16 @@ impl Account {
         ensures { IfOk result (λ account.
             account ≡ kinds.name_entry tree dir hash location name.now sort) }
     {
-        let mut tail = Vec::new(alloc);
-        let wanted = tail.extend_from_slice(name).is_ok()
-            && tail.push(sort).is_ok()
-            && tail.push(location.kind).is_ok();
-        if !wanted {
-            return Err(NoMemory);
-        }
+        let mut tail = Bytes::of(alloc, name)?;
+        tail.push(sort)?;
+        tail.push(location.kind)?;
         Ok(Account {
             kind: 11,
             tree,
             block: 0,
             key: key_by(dir, DIR_ITEM, u64::from(hash)),
             detail: location.objectid,
-            tail: Bytes::from(tail),
+            tail,
         })
     }
 

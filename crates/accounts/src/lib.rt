@@ -12,6 +12,6 @@ mod totals;
 pub use account::Account;
 pub use context::{Ctx, Home};
 pub use laws::least_broken_law;
-pub use postings::{Posting, Postings};
+pub use postings::{Poster, Posting, Postings};
 pub use tally::Tally;
 pub use totals::{Totals, broken, finding_of, sector_keeps};

@@ -1,7 +1,8 @@
 //! What one record adds to the sums of accounts.
 
 ghost use Rattle.std.specs.Prelude.{◌≡◌, ◌<◌, [], ◌∷◌, ◌++◌, OnOk, OnErr};
-ghost use Rattle.accounts.specs.Posts.{Posts};
+ghost use Rattle.accounts.specs.Posts.{Done, Passes, Posts};
+ghost use Rattle.accounts.specs.PostsLaws.{posts_pass};
 ghost use Rattle.accounts.specs.Taken.{IsLastTaken};
 
 use crate::Account;
@@ -33,6 +34,22 @@ impl Posting {
     }
 }
 
+/// One that postings are handed to, one by one.
+pub trait Poster {
+    ghost use Rattle.std.specs.Prelude.{List};
+    ghost use Rattle.accounts.specs.declared.postings.Posting.{Posting};
+
+    /// What a call that hands it postings leaves: what it was and what it is, what the call gives, and the postings.
+    ghost Leaves: { Self → Self → Done → List Posting → Type 0 };
+
+    /// Hands it a posting. Out of memory, it may have taken it or not.
+    fn put(&mut self, posting: Posting) -> Result<(), NoMemory>
+        ensures { Leaves self.old self.new result (posting ∷ []) };
+
+    /// No postings leave it as it was, and what some leave and others behind them is what all of them leave.
+    ghost passes: { Passes Leaves };
+}
+
 /// A list of postings.
 #[derive(Debug, Drop)]
 pub struct Postings {
@@ -46,6 +63,16 @@ impl Model for Postings {
     ghost Value = { List Posting };
 
     ghost view = { λ p. p.list.items };
+}
+
+impl Poster for Postings {
+    ghost Leaves = { λ old new result postings. Posts old new result postings };
+
+    ghost passes = { posts_pass };
+
+    fn put(&mut self, posting: Posting) -> Result<(), NoMemory> {
+        self.push(posting)
+    }
 }
 
 impl Postings {

@@ -5,10 +5,10 @@
 use change_records::pair;
 use fs_items::InodeItem;
 use image_maker::dir_entry;
-use records::{ItemAt, ItemBytes, OwnedRec};
+use records::{ItemAt, OwnedRec};
 use std::alloc::Global;
 use std::io;
-use verdict::{Key, NoMemory};
+use verdict::{Bytes, Key, NoMemory};
 
 /// Finds what changed among `count` items so many times.
 pub fn measure(rt: &HostRuntime, count: u64, rounds: u64) -> io::Result<()> {
@@ -77,6 +77,6 @@ fn entry(alloc: Global, key: Key, other: u8) -> Result<OwnedRec, NoMemory> {
     let mut name = [97; 20];
     name[19] = other;
     let bytes = dir_entry(alloc, key, 0, 1, &name)?;
-    let bytes = ItemBytes::of(alloc, bytes.as_slice())?;
+    let bytes = Bytes::of(alloc, bytes.as_slice())?;
     Ok(OwnedRec::DirItem { key, bytes })
 }

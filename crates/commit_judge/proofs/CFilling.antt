@@ -36,21 +36,12 @@ use Rattle.span_index.specs.declared.span.Span.{Span}
 use Rattle.span_index.proofs.TableLaws.{same_is, same_itself}
 use Rattle.touched_accounts.specs.Looks.{HaveLooks, counted_times}
 use Rattle.touched_accounts.specs.Sums.{with_all}
-use Rattle.touched_accounts.proofs.Changed.{with_none}
-use Rattle.touched_accounts.proofs.Counted.{counted_both, counted_few, counted_next, counted_none, looks_stay}
+use Rattle.touched_accounts.specs.AddingLaws.{counted_both, counted_none, with_more, with_none}
+use Rattle.touched_accounts.proofs.Counted.{counted_few, counted_next, looks_stay}
 use Rattle.commit_judge.specs.Filling.{Filled, looks_of, of_none, with_located, with_option}
 use Rattle.commit_judge.specs.Flags.{free_in}
 
 -- ---- sums
-
-both_added : (s x y both : ℕ) → both ≡ x + y → (s + x) + y ≡ s + both
-both_added s x y both is = omega arith
-
--- postings are added after others
-pub with_both : (sums : Sums) (ps qs : List Posting) → with_all (with_all sums ps) qs ≡ with_all sums (ps ++ qs)
-unfolding with_all
-with_both sums ps qs = fun_ext (λ account. fun_ext (λ n.
-    both_added (sums account n) (total_of ps account n) (total_of qs account n) (total_of (ps ++ qs) account n) (total_joined ps qs account n)))
 
 -- what a record posts but to sectors does not rest on which data has checksums
 pub posts_alike : (chunks : List Chunk) (nodesize : ℕ) (free other : Frees) (one : Located)
@@ -66,7 +57,7 @@ sums_after [] held free = sym (with_none held.sums)
 sums_after (one ∷ more) held free =
     let later = all_posts (context_with held.chunks held.nodesize free) more in
     sums_after more (with_located held one) free
-    ∙ with_both held.sums (posts_of (context_with held.chunks held.nodesize held.free) one) later
+    ∙ with_more held.sums (posts_of (context_with held.chunks held.nodesize held.free) one) later
     ∙ ap (λ (ps : List Posting). with_all held.sums (ps ++ later)) (posts_alike held.chunks held.nodesize held.free free one)
 
 -- ---- spans
@@ -190,70 +181,46 @@ began_after (one ∷ more) held = began_after more (with_located held one)
 -- ---- all together
 
 -- nothing is made of no records
-pub none_filled : (chunks : List Chunk) (nodesize : ℕ) (sums : Sums) (posts : List Posting) (spans : Table) (free : set.BTreeSet Inode) (began steps : ℕ)
-    → sums ≡ no_sums → posts ≡ [] → spans ≡ no_spans → free.keys ≡ [] → began ≡ steps
+pub none_filled : (chunks : List Chunk) (nodesize : ℕ) (sums : Sums) (spans : Table) (free : set.BTreeSet Inode) (began steps : ℕ)
+    → sums ≡ no_sums → spans ≡ no_spans → free.keys ≡ [] → began ≡ steps
     → ◌≡◌ {A = Filled} (record {
       chunks = chunks;
       nodesize = nodesize;
-      sums = with_all sums posts;
+      sums = sums;
       spans = spans;
       free = free_in free;
       began = began;
-      looks = counted_times (length posts) steps;
+      looks = steps;
     }) (of_none chunks nodesize steps)
-none_filled chunks nodesize sums posts spans free began steps no_sum no_post no_span no_inode began_is =
-    let sums_are : with_all sums posts ≡ no_sums = ap (with_all sums) no_post ∙ with_none sums ∙ no_sum in
+none_filled chunks nodesize sums spans free began steps no_sum no_span no_inode began_is =
     let free_is = no_inodes free no_inode in
-    let looks_are : counted_times (length posts) steps ≡ steps = ap (λ (ps : List Posting). counted_times (length ps) steps) no_post ∙ counted_none steps in
-    λ i. record { chunks = chunks; nodesize = nodesize; sums = sums_are i; spans = no_span i; free = free_is i; began = began_is i; looks = looks_are i }
-
--- the looks of a record more: for the postings that waited, for its own, and for its span
-looks_more : (waiting posts new left : List Posting) (span steps between last : ℕ) → posts ≡ waiting ++ new → left ≡ []
-    → between ≡ counted_times (length posts) steps → last ≡ counted_times span between
-    → counted_times (length left) last ≡ counted_times (span + length new) (counted_times (length waiting) steps)
-looks_more waiting posts new left span steps between last posted none first second =
-    let count : length posts ≡ length new + length waiting = let both = length-append waiting new in omega (arith, ap length posted, both) in
-    ap (λ (ps : List Posting). counted_times (length ps) last) none
-    ∙ counted_none last
-    ∙ second
-    ∙ ap (counted_times span) (first ∙ ap (λ (n : ℕ). counted_times n steps) count ∙ sym (counted_both (length new) (length waiting) steps))
-    ∙ counted_both span (length new) (counted_times (length waiting) steps)
+    λ i. record { chunks = chunks; nodesize = nodesize; sums = no_sum i; spans = no_span i; free = free_is i; began = began_is i; looks = steps }
 
 -- a record more is taken
-pub one_filled : (held : Filled) (one : Located) (before after : Sums) (waiting posts left : List Posting) (spans : Table) (free : Frees)
-    → (steps between last : ℕ)
-    → held.sums ≡ with_all before waiting
-    → posts ≡ waiting ++ posts_of (context_with held.chunks held.nodesize held.free) one
-    → after ≡ with_all before posts → left ≡ []
+pub one_filled : (held : Filled) (one : Located) (after : Sums) (spans : Table) (free : Frees) (between last : ℕ)
+    → after ≡ with_all held.sums (posts_of (context_with held.chunks held.nodesize held.free) one)
     → spans ≡ with_option held.spans (span_of held.nodesize one)
     → free ≡ or_free held.free (sum_free_inode one)
-    → held.looks ≡ counted_times (length waiting) steps → between ≡ counted_times (length posts) steps
+    → between ≡ counted_times (length (posts_of (context_with held.chunks held.nodesize held.free) one)) held.looks
     → last ≡ counted_times (looks_of (span_of held.nodesize one)) between
     → ◌≡◌ {A = Filled} (record {
       chunks = held.chunks;
       nodesize = held.nodesize;
-      sums = with_all after left;
+      sums = after;
       spans = spans;
       free = free;
       began = held.began;
-      looks = counted_times (length left) last;
+      looks = last;
     }) (with_located held one)
-one_filled held one before after waiting posts left spans free steps between last begin posted added none spans_are free_is looked first second =
+one_filled held one after spans free between last added spans_are free_is first second =
     let new = posts_of (context_with held.chunks held.nodesize held.free) one in
-    let sums_are : with_all after left ≡ with_all held.sums new =
-    ap (with_all after) none
-    ∙ with_none after
-    ∙ added
-    ∙ ap (with_all before) posted
-    ∙ sym (with_both before waiting new)
-    ∙ ap (λ (sums : Sums). with_all sums new) (sym begin) in
     let span = looks_of (span_of held.nodesize one) in
-    let looks_are : counted_times (length left) last ≡ counted_times (span + length new) held.looks =
-    looks_more waiting posts new left span steps between last posted none first second ∙ ap (counted_times (span + length new)) (sym looked) in
+    let looks_are : last ≡ counted_times (span + length new) held.looks =
+    second ∙ ap (counted_times span) first ∙ counted_both span (length new) held.looks in
     λ i. record {
       chunks = held.chunks;
       nodesize = held.nodesize;
-      sums = sums_are i;
+      sums = added i;
       spans = spans_are i;
       free = free_is i;
       began = held.began;

@@ -83,11 +83,11 @@ abbrev pub filled_in : {L : Type 0} → Filling L → Filled
 filled_in filling = record {
   chunks = filling.map.now;
   nodesize = filling.nodesize;
-  sums = with_all (sums_of filling.totals) filling.posts;
+  sums = sums_of filling.adding.ledger;
   spans = times_of filling.spans;
   free = free_in filling.free;
   began = filling.began;
-  looks = counted_times (length filling.posts) filling.steps.now;
+  looks = filling.adding.steps.now;
 }
 
 -- these are the tables of an image of which this is known, where the trees that root items name have these records

@@ -27,7 +27,6 @@ use crate::context::Before;
 use crate::filler::Filling;
 use crate::posts::post_record;
 use crate::spans::span_of;
-use accounts::Postings;
 use block_source::Halt;
 use change_records::Inode;
 use chunk_map::ChunkMap;
@@ -40,7 +39,7 @@ use records::{Both, RecAt, Record, Taker};
 use span_index::SpanIndex;
 use std::alloc::Global;
 use std::collections::BTreeSet;
-use touched_accounts::put_all;
+use touched_accounts::Adding;
 use verdict::NoMemory;
 use write_cache::WriteCache;
 
@@ -111,12 +110,13 @@ impl<'m, 's, L> Filling<'m, 's, L> {
             alloc,
             map,
             nodesize,
-            totals: LedgerIndex::new(alloc),
-            posts: Postings::new(alloc),
+            adding: Adding {
+                ledger: LedgerIndex::new(alloc),
+                steps,
+            },
             spans: SpanIndex::new(alloc),
             free: BTreeSet::new(alloc),
             began,
-            steps,
         }
     }
 
@@ -126,14 +126,14 @@ impl<'m, 's, L> Filling<'m, 's, L> {
         ensures { OnOk result
             (filled_in self.new ≡ with_located (filled_in self.old) (located one.now)) }
     {
+        let (alloc, map, nodesize) = (self.alloc, self.map, self.nodesize);
         let context = Before {
-            map: self.map,
+            map,
             free: &self.free,
-            nodesize: self.nodesize,
+            nodesize,
         };
-        post_record(self.alloc, &context, one.tree, &one.part, &mut self.posts)?;
-        put_waiting(&mut self.totals, &mut self.posts, self.steps)?;
-        put_span(&mut self.spans, self.nodesize, one, self.steps)?;
+        post_record(alloc, &context, one.tree, &one.part, &mut self.adding)?;
+        put_span(&mut self.spans, nodesize, one, &mut self.adding)?;
         put_inode(&mut self.free, one)
     }
 
@@ -154,14 +154,15 @@ impl<'m, 's, L> Filling<'m, 's, L> {
             alloc,
             map: _,
             nodesize: _,
-            mut totals,
-            mut posts,
+            adding,
             spans,
             free,
             began: _,
-            steps,
         } = self;
-        put_waiting(&mut totals, &mut posts, steps)?;
+        let Adding {
+            ledger: totals,
+            steps,
+        } = adding;
         let live = lives.finish(alloc, steps)?;
         let looks = steps.looks();
         let tables = Tables {
@@ -192,39 +193,23 @@ impl<'m, 's, L> Taker for Filling<'m, 's, L> {
     }
 }
 
-// Adds all of a list of postings to a ledger. The list is empty then.
-fn put_waiting<L>(
-    totals: &mut LedgerIndex<L>,
-    posts: &mut Postings,
-    steps: &mut Steps<L>,
-) -> Result<(), NoMemory>
-    ensures sums { OnOk result
-        (sums_of totals.new ≡ with_all (sums_of totals.old) posts.old) }
-    ensures none { OnOk result (posts.new ≡ []) }
-    ensures counts { OnOk result (steps.new ≡ counted_times (length posts.old) steps.old) }
-    ensures few { (begun : ℕ) → HaveLooks begun (entries_of totals.old) steps.old →
-        HaveLooks begun (entries_of totals.new) steps.new }
-{
-    put_all(totals, posts, steps)?;
-    while let Some(_posting) = posts.pop() {}
-    Ok(())
-}
-
-// Puts the span of a record into a table, where it has one.
+// Puts the span of a record into a table, where it has one, by a look that the counter of a ledger counts.
 fn put_span<L>(
     spans: &mut SpanIndex<L>,
     nodesize: u32,
     one: &RecAt<'_>,
-    steps: &mut Steps<L>,
+    adding: &mut Adding<'_, L>,
 ) -> Result<(), NoMemory>
     requires { IsLawful (part_of one.now.part) }
     ensures spans { OnOk result (times_of spans.new ≡
         with_option (times_of spans.old) (span_of_record nodesize (located one.now))) }
-    ensures looks { steps.new
-        ≡ counted_times (looks_of (span_of_record nodesize (located one.now))) steps.old }
+    ensures looks { adding.new.steps.now
+        ≡ counted_times (looks_of (span_of_record nodesize (located one.now)))
+        adding.old.steps.now }
+    ensures ledger { adding.new.ledger ≡ adding.old.ledger }
 {
     match span_of(nodesize, one.tree, &one.part) {
-        Some(span) => spans.insert(span, steps),
+        Some(span) => spans.insert(span, adding.steps),
         None => Ok(()),
     }
 }

@@ -12,7 +12,7 @@ ghost use Rattle.change_laws.specs.Same.{live_record};
 ghost use Rattle.change_laws.specs.Steps.{all_posts, change_records, step_posts};
 ghost use Rattle.commit_judge.specs.Posting.{posts_at};
 
-use accounts::{Ctx, Postings};
+use accounts::{Ctx, Poster, Postings};
 use change_records::{ItemChange, ItemRef};
 use extent_items::ExtentItem;
 use live_index::Live;
@@ -22,16 +22,16 @@ use super_reader::Super;
 use verdict::NoMemory;
 use verdict::kinds::{EXTENT_ITEM, METADATA_ITEM};
 
-/// What a record of a tree posts but to sectors, behind others.
-pub(crate) fn post_record<C: Ctx>(
+/// Hands on what a record of a tree posts but to sectors.
+pub(crate) fn post_record<C: Ctx, P: Poster>(
     alloc: Global,
     ctx: &C,
     tree: u64,
     part: &Rec<'_>,
-    into: &mut Postings,
+    into: &mut P,
 ) -> Result<(), NoMemory>
-    ensures { OnOk result (into.new ≡
-        into.old ++ posts_at (C.context ctx.now) tree (part_of part.now)) }
+    ensures { P.Leaves into.old into.new result
+        (posts_at (C.context ctx.now) tree (part_of part.now)) }
 {
     extent_rules::post(alloc, ctx, tree, part, into)?;
     inode_rules::post(alloc, ctx, tree, part, into)?;

@@ -7,11 +7,11 @@ use fs_items::{FileExtent, InodeItem};
 use image_maker::dir_entry;
 use live_index::{Live, LiveIndex};
 use recon_disk::Steps;
-use records::{ItemAt, ItemBytes, OwnedRec};
+use records::{ItemAt, OwnedRec};
 use span_index::{Span, SpanIndex, SpanSort};
 use std::alloc::Global;
 use super_reader::Super;
-use verdict::NoMemory;
+use verdict::{Bytes, NoMemory};
 use volume_items::RootAt;
 
 // The first byte of the data chunk and of the metadata chunk.
@@ -103,7 +103,7 @@ fn entry(alloc: Global, generation: u64, name: &[u8]) -> Result<ItemAt, NoMemory
     requires { length name.now < 2 ^ 16 }
 {
     let bytes = dir_entry(alloc, key(256, 1, 0), generation, 1, name)?;
-    let bytes = ItemBytes::of(alloc, bytes.as_slice())?;
+    let bytes = Bytes::of(alloc, bytes.as_slice())?;
     let key = key(256, 96, 2);
     let part = OwnedRec::DirItem { key, bytes };
     Ok(ItemAt {

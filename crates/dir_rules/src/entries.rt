@@ -2,12 +2,11 @@
 
 ghost use Rattle.std.specs.Prelude.{◌≡◌, ◌==◌, [], ◌∷◌, flat_map, if◌then◌else◌};
 ghost use Rattle.accounts.specs.Kinds as kinds;
-ghost use Rattle.accounts.specs.Posts.{Posts};
 ghost use Rattle.fs_items.specs.Lent.{dir_in, entry_fields, inode_ref_in, name_fields};
 ghost use Rattle.records.specs.DirPostings.{dir_entry_postings, entry_posting, indexed_postings, is_root_name, link_postings, names_postings};
 ghost use Rattle.records.specs.Post.{to};
 
-use accounts::{Account, Posting, Postings};
+use accounts::{Account, Poster, Posting};
 use fs_items::{DirEntry, DirItem, InodeRef, NameAt};
 use recon_crc::name_hash;
 use std::alloc::Global;
@@ -15,10 +14,15 @@ use verdict::kinds::{DIR_ITEM, INODE_ITEM, INODE_REF, ROOT_ITEM};
 use verdict::{Key, NoMemory};
 
 // Posts an amount to one sum of an account.
-pub fn add(account: Account, field: u8, amount: u64, into: &mut Postings) -> Result<(), NoMemory>
-    ensures { Posts into.old into.new result (to account field amount ∷ []) }
+pub fn add<P: Poster>(
+    account: Account,
+    field: u8,
+    amount: u64,
+    into: &mut P,
+) -> Result<(), NoMemory>
+    ensures { P.Leaves into.old into.new result (to account field amount ∷ []) }
 {
-    into.push(Posting {
+    into.put(Posting {
         account,
         field,
         amount,
@@ -26,13 +30,13 @@ pub fn add(account: Account, field: u8, amount: u64, into: &mut Postings) -> Res
 }
 
 // The names of an inode, but for those of a tree's root directory, which no directory of the tree has.
-pub fn post_names(
+pub fn post_names<P: Poster>(
     alloc: Global,
     tree: u64,
     item: &InodeRef<'_>,
-    into: &mut Postings,
+    into: &mut P,
 ) -> Result<(), NoMemory>
-    ensures { Posts into.old into.new result (names_postings tree (inode_ref_in item.now)) }
+    ensures { P.Leaves into.old into.new result (names_postings tree (inode_ref_in item.now)) }
 {
     if is_root_name(item.key) {
         return Ok(());
@@ -48,13 +52,13 @@ pub fn is_root_name(key: Key) -> bool
 }
 
 // The names of an inode.
-fn post_links(
+fn post_links<P: Poster>(
     alloc: Global,
     tree: u64,
     item: &InodeRef<'_>,
-    into: &mut Postings,
+    into: &mut P,
 ) -> Result<(), NoMemory>
-    ensures { Posts into.old into.new result
+    ensures { P.Leaves into.old into.new result
         (flat_map (link_postings tree item.now.key.objectid) (inode_ref_in item.now).names) }
 {
     for name in item.names() {
@@ -65,27 +69,27 @@ fn post_links(
 
 /// Posts a name of an inode of a tree, to the sum of those that the inode has. Where memory is wanting, the list stays
 /// as it was.
-pub fn post_link(
+pub fn post_link<P: Poster>(
     alloc: Global,
     tree: u64,
     ino: u64,
     name: &NameAt<'_>,
-    into: &mut Postings,
+    into: &mut P,
 ) -> Result<(), NoMemory>
-    ensures { Posts into.old into.new result (link_postings tree ino (name_fields name.now)) }
+    ensures { P.Leaves into.old into.new result (link_postings tree ino (name_fields name.now)) }
 {
     let account = Account::link(alloc, tree, ino, name.parent, name.index, name.name)?;
     add(account, 1, 1, into)
 }
 
 // The entries of a directory.
-pub fn post_entries(
+pub fn post_entries<P: Poster>(
     alloc: Global,
     tree: u64,
     item: &DirItem<'_>,
-    into: &mut Postings,
+    into: &mut P,
 ) -> Result<(), NoMemory>
-    ensures { Posts into.old into.new result
+    ensures { P.Leaves into.old into.new result
         (flat_map (dir_entry_postings tree item.now.key) (dir_in item.now).entries) }
 {
     for entry in item.entries() {
@@ -97,14 +101,14 @@ pub fn post_entries(
 /// Posts an entry of a directory in the item with this key, to the sum of those by their hash or by their index; one
 /// by its index besides to the link of the inode, or to the entry of the subvolume. Where memory is wanting, a first
 /// part of the postings stands behind the old list.
-pub fn post_entry(
+pub fn post_entry<P: Poster>(
     alloc: Global,
     tree: u64,
     key: Key,
     entry: &DirEntry<'_>,
-    into: &mut Postings,
+    into: &mut P,
 ) -> Result<(), NoMemory>
-    ensures { Posts into.old into.new result
+    ensures { P.Leaves into.old into.new result
         (dir_entry_postings tree key (entry_fields entry.now)) }
 {
     if key.kind == DIR_ITEM {
@@ -115,15 +119,15 @@ pub fn post_entry(
 }
 
 // The name of an entry of a directory, to the sum of those by their hash, 0, or by their index, 1.
-fn post_name(
+fn post_name<P: Poster>(
     alloc: Global,
     tree: u64,
     dir: u64,
     field: u8,
     entry: &DirEntry<'_>,
-    into: &mut Postings,
+    into: &mut P,
 ) -> Result<(), NoMemory>
-    ensures { Posts into.old into.new result
+    ensures { P.Leaves into.old into.new result
         (entry_posting tree dir field (entry_fields entry.now) ∷ []) }
 {
     let hash = name_hash(entry.name);
@@ -133,14 +137,14 @@ fn post_name(
 }
 
 // The entry of a directory by its index.
-fn post_indexed(
+fn post_indexed<P: Poster>(
     alloc: Global,
     tree: u64,
     key: Key,
     entry: &DirEntry<'_>,
-    into: &mut Postings,
+    into: &mut P,
 ) -> Result<(), NoMemory>
-    ensures { Posts into.old into.new result
+    ensures { P.Leaves into.old into.new result
         (indexed_postings tree key.objectid key.offset (entry_fields entry.now)) }
 {
     post_name(alloc, tree, key.objectid, 1, entry, into)?;
@@ -148,15 +152,15 @@ fn post_indexed(
 }
 
 // Whose name an entry by its index is: of an inode of the same tree, or of a subvolume.
-fn post_target(
+fn post_target<P: Poster>(
     alloc: Global,
     tree: u64,
     key: Key,
     entry: &DirEntry<'_>,
-    into: &mut Postings,
+    into: &mut P,
 ) -> Result<(), NoMemory>
     ensures { let at = entry.now.location in let name = entry.now.name.now in
-        Posts into.old into.new result
+        P.Leaves into.old into.new result
         (if at.kind == INODE_ITEM then
         to (kinds.link tree at.objectid key.objectid key.offset name) 0 1 ∷ []
         else (if at.kind == ROOT_ITEM then

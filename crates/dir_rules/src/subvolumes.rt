@@ -2,13 +2,12 @@
 
 ghost use Rattle.std.specs.Prelude.{◌≡◌, [], ◌∷◌};
 ghost use Rattle.accounts.specs.Kinds as kinds;
-ghost use Rattle.accounts.specs.Posts.{Posts};
 ghost use Rattle.records.specs.DirPostings.{root_link_postings, root_postings};
 ghost use Rattle.records.specs.Post.{to};
 ghost use Rattle.volume_items.specs.RootLinkItems.{link_fields_in};
 
 use crate::entries::add;
-use accounts::{Account, Postings};
+use accounts::{Account, Poster};
 use std::alloc::Global;
 use verdict::kinds::ROOT_REF;
 use verdict::{NoMemory, is_free_id};
@@ -16,8 +15,8 @@ use volume_items::{RootItem, RootLink};
 
 /// Posts what a root item says: how often its tree is named, where that is a subvolume. Where memory is wanting, the
 /// list stays as it was.
-pub fn post_root(alloc: Global, item: &RootItem, into: &mut Postings) -> Result<(), NoMemory>
-    ensures { Posts into.old into.new result (root_postings item.now) }
+pub fn post_root<P: Poster>(alloc: Global, item: &RootItem, into: &mut P) -> Result<(), NoMemory>
+    ensures { P.Leaves into.old into.new result (root_postings item.now) }
 {
     let id = item.key.objectid;
     if !is_free_id(id) {
@@ -28,12 +27,12 @@ pub fn post_root(alloc: Global, item: &RootItem, into: &mut Postings) -> Result<
 
 /// Posts the name of a subvolume, from one of its two sides: the key has the parent and then the child, or the
 /// reverse. Where memory is wanting, a first part of the postings stands behind the old list.
-pub fn post_root_link(
+pub fn post_root_link<P: Poster>(
     alloc: Global,
     item: &RootLink<'_>,
-    into: &mut Postings,
+    into: &mut P,
 ) -> Result<(), NoMemory>
-    ensures { Posts into.old into.new result (root_link_postings (link_fields_in item.now)) }
+    ensures { P.Leaves into.old into.new result (root_link_postings (link_fields_in item.now)) }
 {
     let (objectid, offset) = (item.key.objectid, item.key.offset);
     if item.key.kind == ROOT_REF {
@@ -44,15 +43,15 @@ pub fn post_root_link(
 }
 
 // The name of a subvolume from its parent's side.
-fn post_root_ref(
+fn post_root_ref<P: Poster>(
     alloc: Global,
     parent: u64,
     child: u64,
     item: &RootLink<'_>,
-    into: &mut Postings,
+    into: &mut P,
 ) -> Result<(), NoMemory>
     ensures { let link = item.now in
-        Posts into.old into.new result
+        P.Leaves into.old into.new result
         (to (kinds.subvolume_entry parent child link.dirid link.sequence link.name.now) 0 1
         ∷ to (kinds.subvolume_pair parent child link.dirid link.sequence link.name.now) 0 1
         ∷ to (kinds.subvolume child) 1 1 ∷ []) }
@@ -63,15 +62,15 @@ fn post_root_ref(
 }
 
 // The name as an entry of the parent has it.
-fn post_entry(
+fn post_entry<P: Poster>(
     alloc: Global,
     parent: u64,
     child: u64,
     item: &RootLink<'_>,
-    into: &mut Postings,
+    into: &mut P,
 ) -> Result<(), NoMemory>
     ensures { let link = item.now in
-        Posts into.old into.new result
+        P.Leaves into.old into.new result
         (to (kinds.subvolume_entry parent child link.dirid link.sequence link.name.now) 0 1 ∷ []) }
 {
     let (dir, index) = (item.dirid, item.sequence);
@@ -80,16 +79,16 @@ fn post_entry(
 }
 
 // The name as both sides have it, to the sum of the parent, 0, or of the child, 1.
-fn post_pair(
+fn post_pair<P: Poster>(
     alloc: Global,
     parent: u64,
     child: u64,
     field: u8,
     item: &RootLink<'_>,
-    into: &mut Postings,
+    into: &mut P,
 ) -> Result<(), NoMemory>
     ensures { let link = item.now in
-        Posts into.old into.new result
+        P.Leaves into.old into.new result
         (to (kinds.subvolume_pair parent child link.dirid link.sequence link.name.now) field 1
         ∷ []) }
 {
@@ -99,8 +98,8 @@ fn post_pair(
 }
 
 // A subvolume is named once more.
-fn post_child(alloc: Global, child: u64, into: &mut Postings) -> Result<(), NoMemory>
-    ensures { Posts into.old into.new result (to (kinds.subvolume child) 1 1 ∷ []) }
+fn post_child<P: Poster>(alloc: Global, child: u64, into: &mut P) -> Result<(), NoMemory>
+    ensures { P.Leaves into.old into.new result (to (kinds.subvolume child) 1 1 ∷ []) }
 {
     add(Account::subvolume(alloc, child), 1, 1, into)
 }

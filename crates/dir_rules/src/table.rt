@@ -1,12 +1,11 @@
 //! What a record posts.
 
-ghost use Rattle.accounts.specs.Posts.{Posts};
 ghost use Rattle.records.specs.DirPostings.{dir_postings};
 ghost use Rattle.records.specs.Part.{part_of};
 
 use crate::entries::{post_entries, post_names};
 use crate::subvolumes::{post_root, post_root_link};
-use accounts::{Ctx, Postings};
+use accounts::{Ctx, Poster};
 use records::Rec;
 use std::alloc::Global;
 use verdict::NoMemory;
@@ -19,14 +18,14 @@ use verdict::NoMemory;
 /// name; a subvolume is named from the root tree twice, and by an entry of its parent. Where memory is wanting, a
 /// first part of the postings stands behind the old list.
 #[tactic(auto, unfolding(records::specs::DirPostings::dir_postings))]
-pub fn post<C: Ctx>(
+pub fn post<C: Ctx, P: Poster>(
     alloc: Global,
     _ctx: &C,
     tree: u64,
     part: &Rec<'_>,
-    into: &mut Postings,
+    into: &mut P,
 ) -> Result<(), NoMemory>
-    ensures { Posts into.old into.new result (dir_postings tree (part_of part.now)) }
+    ensures { P.Leaves into.old into.new result (dir_postings tree (part_of part.now)) }
 {
     match *part {
         Rec::InodeRef(item) => post_names(alloc, tree, &item, into),

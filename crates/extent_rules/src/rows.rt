@@ -1,14 +1,14 @@
 //! The postings of a record to the accounts of extents and of references to them.
 
-ghost use Rattle.std.specs.Prelude.{◌≡◌, [], ◌∷◌};
+ghost use Rattle.std.specs.Prelude.{◌≡◌, [], ◌∷◌, flat_map};
 ghost use Rattle.extent_items.specs.ExtentItems.{extent_fields_in};
-ghost use Rattle.accounts.specs.Kinds.{block_ref, extent_form};
-ghost use Rattle.accounts.specs.Posts.{Posts};
+ghost use Rattle.accounts.specs.Kinds.{block_ref, data_ref, extent_form};
 ghost use Rattle.records.specs.Post.{to};
+ghost use Rattle.verdict.specs.declared.kinds.TheConstants.{EXTENT_ITEM};
 ghost use Rattle.records.specs.Part.{part_of};
-ghost use Rattle.records.specs.ExtentPostings.{extent_item_postings, extent_postings, range_postings, reference_account, reference_postings};
+ghost use Rattle.records.specs.ExtentPostings.{extent_item_postings, extent_postings, origin_of, range_postings, reference_account, reference_postings};
 
-use accounts::{Account, Ctx, Posting, Postings};
+use accounts::{Account, Ctx, Poster, Posting};
 use extent_items::{ExtentItem, Reference};
 use fs_items::FileExtent;
 use records::Rec;
@@ -25,14 +25,14 @@ const INLINE: u8 = 0;
 /// of blocks, extents, references that are items of their own, and ranges of files. The accounts take their memory
 /// from this allocator. Where memory is wanting a first part of these postings may stand there.
 #[tactic(auto, unfolding(records::specs::ExtentPostings::extent_postings))]
-pub fn post<C: Ctx>(
+pub fn post<C: Ctx, P: Poster>(
     alloc: Global,
     _ctx: &C,
     tree: u64,
     part: &Rec<'_>,
-    into: &mut Postings,
+    into: &mut P,
 ) -> Result<(), NoMemory>
-    ensures { Posts into.old into.new result (extent_postings tree (part_of part.now)) }
+    ensures { P.Leaves into.old into.new result (extent_postings tree (part_of part.now)) }
 {
     match part {
         Rec::Block { address, level } => post_block(alloc, tree, *address, *level, into),
@@ -45,39 +45,49 @@ pub fn post<C: Ctx>(
 
 /// Puts behind the postings what a block of a tree says: the tree's id, the block's logical address and its level. Where
 /// memory is wanting a first part of these postings may stand there.
-pub fn post_block(
+pub fn post_block<P: Poster>(
     alloc: Global,
     tree: u64,
     address: u64,
     level: u8,
-    into: &mut Postings,
+    into: &mut P,
 ) -> Result<(), NoMemory>
-    ensures { Posts into.old into.new result
+    ensures { P.Leaves into.old into.new result
         (to (block_ref tree address) 1 1 ∷ to (extent_form address 169 level) 1 1 ∷ []) }
 {
     let form = Account::extent_form(alloc, address, METADATA_ITEM, u64::from(level));
-    into.push_all([
-        Posting::to(Account::block_ref(alloc, tree, address), 1, 1),
-        Posting::to(form, 1, 1),
-    ])
+    into.put(Posting::to(Account::block_ref(alloc, tree, address), 1, 1))?;
+    into.put(Posting::to(form, 1, 1))
 }
 
 /// Puts behind the postings what an extent's item says, and the references in it. Where memory is wanting a first part of
 /// these postings may stand there.
-pub fn post_extent(
+pub fn post_extent<P: Poster>(
     alloc: Global,
     item: &ExtentItem<'_>,
-    into: &mut Postings,
+    into: &mut P,
 ) -> Result<(), NoMemory>
-    ensures { Posts into.old into.new result (extent_item_postings (extent_fields_in item.now)) }
+    ensures { P.Leaves into.old into.new result (extent_item_postings (extent_fields_in item.now)) }
 {
     let address = item.key.objectid;
     let form = Account::extent_form(alloc, address, item.key.kind, item.key.offset);
-    into.push_all([
-        Posting::to(Account::extent(alloc, address), 0, 1),
-        Posting::to(Account::extent(alloc, address), 1, item.refs),
-        Posting::to(form, 0, 1),
-    ])?;
+    into.put(Posting::to(Account::extent(alloc, address), 0, 1))?;
+    into.put(Posting::to(Account::extent(alloc, address), 1, item.refs))?;
+    into.put(Posting::to(form, 0, 1))?;
+    post_references(alloc, item, into)
+}
+
+// What the references in an extent's item say.
+fn post_references<P: Poster>(
+    alloc: Global,
+    item: &ExtentItem<'_>,
+    into: &mut P,
+) -> Result<(), NoMemory>
+    ensures { P.Leaves into.old into.new result
+        (flat_map (reference_postings item.now.key.objectid)
+        (extent_fields_in item.now).references) }
+{
+    let address = item.key.objectid;
     for reference in item.references() {
         post_reference(alloc, address, &reference, into)?;
     }
@@ -86,19 +96,18 @@ pub fn post_extent(
 
 /// Puts behind the postings what a reference to the extent at a logical address says, in its item or with an item of its
 /// own. Where memory is wanting a first part of these postings may stand there.
-pub fn post_reference(
+pub fn post_reference<P: Poster>(
     alloc: Global,
     address: u64,
     reference: &Reference,
-    into: &mut Postings,
+    into: &mut P,
 ) -> Result<(), NoMemory>
-    ensures { Posts into.old into.new result (reference_postings address reference.now) }
+    ensures { P.Leaves into.old into.new result (reference_postings address reference.now) }
 {
     let count = u64::from(reference.count);
-    into.push_all([
-        Posting::to(Account::extent(alloc, address), 2, count),
-        Posting::to(reference_account(alloc, address, reference), 0, count),
-    ])
+    let account = reference_account(alloc, address, reference);
+    into.put(Posting::to(Account::extent(alloc, address), 2, count))?;
+    into.put(Posting::to(account, 0, count))
 }
 
 /// The account of who refers to the extent at a logical address.
@@ -122,26 +131,35 @@ pub fn reference_account(alloc: Global, address: u64, reference: &Reference) -> 
 /// Puts behind the postings what a range of a file says, if it has an extent on the disk: it is not inline, and no hole.
 /// The extent would begin at the byte `origin` of the file, modulo 2^64. Where memory is wanting a first part of these
 /// postings may stand there.
-pub fn post_range(
+pub fn post_range<P: Poster>(
     alloc: Global,
     tree: u64,
     range: &FileExtent,
-    into: &mut Postings,
+    into: &mut P,
 ) -> Result<(), NoMemory>
-    ensures { Posts into.old into.new result (range_postings tree range.now) }
+    ensures { P.Leaves into.old into.new result (range_postings tree range.now) }
 {
     if range.sort == INLINE || range.extent == 0 {
         return Ok(());
     }
+    post_user(alloc, tree, range, into)
+}
+
+// A range of a file that has an extent on the disk.
+fn post_user<P: Poster>(
+    alloc: Global,
+    tree: u64,
+    range: &FileExtent,
+    into: &mut P,
+) -> Result<(), NoMemory>
+    ensures { let range = range.now in P.Leaves into.old into.new result
+        (to (data_ref tree range.extent range.key.objectid (origin_of range)) 1 1
+        ∷ to (extent_form range.extent EXTENT_ITEM range.extent_length) 1 1 ∷ []) }
+{
     let address = range.extent;
     let origin = range.key.offset.wrapping_sub(range.offset);
     let form = Account::extent_form(alloc, address, EXTENT_ITEM, range.extent_length);
-    into.push_all([
-        Posting::to(
-            Account::data_ref(alloc, tree, address, range.key.objectid, origin),
-            1,
-            1,
-        ),
-        Posting::to(form, 1, 1),
-    ])
+    let user = Account::data_ref(alloc, tree, address, range.key.objectid, origin);
+    into.put(Posting::to(user, 1, 1))?;
+    into.put(Posting::to(form, 1, 1))
 }

@@ -136,7 +136,7 @@ pub fn wider_image(alloc: Global) -> Result<Bytes, NoMemory>
 fn filled(alloc: Global) -> Result<Bytes, NoMemory>
     ensures { IfOk result (λ b. b ≡ wider_image_bytes) }
 {
-    let mut image = base_image(alloc)?.into_vec();
+    let mut image = base_image(alloc)?.into_vec()?;
     put_all(alloc, &mut image)?;
     Ok(Bytes::from(image))
 }

@@ -6,12 +6,11 @@
 
 ghost use Rattle.std.specs.Prelude.{◌≡◌, [], ◌∷◌, flat_map, length};
 ghost use Rattle.accounts.specs.Kinds as kinds;
-ghost use Rattle.accounts.specs.Posts.{Posts};
 ghost use Rattle.records.specs.InodePostings.{data_postings, inode_entry_postings, inode_item_postings, inode_name_postings, size_postings, target_postings, type_of_mode};
 ghost use Rattle.records.specs.Post.{to};
 ghost use Rattle.fs_items.specs.Lent.{dir_in, entry_fields, inode_ref_in};
 
-use accounts::{Account, Posting, Postings};
+use accounts::{Account, Poster, Posting};
 use fs_items::{DirEntry, DirItem, FileExtent, InodeItem, InodeRef};
 use std::alloc::Global;
 use verdict::NoMemory;
@@ -24,17 +23,17 @@ const INLINE: u8 = 0;
 const HOLE: u64 = 0;
 
 // Posts an amount to one sum of an inode.
-pub fn add(
+pub fn add<P: Poster>(
     alloc: Global,
     tree: u64,
     ino: u64,
     field: u8,
     amount: u64,
-    into: &mut Postings,
+    into: &mut P,
 ) -> Result<(), NoMemory>
-    ensures { Posts into.old into.new result (to (kinds.inode tree ino) field amount ∷ []) }
+    ensures { P.Leaves into.old into.new result (to (kinds.inode tree ino) field amount ∷ []) }
 {
-    into.push(Posting {
+    into.put(Posting {
         account: Account::inode(alloc, tree, ino),
         field,
         amount,
@@ -42,17 +41,18 @@ pub fn add(
 }
 
 // Posts 1 to one sum of a type of an inode.
-fn add_type(
+fn add_type<P: Poster>(
     alloc: Global,
     tree: u64,
     ino: u64,
     sort: u8,
     field: u8,
-    into: &mut Postings,
+    into: &mut P,
 ) -> Result<(), NoMemory>
-    ensures { Posts into.old into.new result (to (kinds.inode_type tree ino sort) field 1 ∷ []) }
+    ensures { P.Leaves into.old into.new result
+        (to (kinds.inode_type tree ino sort) field 1 ∷ []) }
 {
-    into.push(Posting {
+    into.put(Posting {
         account: Account::inode_type(alloc, tree, ino, sort),
         field,
         amount: 1,
@@ -60,27 +60,27 @@ fn add_type(
 }
 
 // A range of a file's data: it is of the inode, and takes bytes unless it is a hole.
-pub fn post_file_extent(
+pub fn post_file_extent<P: Poster>(
     alloc: Global,
     tree: u64,
     range: &FileExtent,
-    into: &mut Postings,
+    into: &mut P,
 ) -> Result<(), NoMemory>
     ensures { let inode = kinds.inode tree range.now.key.objectid in
-        Posts into.old into.new result (to inode 1 1 ∷ data_postings tree range.now) }
+        P.Leaves into.old into.new result (to inode 1 1 ∷ data_postings tree range.now) }
 {
     add(alloc, tree, range.key.objectid, 1, 1, into)?;
     post_data(alloc, tree, range, into)
 }
 
 // The bytes of a file's data that a range of it takes.
-fn post_data(
+fn post_data<P: Poster>(
     alloc: Global,
     tree: u64,
     range: &FileExtent,
-    into: &mut Postings,
+    into: &mut P,
 ) -> Result<(), NoMemory>
-    ensures { Posts into.old into.new result (data_postings tree range.now) }
+    ensures { P.Leaves into.old into.new result (data_postings tree range.now) }
 {
     let ino = range.key.objectid;
     if range.sort == INLINE {
@@ -93,13 +93,13 @@ fn post_data(
 }
 
 // An inode's item: it is there, with its links, its size or its bytes, and its type.
-pub fn post_inode(
+pub fn post_inode<P: Poster>(
     alloc: Global,
     tree: u64,
     item: &InodeItem,
-    into: &mut Postings,
+    into: &mut P,
 ) -> Result<(), NoMemory>
-    ensures { Posts into.old into.new result (inode_item_postings tree item.now) }
+    ensures { P.Leaves into.old into.new result (inode_item_postings tree item.now) }
 {
     let ino = item.key.objectid;
     let sort = type_of_mode(item.mode);
@@ -110,13 +110,13 @@ pub fn post_inode(
 }
 
 // The size of a directory, or the bytes that a regular file's or a symbolic link's data takes.
-fn post_size(
+fn post_size<P: Poster>(
     alloc: Global,
     tree: u64,
     item: &InodeItem,
-    into: &mut Postings,
+    into: &mut P,
 ) -> Result<(), NoMemory>
-    ensures { Posts into.old into.new result (size_postings tree item.now) }
+    ensures { P.Leaves into.old into.new result (size_postings tree item.now) }
 {
     let ino = item.key.objectid;
     match type_of_mode(item.mode) {
@@ -143,13 +143,13 @@ pub fn type_of_mode(mode: u32) -> u8
 }
 
 // The names of an inode.
-pub fn post_names(
+pub fn post_names<P: Poster>(
     alloc: Global,
     tree: u64,
     item: &InodeRef<'_>,
-    into: &mut Postings,
+    into: &mut P,
 ) -> Result<(), NoMemory>
-    ensures { Posts into.old into.new result
+    ensures { P.Leaves into.old into.new result
         (flat_map (inode_name_postings tree item.now.key.objectid) (inode_ref_in item.now).names) }
 {
     for _name in item.names() {
@@ -159,22 +159,22 @@ pub fn post_names(
 }
 
 // A name of an inode: it is of the inode, and is one of its links.
-fn post_link(alloc: Global, tree: u64, ino: u64, into: &mut Postings) -> Result<(), NoMemory>
+fn post_link<P: Poster>(alloc: Global, tree: u64, ino: u64, into: &mut P) -> Result<(), NoMemory>
     ensures { let inode = kinds.inode tree ino in
-        Posts into.old into.new result (to inode 1 1 ∷ to inode 3 1 ∷ []) }
+        P.Leaves into.old into.new result (to inode 1 1 ∷ to inode 3 1 ∷ []) }
 {
     add(alloc, tree, ino, 1, 1, into)?;
     add(alloc, tree, ino, 3, 1, into)
 }
 
 // The entries of a directory.
-pub fn post_entries(
+pub fn post_entries<P: Poster>(
     alloc: Global,
     tree: u64,
     item: &DirItem<'_>,
-    into: &mut Postings,
+    into: &mut P,
 ) -> Result<(), NoMemory>
-    ensures { Posts into.old into.new result
+    ensures { P.Leaves into.old into.new result
         (flat_map (inode_entry_postings tree item.now.key.objectid) (dir_in item.now).entries) }
 {
     for entry in item.entries() {
@@ -184,14 +184,14 @@ pub fn post_entries(
 }
 
 // An entry of a directory: it is of the directory, its name counts in the directory's size, and it leads somewhere.
-fn post_entry(
+fn post_entry<P: Poster>(
     alloc: Global,
     tree: u64,
     dir: u64,
     entry: &DirEntry<'_>,
-    into: &mut Postings,
+    into: &mut P,
 ) -> Result<(), NoMemory>
-    ensures { Posts into.old into.new result
+    ensures { P.Leaves into.old into.new result
         (inode_entry_postings tree dir (entry_fields entry.now)) }
 {
     let size = entry.name.len() as u64;
@@ -201,13 +201,13 @@ fn post_entry(
 }
 
 // What an entry leads to, where that is an inode of the same tree.
-fn post_target(
+fn post_target<P: Poster>(
     alloc: Global,
     tree: u64,
     entry: &DirEntry<'_>,
-    into: &mut Postings,
+    into: &mut P,
 ) -> Result<(), NoMemory>
-    ensures { Posts into.old into.new result (target_postings tree (entry_fields entry.now)) }
+    ensures { P.Leaves into.old into.new result (target_postings tree (entry_fields entry.now)) }
 {
     match entry.location.kind {
         INODE_ITEM => post_found(alloc, tree, entry.location.objectid, entry.sort, into),
@@ -216,14 +216,14 @@ fn post_target(
 }
 
 // An inode that an entry leads to: it is there, and of the entry's type.
-fn post_found(
+fn post_found<P: Poster>(
     alloc: Global,
     tree: u64,
     ino: u64,
     sort: u8,
-    into: &mut Postings,
+    into: &mut P,
 ) -> Result<(), NoMemory>
-    ensures { Posts into.old into.new result
+    ensures { P.Leaves into.old into.new result
         (to (kinds.inode tree ino) 1 1 ∷ to (kinds.inode_type tree ino sort) 0 1 ∷ []) }
 {
     add(alloc, tree, ino, 1, 1, into)?;

@@ -1,11 +1,10 @@
 //! What a record posts.
 
-ghost use Rattle.accounts.specs.Posts.{Posts};
 ghost use Rattle.records.specs.InodePostings.{inode_postings};
 ghost use Rattle.records.specs.Part.{part_of};
 
 use crate::rows::{add, post_entries, post_file_extent, post_inode, post_names};
-use accounts::{Ctx, Postings};
+use accounts::{Ctx, Poster};
 use records::Rec;
 use std::alloc::Global;
 use verdict::NoMemory;
@@ -17,14 +16,14 @@ use verdict::NoMemory;
 /// is there; a name beside counts as one of its links, and an entry's name in the size of its directory. Where memory
 /// is wanting, a first part of the postings stands behind the old list.
 #[tactic(auto, unfolding(records::specs::InodePostings::inode_postings))]
-pub fn post<C: Ctx>(
+pub fn post<C: Ctx, P: Poster>(
     alloc: Global,
     _ctx: &C,
     tree: u64,
     part: &Rec<'_>,
-    into: &mut Postings,
+    into: &mut P,
 ) -> Result<(), NoMemory>
-    ensures { Posts into.old into.new result (inode_postings tree (part_of part.now)) }
+    ensures { P.Leaves into.old into.new result (inode_postings tree (part_of part.now)) }
 {
     match *part {
         Rec::FileExtent(range) => post_file_extent(alloc, tree, &range, into),

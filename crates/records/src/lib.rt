@@ -2,14 +2,12 @@
 #![tactic(auto)]
 
 mod item;
-mod item_bytes;
 mod law;
 mod owned;
 mod rec;
 mod take;
 
 pub use item::read_item;
-pub use item_bytes::ItemBytes;
 pub use law::{high_leaves, visits_decide};
 pub use owned::{ItemAt, OwnedRec};
 pub use rec::{BlockAt, PointerAt, Rec, RecAt, Record};

@@ -4,11 +4,11 @@ ghost use Rattle.std.specs.Prelude.{◌≡◌, IfOk};
 ghost use Rattle.records.specs.Part.{part_of};
 ghost use Rattle.records.specs.Owned.{owned_part};
 
-use crate::{ItemBytes, Rec};
+use crate::Rec;
 use extent_items::{ExtentItem, GroupItem, KeyedRef};
 use fs_items::{DirItem, FileExtent, InodeItem, InodeRef, Orphan, SumRun, Xattr};
 use std::alloc::Global;
-use verdict::{Key, NoMemory};
+use verdict::{Bytes, Key, NoMemory};
 use volume_items::{ChunkItem, DevExtent, DeviceItem, RootItem, RootLink};
 
 /// A record that owns its bytes. Its variants are those of [`Rec`].
@@ -25,7 +25,7 @@ pub enum OwnedRec {
         /// The index of the name in that directory.
         sequence: u64,
         /// The name.
-        name: ItemBytes,
+        name: Bytes,
     },
     /// A device item.
     DeviceItem(DeviceItem),
@@ -38,7 +38,7 @@ pub enum OwnedRec {
         /// The chunk's type.
         class: u64,
         /// The bytes of the stripes.
-        stripes: ItemBytes,
+        stripes: Bytes,
     },
     /// A range of the device that a chunk takes.
     DevExtent(DevExtent),
@@ -53,7 +53,7 @@ pub enum OwnedRec {
         /// The flags.
         flags: u64,
         /// The bytes of the references.
-        references: ItemBytes,
+        references: Bytes,
     },
     /// A reference to an extent, with an item of its own.
     KeyedRef(KeyedRef),
@@ -66,7 +66,7 @@ pub enum OwnedRec {
         /// The item's key.
         key: Key,
         /// The item's bytes.
-        bytes: ItemBytes,
+        bytes: Bytes,
     },
     /// An extended attribute.
     Xattr(Xattr),
@@ -77,7 +77,7 @@ pub enum OwnedRec {
         /// The item's key.
         key: Key,
         /// The item's bytes.
-        bytes: ItemBytes,
+        bytes: Bytes,
     },
     /// A range of a file.
     FileExtent(FileExtent),
@@ -86,10 +86,10 @@ pub enum OwnedRec {
         /// The item's key.
         key: Key,
         /// The bytes of the sums.
-        sums: ItemBytes,
+        sums: Bytes,
     },
     /// An item that stays unread: its bytes.
-    Unread(ItemBytes),
+    Unread(Bytes),
     /// The superblock.
     Super {
         /// The bytes that extents and tree blocks use.
@@ -128,14 +128,14 @@ impl<'a> Rec<'a> {
                 key: item.key,
                 dirid: item.dirid,
                 sequence: item.sequence,
-                name: ItemBytes::of(alloc, item.name)?,
+                name: Bytes::of(alloc, item.name)?,
             },
             Rec::DeviceItem(item) => OwnedRec::DeviceItem(item),
             Rec::ChunkItem(item) => OwnedRec::ChunkItem {
                 key: item.key,
                 length: item.length,
                 class: item.class,
-                stripes: ItemBytes::of(alloc, item.stripes)?,
+                stripes: Bytes::of(alloc, item.stripes)?,
             },
             Rec::DevExtent(item) => OwnedRec::DevExtent(item),
             Rec::ExtentItem(item) => OwnedRec::ExtentItem {
@@ -143,27 +143,27 @@ impl<'a> Rec<'a> {
                 refs: item.refs,
                 generation: item.generation,
                 flags: item.flags,
-                references: ItemBytes::of(alloc, item.references)?,
+                references: Bytes::of(alloc, item.references)?,
             },
             Rec::KeyedRef(item) => OwnedRec::KeyedRef(item),
             Rec::GroupItem(item) => OwnedRec::GroupItem(item),
             Rec::InodeItem(item) => OwnedRec::InodeItem(item),
             Rec::InodeRef(item) => OwnedRec::InodeRef {
                 key: item.key,
-                bytes: ItemBytes::of(alloc, item.bytes)?,
+                bytes: Bytes::of(alloc, item.bytes)?,
             },
             Rec::Xattr(item) => OwnedRec::Xattr(item),
             Rec::Orphan(item) => OwnedRec::Orphan(item),
             Rec::DirItem(item) => OwnedRec::DirItem {
                 key: item.key,
-                bytes: ItemBytes::of(alloc, item.bytes)?,
+                bytes: Bytes::of(alloc, item.bytes)?,
             },
             Rec::FileExtent(item) => OwnedRec::FileExtent(item),
             Rec::SumRun(item) => OwnedRec::SumRun {
                 key: item.key,
-                sums: ItemBytes::of(alloc, item.sums)?,
+                sums: Bytes::of(alloc, item.sums)?,
             },
-            Rec::Unread(bytes) => OwnedRec::Unread(ItemBytes::of(alloc, bytes)?),
+            Rec::Unread(bytes) => OwnedRec::Unread(Bytes::of(alloc, bytes)?),
             Rec::Super { bytes_used } => OwnedRec::Super { bytes_used },
             Rec::Block { address, level } => OwnedRec::Block { address, level },
         })

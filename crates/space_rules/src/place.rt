@@ -1,6 +1,6 @@
 //! The place of an extent.
 
-ghost use Rattle.std.specs.Prelude.{◌≡◌, ◌+◌, ◌<◌, ◌^◌, [], ◌∷◌, IfSome, Some};
+ghost use Rattle.std.specs.Prelude.{◌≡◌, ◌+◌, ◌<◌, ◌^◌, [], ◌∷◌, IfSome, Some, if◌then◌else◌};
 ghost use Rattle.accounts.specs.Posts.{Posts};
 ghost use Rattle.accounts.specs.Context.{home_of};
 ghost use Rattle.accounts.specs.Kinds.{group_class, group_of, outside};
@@ -10,7 +10,7 @@ ghost use Rattle.records.specs.SpacePostings.{extent_length, is_data, is_other_c
 ghost use Rattle.space_rules.specs.RunPostings.{owned_run, rest_of_place, where_home};
 
 use crate::sectors::post_run;
-use accounts::{Account, Ctx, Home, Posting, Postings};
+use accounts::{Account, Ctx, Home, Poster, Posting, Postings};
 use extent_items::ExtentItem;
 use sector_runs::{SECTOR, SectorRun, SectorUse};
 use std::alloc::Global;
@@ -77,8 +77,8 @@ impl Place {
     }
 
     // The same without the sectors.
-    pub fn post_rest(&self, alloc: Global, into: &mut Postings) -> Result<(), NoMemory>
-        ensures { Posts into.old into.new result
+    pub fn post_rest<P: Poster>(&self, alloc: Global, into: &mut P) -> Result<(), NoMemory>
+        ensures { P.Leaves into.old into.new result
             (rest_of_place self.now.of_data self.now.address self.now.length self.now.home) }
     {
         match &self.home {
@@ -122,20 +122,34 @@ impl Place {
         Ok(())
     }
 
-    fn post_rest_in_home(
+    fn post_rest_in_home<P: Poster>(
         &self,
         alloc: Global,
         home: &Home,
-        into: &mut Postings,
+        into: &mut P,
     ) -> Result<(), NoMemory>
-        ensures { Posts into.old into.new result
+        ensures { P.Leaves into.old into.new result
             (rest_of_place self.now.of_data self.now.address self.now.length (Some home.now)) }
     {
-        into.push(self.taken(alloc, home))?;
-        if is_other_class(self.of_data, home.class) {
-            into.push(self.other_class(alloc))?;
+        into.put(self.taken(alloc, home))?;
+        self.post_class(alloc, home, into)
+    }
+
+    // Whether its group is of another class.
+    fn post_class<P: Poster>(
+        &self,
+        alloc: Global,
+        home: &Home,
+        into: &mut P,
+    ) -> Result<(), NoMemory>
+        ensures { P.Leaves into.old into.new result
+            (if is_other_class self.now.of_data home.now.class then
+            to (group_class self.now.address) 0 1 ∷ [] else []) }
+    {
+        if !is_other_class(self.of_data, home.class) {
+            return Ok(());
         }
-        Ok(())
+        into.put(self.other_class(alloc))
     }
 
     // What it takes of the group of its home.
@@ -153,10 +167,10 @@ impl Place {
     }
 
     // That no chunk has it.
-    fn post_outside(&self, alloc: Global, into: &mut Postings) -> Result<(), NoMemory>
-        ensures { Posts into.old into.new result (to (outside self.now.address) 0 1 ∷ []) }
+    fn post_outside<P: Poster>(&self, alloc: Global, into: &mut P) -> Result<(), NoMemory>
+        ensures { P.Leaves into.old into.new result (to (outside self.now.address) 0 1 ∷ []) }
     {
-        into.push_all([Posting::to(Account::outside(alloc, self.address), 0, 1)])
+        into.put(Posting::to(Account::outside(alloc, self.address), 0, 1))
     }
 }
 

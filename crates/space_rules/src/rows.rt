@@ -22,7 +22,7 @@ ghost use Rattle.space_rules.specs.RunPostings.{run_in, summed_run};
 
 use crate::place::place_of;
 use crate::sectors::{post_run_in, sectors_at};
-use accounts::{Account, Ctx, Posting, Postings};
+use accounts::{Account, Ctx, Poster, Posting, Postings};
 use extent_items::GroupItem;
 use fs_items::{FileExtent, SumRun};
 use records::Rec;
@@ -59,23 +59,23 @@ pub fn post<C: Ctx>(
 
 /// Puts the same postings there, in the same order, without those to sectors.
 #[tactic(auto, unfolding(records::specs::SpacePostings::space_postings))]
-pub fn post_rest<C: Ctx>(
+pub fn post_rest<C: Ctx, P: Poster>(
     alloc: Global,
     ctx: &C,
     tree: u64,
     part: &Rec<'_>,
-    into: &mut Postings,
+    into: &mut P,
 ) -> Result<(), NoMemory>
-    ensures { Posts into.old into.new result
+    ensures { P.Leaves into.old into.new result
         (rest_postings (C.context ctx.now) tree (part_of part.now)) }
 {
     match part {
         Rec::Super { bytes_used } => {
-            into.push_all([Posting::to(Account::bytes_used(alloc), 0, *bytes_used)])
+            into.put(Posting::to(Account::bytes_used(alloc), 0, *bytes_used))
         }
         Rec::ChunkItem(item) => post_chunk(alloc, item, into),
         Rec::DeviceItem(item) => {
-            into.push_all([Posting::to(Account::device(alloc, item.devid), 0, item.bytes_used)])
+            into.put(Posting::to(Account::device(alloc, item.devid), 0, item.bytes_used))
         }
         Rec::DevExtent(item) => post_dev_extent(alloc, item, into),
         Rec::GroupItem(item) => post_group(alloc, item, into),
@@ -104,22 +104,22 @@ pub fn run_of<C: Ctx>(ctx: &C, tree: u64, part: &Rec<'_>) -> Option<SectorRun>
 }
 
 // A chunk: its group, and each of its stripes.
-fn post_chunk(alloc: Global, item: &ChunkItem<'_>, into: &mut Postings) -> Result<(), NoMemory>
-    ensures { Posts into.old into.new result (chunk_postings (fields_in item.now)) }
+fn post_chunk<P: Poster>(alloc: Global, item: &ChunkItem<'_>, into: &mut P) -> Result<(), NoMemory>
+    ensures { P.Leaves into.old into.new result (chunk_postings (fields_in item.now)) }
 {
     let start = item.key.offset;
     let group = Account::group(alloc, start, item.length, item.class);
-    into.push(Posting::to(group, 1, 1))?;
+    into.put(Posting::to(group, 1, 1))?;
     for stripe in item.stripes() {
         let stripe = Account::stripe(alloc, start, stripe.devid, stripe.physical, item.length);
-        into.push(Posting::to(stripe, 0, 1))?;
+        into.put(Posting::to(stripe, 0, 1))?;
     }
     Ok(())
 }
 
 // A range of the device.
-fn post_dev_extent(alloc: Global, item: &DevExtent, into: &mut Postings) -> Result<(), NoMemory>
-    ensures { Posts into.old into.new result (dev_extent_postings item.now) }
+fn post_dev_extent<P: Poster>(alloc: Global, item: &DevExtent, into: &mut P) -> Result<(), NoMemory>
+    ensures { P.Leaves into.old into.new result (dev_extent_postings item.now) }
 {
     let device = item.key.objectid;
     let stripe = Account::stripe(
@@ -129,22 +129,18 @@ fn post_dev_extent(alloc: Global, item: &DevExtent, into: &mut Postings) -> Resu
         item.key.offset,
         item.length,
     );
-    into.push_all([
-        Posting::to(stripe, 1, 1),
-        Posting::to(Account::device(alloc, device), 1, item.length),
-    ])
+    into.put(Posting::to(stripe, 1, 1))?;
+    into.put(Posting::to(Account::device(alloc, device), 1, item.length))
 }
 
 // A block group.
-fn post_group(alloc: Global, item: &GroupItem, into: &mut Postings) -> Result<(), NoMemory>
-    ensures { Posts into.old into.new result (group_postings item.now) }
+fn post_group<P: Poster>(alloc: Global, item: &GroupItem, into: &mut P) -> Result<(), NoMemory>
+    ensures { P.Leaves into.old into.new result (group_postings item.now) }
 {
     let (start, length, class) = (item.key.objectid, item.key.offset, item.flags);
-    into.push_all([
-        Posting::to(Account::group(alloc, start, length, class), 0, 1),
-        Posting::to(Account::group(alloc, start, length, class), 2, item.used),
-        Posting::to(Account::bytes_used(alloc), 1, item.used),
-    ])
+    into.put(Posting::to(Account::group(alloc, start, length, class), 0, 1))?;
+    into.put(Posting::to(Account::group(alloc, start, length, class), 2, item.used))?;
+    into.put(Posting::to(Account::bytes_used(alloc), 1, item.used))
 }
 
 // The sectors that a range of a file shows of an extent that a chunk holds: where it is written, no hole, and its

@@ -12,28 +12,17 @@ use Rattle.accounts.proofs.Kept.{total_joined}
 use Rattle.accounts.proofs.Same.{same_account}
 use Rattle.ledger_index.specs.PlaceLaws.{both}
 use Rattle.ledger_index.specs.Sums.{amount_to, changed, greatest, lower, raise}
+use Rattle.touched_accounts.specs.AddingLaws.{with_more}
 use Rattle.touched_accounts.specs.Sums.{less_all, with_all}
 
 -- ---- one list after another
-
-pub with_none : (sums : Sums) → with_all sums [] ≡ sums
-unfolding with_all total_of
-with_none sums = fun_ext (λ account. fun_ext (λ n. let same : sums account n + 0 ≡ sums account n = omega arith in same))
 
 pub less_none : (sums : Sums) → less_all sums [] ≡ sums
 unfolding less_all total_of
 less_none sums = fun_ext (λ account. fun_ext (λ n. let same : sums account n - 0 ≡ sums account n = omega arith in same))
 
-added_both : (s x y both : ℕ) → both ≡ x + y → (s + x) + y ≡ s + both
-added_both s x y both is = omega arith
-
 less_both : (s x y both : ℕ) → both ≡ x + y → (s - x) - y ≡ s - both
 less_both s x y both is = omega arith
-
-with_more : (sums : Sums) (ps qs : List Posting) → with_all (with_all sums ps) qs ≡ with_all sums (ps ++ qs)
-unfolding with_all
-with_more sums ps qs = fun_ext (λ account. fun_ext (λ n.
-    added_both (sums account n) (total_of ps account n) (total_of qs account n) (total_of (ps ++ qs) account n) (total_joined ps qs account n)))
 
 less_more : (sums : Sums) (ps qs : List Posting) → less_all (less_all sums ps) qs ≡ less_all sums (ps ++ qs)
 unfolding less_all
@@ -76,14 +65,17 @@ take_one : (sums : Sums) (p : Posting) → changed lower sums p.account p.field 
 unfolding changed less_all total_of added
 take_one sums p = fun_ext (λ other. fun_ext (λ n. taken_one (amount_to p.account p.field p.amount other n) (sums other n)))
 
+pub put_last : (old new : Sums) (p : Posting) → new ≡ changed raise old p.account p.field p.amount → new p.account p.field < greatest
+    → new ≡ with_all old (p ∷ [])
+put_last old new p is room = is ∙ put_one old p (subst (λ (s : Sums). s p.account p.field < greatest) is room)
+
 -- ---- a step of a loop
 
 pub put_next : (old now new : Sums) (ps : List Posting) (i : ℕ) (d p : Posting) → i < length ps → p ≡ get_or ps i d
     → now ≡ with_all old (take i ps) → new ≡ changed raise now p.account p.field p.amount → new p.account p.field < greatest
     → new ≡ with_all old (take (i + 1) ps)
 put_next old now new ps i d p inside item so is room =
-    is
-    ∙ put_one now p (subst (λ (s : Sums). s p.account p.field < greatest) is room)
+    put_last now new p is room
     ∙ ap (λ (s : Sums). with_all s (p ∷ [])) so
     ∙ with_more old (take i ps) (p ∷ [])
     ∙ ap (λ (q : Posting). with_all old (take i ps ++ q ∷ [])) item

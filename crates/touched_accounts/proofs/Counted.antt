@@ -1,26 +1,12 @@
 -- A counter of looks, some looks later.
 use Rattle.std.proofs.Common.{◌≡◌, ℕ, zero, suc, ◌+◌, ◌≤◌, refl, ap, sym, ◌∙◌, arith}
 use Rattle.recon_disk.specs.Outside.{counted}
+use Rattle.touched_accounts.specs.AddingLaws.{counted_suc}
 use Rattle.touched_accounts.specs.Looks.{HaveLooks, counted_times}
 
 -- one look more
-counted_suc : (n m now : ℕ) → m ≡ suc n → counted_times m now ≡ counted (counted_times n now)
-unfolding counted_times
-counted_suc n m now is = ap (λ k. counted_times k now) is
-
 pub counted_next : (n before between after : ℕ) → between ≡ counted_times n before → after ≡ counted between → after ≡ counted_times (n + 1) before
 counted_next n before between after was more = more ∙ ap counted was ∙ sym (counted_suc n (n + 1) before (omega arith))
-
--- none
-pub counted_none : (now : ℕ) → counted_times 0 now ≡ now
-unfolding counted_times
-counted_none now = refl
-
--- some looks and then others
-pub counted_both : (m n now : ℕ) → counted_times m (counted_times n now) ≡ counted_times (m + n) now
-unfolding counted_times
-counted_both zero n now = let none : n ≡ 0 + n = omega arith in ap (λ k. counted_times k now) none
-counted_both (suc m) n now = ap counted (counted_both m n now) ∙ sym (counted_suc (m + n) (suc m + n) now (omega arith))
 
 -- it counts no more than the looks
 pub counted_few : (n now : ℕ) → counted_times n now ≤ now + n

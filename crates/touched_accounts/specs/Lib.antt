@@ -1,3 +1,5 @@
+pub mod Adding
+pub mod AddingLaws
 pub mod Laws
 pub mod Least
 pub mod Looks

@@ -1,7 +1,8 @@
 //! Owned bytes, which contracts see as their list.
 
-ghost use Rattle.std.specs.Prelude.{◌≡◌, IfOk};
+ghost use Rattle.std.specs.Prelude.{◌≡◌, [], ◌∷◌, ◌++◌, IfOk, OnOk, OnErr};
 
+use smallvec::SmallVec;
 use std::alloc::Global;
 use std::marker::Model;
 
@@ -9,10 +10,11 @@ use std::marker::Model;
 #[derive(Clone, Copy, Debug, PartialEq, Eq)]
 pub struct NoMemory;
 
-/// An owned list of bytes, seen as that list.
+/// An owned list of bytes, seen as that list. Most names and items are short: up to 40 bytes that are copied stand in the value, and more of
+/// them in memory of their own.
 #[derive(Debug, Drop)]
 pub struct Bytes {
-    list: Vec<u8>,
+    list: SmallVec<u8, 40>,
 }
 
 impl Model for Bytes {
@@ -28,8 +30,19 @@ impl Bytes {
     pub fn of(alloc: Global, s: &[u8]) -> Result<Bytes, NoMemory>
         ensures { IfOk result (λ b. b ≡ s.now) }
     {
-        match Vec::from_slice(alloc, s) {
+        match SmallVec::from_slice(alloc, s) {
             Ok(list) => Ok(Bytes { list }),
+            Err(_) => Err(NoMemory),
+        }
+    }
+
+    /// Puts a byte at the end. Out of memory, the bytes stay.
+    pub fn push(&mut self, byte: u8) -> Result<(), NoMemory>
+        ensures ok { OnOk result (self.new ≡ self.old ++ byte ∷ []) }
+        ensures err { OnErr result (self.new ≡ self.old) }
+    {
+        match self.list.push(byte) {
+            Ok(()) => Ok(()),
             Err(_) => Err(NoMemory),
         }
     }
@@ -41,12 +54,15 @@ impl Bytes {
         self.list.as_slice()
     }
 
-    /// The bytes, as a vector of the same memory.
-    pub fn into_vec(self) -> Vec<u8>
-        ensures { result.items ≡ self }
+    /// The bytes, as a vector: of the same memory, where they are not in the value itself.
+    pub fn into_vec(self) -> Result<Vec<u8>, NoMemory>
+        ensures { IfOk result (λ vec. vec.items ≡ self) }
     {
         let Bytes { list } = self;
-        list
+        match list.into_vec() {
+            Ok(vec) => Ok(vec),
+            Err(_) => Err(NoMemory),
+        }
     }
 }
 
@@ -54,6 +70,8 @@ impl From<Vec<u8>> for Bytes {
     ghost from_gives = { λ list b. b ≡ list.items };
 
     fn from(list: Vec<u8>) -> Bytes {
-        Bytes { list }
+        Bytes {
+            list: SmallVec::from_vec(list),
+        }
     }
 }

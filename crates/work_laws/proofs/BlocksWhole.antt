@@ -22,7 +22,7 @@ use Rattle.work_laws.specs.Blocks.{BlocksCountedLaw}
 use Rattle.tree_change.specs.Accepted.{unshared_old}
 use Rattle.work_laws.specs.Work.{unshared_new}
 use Rattle.work_laws.proofs.BlocksChanges.{few_changes, spans_less}
-use Rattle.tree_change.proofs.AllFew.{entries_permuted}
+use Rattle.tree_change.proofs.FewSums.{entries_permuted}
 use Rattle.work_laws.proofs.BlocksEntries.{items_less}
 
 -- items that are those of some pairs in another order are as few

@@ -76,7 +76,7 @@ impl WriteCache {
         }
     }
 
-    /// Puts the bytes of this write over what is pending there. They are not copied where nothing
+    /// Puts the bytes of this write over what is pending there. Bytes in memory of their own are not copied where nothing
     /// pending meets or touches them. When memory is wanting, nothing changes.
     #[tactic(auto, using(crate::proofs::CacheLaws::with_bytes_none))]
     pub fn hold(&mut self, write: HeldWrite) -> Result<(), NoMemory>
@@ -88,7 +88,8 @@ impl WriteCache {
             return Ok(());
         }
         self.joined = false;
-        match put_own(&mut self.runs, self.alloc, write.at, write.bytes.into_vec()) {
+        let bytes = write.bytes.into_vec()?;
+        match put_own(&mut self.runs, self.alloc, write.at, bytes) {
             Ok(()) => Ok(()),
             Err(_) => Err(NoMemory),
         }

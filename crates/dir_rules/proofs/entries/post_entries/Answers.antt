@@ -3,14 +3,14 @@ use Rattle.accounts.proofs.Behind.{leaves_all, leaves_cut, leaves_none, leaves_r
 use Rattle.dir_rules.proofs.entries.post_entries.Goals as goal
 
 pub loop-entry-init : goal.loop-entry-init
-loop-entry-init c = leaves_all (cc)
+loop-entry-init g c = leaves_all (cc)
 
 pub loop-entry-preserved : goal.loop-entry-preserved
-loop-entry-preserved c = leaves_rest c.loop-entry.invariant c.in-Some.ensures.steps c.post_entry.ensures (search rules)
+loop-entry-preserved g c = leaves_rest g.met.P.Poster.passes c.loop-entry.invariant c.in-Some.ensures.steps c.post_entry.ensures (search rules)
 
 pub returns-in_err-post_entry : goal.returns-in_err-post_entry
-returns-in_err-post_entry c =
-    leaves_cut c.loop-entry.invariant c.in-Some.ensures.steps c.post_entry.ensures (search rules) c.from_residual.ensures.0
+returns-in_err-post_entry g c =
+    leaves_cut g.met.P.Poster.passes c.loop-entry.invariant c.in-Some.ensures.steps c.post_entry.ensures (search rules) c.from_residual.ensures.0
 
 pub returns : goal.returns
-returns c = leaves_none c.loop-entry.invariant c.in-None.ensures.steps.0
+returns g c = leaves_none g.met.P.Poster.passes c.loop-entry.invariant c.in-None.ensures.steps.0

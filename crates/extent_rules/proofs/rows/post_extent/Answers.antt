@@ -1,16 +1,24 @@
-use Rattle.std.proofs.Common.{ap}
-use Rattle.std.specs.List.{flat_map}
-use Rattle.extent_items.specs.ExtentItems.{extent_fields_in}
-use Rattle.records.specs.ExtentPostings.{reference_postings}
-use Rattle.accounts.proofs.SoFar.{so_far_cut, so_far_first}
+use Rattle.std.proofs.Common.{rules}
+use Rattle.accounts.proofs.Behind.{posts_cut, posts_more}
 use Rattle.extent_rules.proofs.rows.post_extent.Goals as goal
 
-pub returns-in_err-push_all : goal.returns-in_err-push_all
-returns-in_err-push_all c =
-    let item = extent_fields_in c.args.item.now in
-    so_far_first _ _ _ _ (flat_map (reference_postings item.key.objectid) item.references) _ c.from_residual.ensures.0 (cc) c.in_err-push_all.ensures.some
+pub returns-in_err-put : goal.returns-in_err-put
+returns-in_err-put g c =
+    posts_cut g.met.P.Poster.passes _ (rw c.extent.ensures at (rw c.to.ensures at c.put.ensures)) (search rules) c.from_residual.ensures.0
 
-pub returns-in_err-post_reference : goal.returns-in_err-post_reference
-returns-in_err-post_reference c =
-    let each = flat_map (reference_postings c.args.item.now.key.objectid) in
-    so_far_cut _ _ _ _ _ _ _ _ c.from_residual-in_err-post_reference.ensures.0 c.loop-reference.invariant (ap each c.in-Some.ensures.steps) c.in_err-post_reference.ensures.some
+pub returns-in_err-put-2 : goal.returns-in_err-put-2
+returns-in_err-put-2 g c =
+    posts_more g.met.P.Poster.passes (rw c.extent.ensures at (rw c.to.ensures at c.put.ensures)) (search rules)
+    (posts_cut g.met.P.Poster.passes _ (rw c.extent-2.ensures at (rw c.to-2.ensures at c.put-2.ensures)) (search rules) c.from_residual-in_err-put-2.ensures.0)
+
+pub returns-in_err-put-3 : goal.returns-in_err-put-3
+returns-in_err-put-3 g c =
+    posts_more g.met.P.Poster.passes (rw c.extent.ensures at (rw c.to.ensures at c.put.ensures)) (search rules)
+    (posts_more g.met.P.Poster.passes (rw c.extent-2.ensures at (rw c.to-2.ensures at c.put-2.ensures)) (search rules)
+    (posts_cut g.met.P.Poster.passes _ (rw c.extent_form-form.ensures at (rw c.to-3.ensures at c.put-3.ensures)) (search rules) c.from_residual-in_err-put-3.ensures.0))
+
+pub returns : goal.returns
+returns g c =
+    posts_more g.met.P.Poster.passes (rw c.extent.ensures at (rw c.to.ensures at c.put.ensures)) (search rules)
+    (posts_more g.met.P.Poster.passes (rw c.extent-2.ensures at (rw c.to-2.ensures at c.put-2.ensures)) (search rules)
+    (posts_more g.met.P.Poster.passes (rw c.extent_form-form.ensures at (rw c.to-3.ensures at c.put-3.ensures)) (search rules) c.post_references.ensures))

@@ -5,5 +5,5 @@ use Rattle.inode_rules.proofs.rows.post_entries.Given as goal
 
 -- what posts those that are left posts all
 abbrev pub invariant-loop-entry : goal.invariant-loop-entry
-invariant-loop-entry l =
-    Leaves (inode_entry_postings l.tree l.item.key.objectid) l.fn.into l.into (entries_left l.entry-iterator) (dir_in l.item).entries
+invariant-loop-entry g l =
+    Leaves g.P.Poster.Leaves (inode_entry_postings l.tree l.item.key.objectid) l.fn.into l.into (entries_left l.entry-iterator) (dir_in l.item).entries

@@ -3,14 +3,14 @@ use Rattle.accounts.proofs.Behind.{leaves_all, leaves_cut, leaves_none, leaves_r
 use Rattle.inode_rules.proofs.rows.post_names.Goals as goal
 
 pub loop-name-init : goal.loop-name-init
-loop-name-init c = leaves_all (cc)
+loop-name-init g c = leaves_all (cc)
 
 pub loop-name-preserved : goal.loop-name-preserved
-loop-name-preserved c = leaves_rest c.loop-name.invariant c.in-Some.ensures.steps c.post_link.ensures (search rules)
+loop-name-preserved g c = leaves_rest g.met.P.Poster.passes c.loop-name.invariant c.in-Some.ensures.steps c.post_link.ensures (search rules)
 
 pub returns-in_err-post_link : goal.returns-in_err-post_link
-returns-in_err-post_link c =
-    leaves_cut c.loop-name.invariant c.in-Some.ensures.steps c.post_link.ensures (search rules) c.from_residual.ensures.0
+returns-in_err-post_link g c =
+    leaves_cut g.met.P.Poster.passes c.loop-name.invariant c.in-Some.ensures.steps c.post_link.ensures (search rules) c.from_residual.ensures.0
 
 pub returns : goal.returns
-returns c = leaves_none c.loop-name.invariant c.in-None.ensures.steps.0
+returns g c = leaves_none g.met.P.Poster.passes c.loop-name.invariant c.in-None.ensures.steps.0

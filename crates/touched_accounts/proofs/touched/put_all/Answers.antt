@@ -1,7 +1,8 @@
 use Rattle.std.proofs.Common.{sym, arith, rules}
 use Rattle.ledger_index.specs.Ledger.{entries_of, sums_of}
-use Rattle.touched_accounts.proofs.Changed.{put_next, with_none}
-use Rattle.touched_accounts.proofs.Counted.{counted_next, counted_none, looks_more}
+use Rattle.touched_accounts.specs.AddingLaws.{counted_none, with_none}
+use Rattle.touched_accounts.proofs.Changed.{put_next}
+use Rattle.touched_accounts.proofs.Counted.{counted_next, looks_more}
 use Rattle.touched_accounts.proofs.touched.put_all.Goals as goal
 
 pub loop-posting-init : goal.loop-posting-init

@@ -5,5 +5,5 @@ use Rattle.commit_judge.proofs.filler.Filling.new.Goals as goal
 
 pub returns : goal.returns
 returns g c =
-    none_filled c.args.map.now c.args.nodesize (sums_of c.new.result) c.new-2.result (times_of c.new-3.result) c.new-4.result
-    c.looks-began.result c.args.steps.now c.new.ensures.sums c.new-2.ensures c.new-3.ensures c.new-4.ensures.empty c.looks-began.ensures
+    none_filled c.args.map.now c.args.nodesize (sums_of c.new.result) (times_of c.new-2.result) c.new-3.result
+    c.looks-began.result c.args.steps.now c.new.ensures.sums c.new-2.ensures c.new-3.ensures.empty c.looks-began.ensures

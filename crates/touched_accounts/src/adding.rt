@@ -1,0 +1,37 @@
+//! A ledger to which postings are added as they come.
+
+ghost use Rattle.ledger_index.specs.Ledger.{entries_of};
+ghost use Rattle.touched_accounts.specs.Adding.{Adds};
+ghost use Rattle.touched_accounts.specs.AddingLaws.{adds_pass};
+ghost use Rattle.touched_accounts.specs.Looks.{HaveLooks};
+
+use accounts::{Poster, Posting};
+use ledger_index::LedgerIndex;
+use recon_disk::Steps;
+use verdict::NoMemory;
+
+/// A ledger, and the counter of its looks. Each posting that is handed to it is added by a look, and no list of them is made.
+#[derive(Drop)]
+pub struct Adding<'s, L> {
+    /// The ledger.
+    pub ledger: LedgerIndex<L>,
+    /// The counter.
+    pub steps: &'s mut Steps<L>,
+}
+
+impl<'s, L> Poster for Adding<'s, L> {
+    ghost Leaves = { λ old new result postings. Adds old new result postings };
+
+    ghost passes = { adds_pass };
+
+    fn put(&mut self, posting: Posting) -> Result<(), NoMemory> {
+        let (field, amount) = (posting.field, posting.amount);
+        let full = self
+            .ledger
+            .add_saturating(&posting.account, field, amount, self.steps)?;
+        if full {
+            return Err(NoMemory);
+        }
+        Ok(())
+    }
+}
