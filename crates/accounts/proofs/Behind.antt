@@ -32,16 +32,6 @@ pub posts_more : {S : Type 0} {leaves : Relation S} {old mid new : S} {before re
 posts_more {leaves = leaves} {old = old} {mid = mid} {new = new} {before = before} {result = result} {first = first} {later = later} laws posts done rest =
     more leaves laws old mid new before result first later posts done rest
 
-missed : {S : Type 0} (leaves : Relation S) → Passes leaves → (now : S) (result : Done) (first : Posting) (later : List Posting)
-    → IsErr result → leaves now now result (first ∷ later)
-missed leaves laws now (Ok t) first later fails = absurd (cc)
-missed leaves laws now (Err e) first later fails = laws.missed now e first later
-
--- a call failed before it put any
-pub posts_missed : {S : Type 0} {leaves : Relation S} {now : S} {result : Done} {first : Posting} {later : List Posting} → Passes leaves
-    → IsErr result → leaves now now result (first ∷ later)
-posts_missed {leaves = leaves} {now = now} {result = result} {first = first} {later = later} laws fails = missed leaves laws now result first later fails
-
 -- so many of some things are left that what leaves their rows behind leaves those of all
 pub record Leaves {A S : Type 0} (leaves : Relation S) (row : A → List Posting) (old now : S) (left all : List A) : Type 0 where
   pub then : (new : S) (result : Done) → leaves now new result (flat_map row left) → leaves old new result (flat_map row all)

@@ -54,8 +54,3 @@ so_far_cut old now next all here some left result failed before split part =
     let parted : here ≡ take part.count some ++ rest = split ∙ ap (λ xs. xs ++ left) (sym (take-append-drop part.count some)) ∙ append_assoc (take part.count some) (drop part.count some) left in
     let more : 0 < length rest = omega (arith, part.fewer, length-append (drop part.count some) left, length-drop part.count some) in
     posts_err old next all result failed (front_stands old next all rest (so_far_more old now next all here (take part.count some) rest before parted part.front) more)
-
--- the first call, which posts some of all, fails
-pub so_far_first : {T E : Type 0} (old next all some left : List Posting) (result : Result T E) → IsErr result → all ≡ some ++ left → StandInPart old next some → Posts old next result all
-so_far_first old next all some left result failed split part =
-    so_far_cut old old next all all some left result failed (so_far_none old all) split part

@@ -34,12 +34,13 @@ impl Posting {
     }
 }
 
-/// One that postings are handed to, one by one.
+/// One that postings are handed to, one by one: a list of them, or what adds them up as they come.
 pub trait Poster {
     ghost use Rattle.std.specs.Prelude.{List};
     ghost use Rattle.accounts.specs.declared.postings.Posting.{Posting};
 
-    /// What a call that hands it postings leaves: what it was and what it is, what the call gives, and the postings.
+    /// How it stands after a call that handed it postings: what it was, what it is now, what the call answered, and
+    /// the postings.
     ghost Leaves: { Self → Self → Done → List Posting → Type 0 };
 
     /// Hands it a posting. Out of memory, it may have taken it or not.
@@ -92,7 +93,7 @@ impl Postings {
         self.list.as_slice()
     }
 
-    /// Puts a posting at the end. Where memory is wanting the list stays.
+    /// Puts a posting at the end. Out of memory, the list stays.
     pub fn push(&mut self, posting: Posting) -> Result<(), NoMemory>
         ensures ok { OnOk result (self.new ≡ self.old ++ posting ∷ []) }
         ensures err { OnErr result (self.new ≡ self.old) }
@@ -103,7 +104,7 @@ impl Postings {
         }
     }
 
-    /// Puts postings at the end, in order. Where memory is wanting the first of them may stand there.
+    /// Puts postings at the end, in order. Out of memory, the first of them may stand there.
     pub fn push_all<const N: usize>(&mut self, postings: [Posting; N]) -> Result<(), NoMemory>
         requires { N < 256 }
         ensures { Posts self.old self.new result postings.entry }

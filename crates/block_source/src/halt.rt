@@ -14,7 +14,7 @@ use verdict::{Finding, NoMemory};
 pub enum Fault {
     /// A call of the disk failed.
     Disk,
-    /// Memory was wanting.
+    /// Out of memory.
     NoMemory,
 }
 
@@ -25,7 +25,7 @@ pub enum Halt {
     Found(Finding),
     /// A call of the disk failed.
     Disk,
-    /// Memory was wanting.
+    /// Out of memory.
     NoMemory,
 }
 

@@ -14,7 +14,7 @@ pub enum Why {
     File,
     /// The images differ in length.
     Lengths,
-    /// Memory was wanting.
+    /// Out of memory.
     Memory,
     /// A rule fails: on a superblock, or on what the old image holds.
     Found(Finding),

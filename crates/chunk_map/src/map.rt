@@ -91,7 +91,7 @@ impl ChunkMap {
         Ok(Sys::Map(map))
     }
 
-    /// Puts a chunk at the end of the list. When memory is wanting, the list stays as it was, and from
+    /// Puts a chunk at the end of the list. Out of memory, the list stays as it was, and from
     /// then on a look at the copies costs a pass. It costs a binary search among the chunks by start, where
     /// what stands behind the place found moves by one (nothing, where chunks come by start), and searches
     /// among the copies by offset, in whatever order these come.

@@ -12,7 +12,7 @@ use verdict::{Chunk, NoMemory};
 pub type Copies = BTreeMap<u64, Chunk>;
 
 /// Puts the copies of a chunk among copies none of which meet, and keeps up whether none do. Where one would
-/// meet another it is left out, and no more are put then. When memory is wanting, the first copy may stand there.
+/// meet another it is left out, and no more are put then. Out of memory, the first copy may stand there.
 pub fn put_copies(copies: &mut Copies, clear: &mut bool, chunk: &Chunk) -> Result<(), NoMemory>
     requires { AreTurned copies.old.entries }
     ensures kept { AreTurned copies.new.entries }
@@ -43,7 +43,7 @@ fn copy_at(chunk: &Chunk, at: u64) -> Chunk
     }
 }
 
-/// Puts a copy among copies none of which meet, where it meets none. When memory is wanting, nothing changes.
+/// Puts a copy among copies none of which meet, where it meets none. Out of memory, nothing changes.
 fn put_copy(copies: &mut Copies, clear: &mut bool, copy: Chunk) -> Result<(), NoMemory>
     requires { AreTurned copies.old.entries }
     ensures kept { AreTurned copies.new.entries }

@@ -1,6 +1,6 @@
 //! What makes the tables of an index of the records of an image.
 
-ghost use Rattle.std.specs.Prelude.{◌≡◌, ℕ, ◌+◌, ◌≤◌, [], IfOk, IfSome, OnOk, length, true};
+ghost use Rattle.std.specs.Prelude.{◌≡◌, ◌+◌, ◌≤◌, IfOk, IfSome, OnOk, length, true};
 ghost use Rattle.verdict.specs.Trees.{is_node_size};
 ghost use Rattle.recon_disk.specs.Keeping.{Kept};
 ghost use Rattle.write_cache.specs.Cache.{overlaid};
@@ -18,7 +18,6 @@ ghost use Rattle.records.specs.Context.{sum_free_inode};
 ghost use Rattle.shared_trees.specs.LivePairs.{table_of};
 ghost use Rattle.span_index.specs.Table.{times_of};
 ghost use Rattle.touched_accounts.specs.Looks.{HaveLooks, counted_times};
-ghost use Rattle.touched_accounts.specs.Sums.{with_all};
 ghost use Rattle.account_sums.specs.Sums.{or_free};
 ghost use Rattle.commit_judge.specs.Filling.{AreTablesOf, FewToMake, filled_in, looks_of, named_walk, of_none, with_located, with_option};
 ghost use Rattle.commit_judge.specs.Flags.{free_in};

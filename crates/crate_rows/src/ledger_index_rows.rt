@@ -133,33 +133,132 @@ fn finds_the_least_broken_account(rt: HostRuntime) -> Result<(), NoMemory> {
     Ok(())
 }
 
+// An inode whose number takes more than 32 bits.
+fn far_inode(alloc: Global, i: u64) -> Account {
+    Account::inode(alloc, 5, 4_294_967_296 + i * 128)
+}
+
 #[test]
 fn finds_accounts_among_many(rt: HostRuntime) -> Result<(), NoMemory> {
     let alloc = rt.alloc();
     let mut steps = Steps::seeded((), [9; 16]);
     let mut ledger = LedgerIndex::new(alloc);
-    // Inodes whose numbers are 128 apart: so their accounts are in all parts of the table, two in each.
+    // Inodes whose numbers are beyond 32 bits and 128 apart: so their accounts have entries of their own, in all parts of
+    // the table, two in each.
     for i in 0..2048 {
-        let inode = Account::inode(alloc, 5, i * 128);
+        let inode = far_inode(alloc, i);
         ledger.add(&inode, 0, 1, &mut steps)?;
         ledger.add(&inode, 4, i + 1, &mut steps)?;
         assert!(rt; !ledger.breaks(&inode, &mut steps));
     }
     assert!(rt; ledger.least_broken(&mut steps)?.is_none());
     for i in [1000, 700, 3, 2, 0] {
-        let inode = Account::inode(alloc, 5, i * 128);
+        let inode = far_inode(alloc, i);
         ledger.take(&inode, 4, i + 1, &mut steps);
         assert!(rt; ledger.get(&inode, &mut steps) == two(1, 0));
         assert!(rt; ledger.breaks(&inode, &mut steps));
         assert!(rt; ledger.least_broken(&mut steps)? == Some(inode));
     }
     for i in 0..2048 {
-        let inode = Account::inode(alloc, 5, i * 128);
+        let inode = far_inode(alloc, i);
         ledger.take(&inode, 0, 1, &mut steps);
         ledger.take(&inode, 4, 2049, &mut steps);
         assert!(rt; ledger.get(&inode, &mut steps) == two(0, 0));
         assert!(rt; !ledger.breaks(&inode, &mut steps));
     }
     assert!(rt; ledger.least_broken(&mut steps)?.is_none());
+    Ok(())
+}
+
+// The accounts of an inode and of three of its types.
+fn of_inode(alloc: Global, ino: u64) -> [Account; 4] {
+    [
+        Account::inode(alloc, 5, ino),
+        Account::inode_type(alloc, 5, ino, 1),
+        Account::inode_type(alloc, 5, ino, 2),
+        Account::inode(alloc, 6, ino),
+    ]
+}
+
+#[test]
+fn keeps_inodes_of_a_page_apart(rt: HostRuntime) -> Result<(), NoMemory> {
+    let alloc = rt.alloc();
+    let mut steps = Steps::seeded((), [3; 16]);
+    let mut ledger = LedgerIndex::new(alloc);
+    let inodes = [
+        0,
+        1,
+        15,
+        16,
+        17,
+        31,
+        32,
+        4_294_967_295,
+        4_294_967_296,
+        u64::MAX,
+    ];
+    let mut amount = 1;
+    for ino in inodes {
+        for account in &of_inode(alloc, ino) {
+            ledger.add(account, 0, amount, &mut steps)?;
+            ledger.add(account, 1, 1_000_000, &mut steps)?;
+            amount += 1;
+        }
+    }
+    amount = 1;
+    for ino in inodes {
+        for account in &of_inode(alloc, ino) {
+            assert!(rt; ledger.get(account, &mut steps) == two(u128::from(amount), 1_000_000));
+            amount += 1;
+        }
+        let [mut other, ..] = of_inode(alloc, ino);
+        other.key.offset = 1;
+        assert!(rt; ledger.get(&other, &mut steps) == two(0, 0));
+        other.key.offset = 0;
+        other.block = 16;
+        assert!(rt; ledger.get(&other, &mut steps) == two(0, 0));
+    }
+    for ino in inodes {
+        for account in &of_inode(alloc, ino) {
+            ledger.take(account, 0, u64::MAX, &mut steps);
+            assert!(rt; ledger.get(account, &mut steps) == two(0, 1_000_000));
+            ledger.take(account, 1, 1_000_000, &mut steps);
+            assert!(rt; ledger.get(account, &mut steps) == two(0, 0));
+        }
+    }
+    // Nothing stands any more, so nothing is looked at.
+    let looks = steps.looks();
+    assert!(rt; ledger.least_broken(&mut steps)?.is_none());
+    assert!(rt; steps.looks() == looks);
+    Ok(())
+}
+
+#[test]
+fn finds_the_least_broken_inode(rt: HostRuntime) -> Result<(), NoMemory> {
+    let alloc = rt.alloc();
+    let mut steps = Steps::seeded((), [5; 16]);
+    let mut ledger = LedgerIndex::new(alloc);
+    for ino in 256..320 {
+        ledger.add(&Account::inode(alloc, 5, ino), 0, 1, &mut steps)?;
+        ledger.add(&Account::inode(alloc, 5, ino), 4, 1, &mut steps)?;
+    }
+    assert!(rt; ledger.least_broken(&mut steps)?.is_none());
+    // A type that an entry says and no item does, and orphans that are none: each is lesser than the one before.
+    let broken = [
+        entry(alloc, 20)?,
+        Account::inode_type(alloc, 5, 300, 1),
+        Account::inode_type(alloc, 5, 271, 2),
+        Account::inode_type(alloc, 5, 271, 1),
+    ];
+    for account in &broken {
+        ledger.add(account, 0, 1, &mut steps)?;
+        assert!(rt; ledger.least_broken(&mut steps)?.as_ref() == Some(account));
+    }
+    for ino in [319, 288, 287, 272, 271, 256] {
+        let inode = Account::inode(alloc, 5, ino);
+        ledger.take(&inode, 4, 1, &mut steps);
+        assert!(rt; ledger.breaks(&inode, &mut steps));
+        assert!(rt; ledger.least_broken(&mut steps)? == Some(inode));
+    }
     Ok(())
 }

@@ -67,8 +67,7 @@ fn post_links<P: Poster>(
     Ok(())
 }
 
-/// Posts a name of an inode of a tree, to the sum of those that the inode has. Where memory is wanting, the list stays
-/// as it was.
+/// Posts a name of an inode of a tree, to the sum of those that the inode has.
 pub fn post_link<P: Poster>(
     alloc: Global,
     tree: u64,
@@ -99,8 +98,8 @@ pub fn post_entries<P: Poster>(
 }
 
 /// Posts an entry of a directory in the item with this key, to the sum of those by their hash or by their index; one
-/// by its index besides to the link of the inode, or to the entry of the subvolume. Where memory is wanting, a first
-/// part of the postings stands behind the old list.
+/// by its index besides to the link of the inode, or to the entry of the subvolume. Out of memory, a first part of the
+/// postings may be handed on.
 pub fn post_entry<P: Poster>(
     alloc: Global,
     tree: u64,

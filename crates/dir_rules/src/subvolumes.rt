@@ -13,8 +13,7 @@ use verdict::kinds::ROOT_REF;
 use verdict::{NoMemory, is_free_id};
 use volume_items::{RootItem, RootLink};
 
-/// Posts what a root item says: how often its tree is named, where that is a subvolume. Where memory is wanting, the
-/// list stays as it was.
+/// Posts what a root item says: how often its tree is named, where that is a subvolume.
 pub fn post_root<P: Poster>(alloc: Global, item: &RootItem, into: &mut P) -> Result<(), NoMemory>
     ensures { P.Leaves into.old into.new result (root_postings item.now) }
 {
@@ -26,7 +25,7 @@ pub fn post_root<P: Poster>(alloc: Global, item: &RootItem, into: &mut P) -> Res
 }
 
 /// Posts the name of a subvolume, from one of its two sides: the key has the parent and then the child, or the
-/// reverse. Where memory is wanting, a first part of the postings stands behind the old list.
+/// reverse. Out of memory, a first part of the postings may be handed on.
 pub fn post_root_link<P: Poster>(
     alloc: Global,
     item: &RootLink<'_>,

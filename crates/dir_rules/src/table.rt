@@ -10,13 +10,12 @@ use records::Rec;
 use std::alloc::Global;
 use verdict::NoMemory;
 
-/// Puts what a record of a tree says of names in directories and of subvolumes at the end of a list: its postings to
-/// the accounts A11 to A14 and A17, in the order of the record's parts. `tree` is the id of the tree that holds the
-/// record.
+/// Hands on what a record of a tree says of names in directories and of subvolumes: its postings to the accounts A11 to
+/// A14 and A17, in the order of the record's parts. `tree` is the id of the tree that holds the record.
 ///
 /// The name of an inode and the entry by its index say the same link, and so do the two entries of a name say the same
-/// name; a subvolume is named from the root tree twice, and by an entry of its parent. Where memory is wanting, a
-/// first part of the postings stands behind the old list.
+/// name; a subvolume is named from the root tree twice, and by an entry of its parent. Out of memory, a first part of
+/// the postings may be handed on; in a list, that part stands behind the old ones.
 #[tactic(auto, unfolding(records::specs::DirPostings::dir_postings))]
 pub fn post<C: Ctx, P: Poster>(
     alloc: Global,

@@ -21,9 +21,9 @@ use verdict::kinds::{
 /// The type of a range of a file whose data stands in its item.
 const INLINE: u8 = 0;
 
-/// Puts behind the postings what a record of a tree, by the tree's id, says of extents and of who refers to them:
-/// of blocks, extents, references that are items of their own, and ranges of files. The accounts take their memory
-/// from this allocator. Where memory is wanting a first part of these postings may stand there.
+/// Hands on what a record of a tree, by the tree's id, says of extents and of who refers to them: of blocks, extents,
+/// references that are items of their own, and ranges of files. The accounts take their memory from this allocator.
+/// Out of memory, a first part of the postings may be handed on; in a list, that part stands behind the old ones.
 #[tactic(auto, unfolding(records::specs::ExtentPostings::extent_postings))]
 pub fn post<C: Ctx, P: Poster>(
     alloc: Global,
@@ -43,8 +43,8 @@ pub fn post<C: Ctx, P: Poster>(
     }
 }
 
-/// Puts behind the postings what a block of a tree says: the tree's id, the block's logical address and its level. Where
-/// memory is wanting a first part of these postings may stand there.
+/// Hands on what a block of a tree says: the tree's id, the block's logical address and its level. Out of memory, a
+/// first part of the postings may be handed on.
 pub fn post_block<P: Poster>(
     alloc: Global,
     tree: u64,
@@ -60,8 +60,8 @@ pub fn post_block<P: Poster>(
     into.put(Posting::to(form, 1, 1))
 }
 
-/// Puts behind the postings what an extent's item says, and the references in it. Where memory is wanting a first part of
-/// these postings may stand there.
+/// Hands on what an extent's item says, and the references in it. Out of memory, a first part of the postings may be
+/// handed on.
 pub fn post_extent<P: Poster>(
     alloc: Global,
     item: &ExtentItem<'_>,
@@ -94,8 +94,8 @@ fn post_references<P: Poster>(
     Ok(())
 }
 
-/// Puts behind the postings what a reference to the extent at a logical address says, in its item or with an item of its
-/// own. Where memory is wanting a first part of these postings may stand there.
+/// Hands on what a reference to the extent at a logical address says, in its item or with an item of its own. Out of
+/// memory, a first part of the postings may be handed on.
 pub fn post_reference<P: Poster>(
     alloc: Global,
     address: u64,
@@ -128,9 +128,8 @@ pub fn reference_account(alloc: Global, address: u64, reference: &Reference) -> 
     }
 }
 
-/// Puts behind the postings what a range of a file says, if it has an extent on the disk: it is not inline, and no hole.
-/// The extent would begin at the byte `origin` of the file, modulo 2^64. Where memory is wanting a first part of these
-/// postings may stand there.
+/// Hands on what a range of a file says, if it has an extent on the disk: it is not inline, and no hole. The extent would
+/// begin at the byte `origin` of the file, modulo 2^64. Out of memory, a first part of the postings may be handed on.
 pub fn post_range<P: Poster>(
     alloc: Global,
     tree: u64,

@@ -60,7 +60,7 @@ impl LeafMaker {
     }
 
     /// Appends an item with a copy of these bytes, whose key is to be above the last. `false` exactly
-    /// where the item does not fit. Then, and when memory is wanting, all stays.
+    /// where the item does not fit. Then, and out of memory, all stays.
     #[tactic(auto, using(crate::proofs::Space::space_after_item, crate::proofs::Keys::keys_after_item))]
     pub fn push(&mut self, key: Key, bytes: &[u8]) -> Result<bool, NoMemory>
         ensures size { nodesize_of self.new ≡ nodesize_of self.old }

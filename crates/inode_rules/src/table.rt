@@ -9,12 +9,12 @@ use records::Rec;
 use std::alloc::Global;
 use verdict::NoMemory;
 
-/// Puts what a record of a tree says of inodes at the end of a list: its postings to the accounts A9 and A10, in the
-/// order of the record's parts. `tree` is the id of the tree that holds the record.
+/// Hands on what a record of a tree says of inodes: its postings to the accounts A9 and A10, in the order of the
+/// record's parts. `tree` is the id of the tree that holds the record.
 ///
 /// An inode's item, its names, its attributes, its ranges of data and the entries that lead to it say that the inode
-/// is there; a name beside counts as one of its links, and an entry's name in the size of its directory. Where memory
-/// is wanting, a first part of the postings stands behind the old list.
+/// is there; a name beside counts as one of its links, and an entry's name in the size of its directory. Out of
+/// memory, a first part of the postings may be handed on; in a list, that part stands behind the old ones.
 #[tactic(auto, unfolding(records::specs::InodePostings::inode_postings))]
 pub fn post<C: Ctx, P: Poster>(
     alloc: Global,

@@ -22,18 +22,18 @@ use Rattle.accounts.specs.Tally.{Sums}
 use Rattle.accounts.proofs.First.{unposted}
 use Rattle.accounts.proofs.Same.{is_Equal, same_account}
 use Rattle.ledger_index.specs.declared.kept.Kept.{Kept}
-use Rattle.ledger_index.specs.declared.ledger.LedgerIndex.{LedgerIndex}
+use Rattle.ledger_index.specs.declared.singles.Singles.{Singles}
 use Rattle.ledger_index.specs.declared.place.Place.{Place}
 use Rattle.ledger_index.specs.declared.long_place.LongPlace.{LongPlace}
 use Rattle.ledger_index.specs.Entries.{Within, by_account, entries_in, in_part}
 use Rattle.ledger_index.specs.Judged.{IsLeastBut, breaks, is_later, lesser_of, stands_before}
 use Rattle.ledger_index.specs.Kept.{kept_sum, sums_at}
-use Rattle.ledger_index.specs.Ledger.{entry_at, entry_of, long_in, short_in, sums_of}
+use Rattle.ledger_index.specs.Singles.{entry_at, entry_of, long_in, short_in, sums_of}
 use Rattle.ledger_index.specs.LongPlace as longer
 use Rattle.ledger_index.specs.LongPlaceLaws.{same_long}
 use Rattle.ledger_index.specs.Place.{account_of, is_same_place, part_of, place_of}
 use Rattle.ledger_index.specs.PlaceLaws.{same_place}
-use Rattle.ledger_index.proofs.LedgerLaws.{at_long, at_place, at_whole}
+use Rattle.ledger_index.proofs.SinglesLaws.{at_long, at_place, at_whole}
 use Rattle.ledger_index.proofs.PlaceLaws.{of_long_place, of_place}
 
 -- ---- an account is judged
@@ -108,18 +108,18 @@ as_breaks account kind kept f same is keeps =
 
 -- ---- entries are found under their keys
 
-abbrev pub Found : {K : Type 0} → (K → Option Kept) → List (K × Kept) → Type 0
+abbrev pub Found : {K T : Type 0} → (K → Option T) → List (K × T) → Type 0
 Found entries [] = Unit {0}
 Found entries (e ∷ es) = (entries e.0 ≡ Some e.1) × Found entries es
 
-module _ {K : Type 0} (same : K → K → Bool) (laws : IsEquivalence same) where
-  found_more : (d : K × Kept) (es fs : List (K × Kept)) → AllByRecursion (λ k. same d.0 k ≡ false) (keys_of fs)
+module _ {K T : Type 0} (same : K → K → Bool) (laws : IsEquivalence same) where
+  found_more : (d : K × T) (es fs : List (K × T)) → AllByRecursion (λ k. same d.0 k ≡ false) (keys_of fs)
       → Found (λ k. lookup (same k) es) fs → Found (λ k. lookup (same k) (d ∷ es)) fs
   found_more d es [] apart found = tt
   found_more d es (f ∷ fs) apart found =
       (ap (λ b. cond b (Some d.1) (lookup (same f.0) es)) (laws.symm f.0 d.0 ∙ apart.0) ∙ found.0, found_more d es fs apart.1 found.1)
 
-  pub found_all : (es : List (K × Kept)) → IsDistinct same (keys_of es) → Found (λ k. lookup (same k) es) es
+  pub found_all : (es : List (K × T)) → IsDistinct same (keys_of es) → Found (λ k. lookup (same k) es) es
   found_all [] distinct = tt
   found_all (e ∷ es) distinct = (
     ap (λ b. cond b (Some e.1) (lookup (same e.0) es)) (laws.refl e.0),
@@ -232,7 +232,7 @@ pub found_within : {K : Type 0} (part table : K → Option Kept) → Within part
 found_within part table within [] found = tt
 found_within part table within (e ∷ es) found = (within e.0 e.1 found.0, found_within part table within es found.1)
 
-module _ {L : Type 0} (ledger : LedgerIndex L) where
+module _ (ledger : Singles) where
   none_then : (whole : Option Kept) (place : Option Place) (long : Option LongPlace)
       → is_some (entry_at place long (λ p. lookup (is_same_place p) (entries_in ledger.short.parts.items))
       (λ p. lookup (longer.is_same_long p) (entries_in ledger.long.parts.items)) whole) ≡ false

@@ -2,6 +2,10 @@ pub mod KeptLaws
 pub mod EntryLaws
 pub mod PartLaws
 pub mod PlaceLaws
-pub mod LedgerLaws
+pub mod PagesLaws
+pub mod SinglesLaws
 pub mod JudgedLaws
 pub mod PlacedLaws
+pub mod SeatLaws
+pub mod LedgerLaws
+pub mod SeatedLaws

@@ -88,7 +88,7 @@ module _ {P : Type 0} (of : Account → Option P) where
   apart' a b p at_a at_b = apart_case (is_same a b) (λ is. absurd (cc (sym at_a ∙ ap of (same_account a b is) ∙ at_b)))
 
   -- two accounts are one exactly where their places are
-  alike : (back : P → Account) (same : P → P → Bool) → ((a : Account) (p : P) → of a ≡ Some p → back p ≡ a)
+  pub alike : (back : P → Account) (same : P → P → Bool) → ((a : Account) (p : P) → of a ≡ Some p → back p ≡ a)
       → ((p q : P) → same p q ≡ true → p ≡ q) → ((p : P) → same p p ≡ true)
       → (a b : Account) (p q : P) → of a ≡ Some p → of b ≡ Some q → same p q ≡ is_same a b
   alike back same of_back same_is own a b p q at_a at_b =

@@ -31,11 +31,11 @@ abbrev pub by_account : map.BTreeMap Account Kept → Entries Account
 by_account entries account = map.get account_cmp entries account
 
 -- the entries of a map by other keys
-abbrev pub by_key : {K S : Type 0} → (K → K → Bool) → IndexMap K Kept S → Entries K
+abbrev pub by_key : {K T S : Type 0} → (K → K → Bool) → IndexMap K T S → K → Option T
 by_key same entries key = get same entries key
 
 -- the entry of a key stands at an index
-pub record StandsAt {K S : Type 0} (same : K → K → Bool) (entries : IndexMap K Kept S) (i : ℕ) (k : K) : Type 0 where
+pub record StandsAt {K T S : Type 0} (same : K → K → Bool) (entries : IndexMap K T S) (i : ℕ) (k : K) : Type 0 where
   pub key : slice_get (keys entries) i ≡ Some k
   pub value : slice_get (values entries) i ≡ by_key same entries k
   pub there : IsSome (slice_get (values entries) i)

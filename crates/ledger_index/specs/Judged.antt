@@ -9,13 +9,13 @@ use Rattle.accounts.specs.Order.{account_cmp}
 use Rattle.accounts.specs.Tally.{Sums}
 use Rattle.accounts.specs.declared.account.Account.{Account}
 use Rattle.ledger_index.specs.declared.kept.Kept.{Kept}
-use Rattle.ledger_index.specs.declared.ledger.LedgerIndex.{LedgerIndex}
+use Rattle.ledger_index.specs.declared.singles.Singles.{Singles}
 use Rattle.ledger_index.specs.declared.place.Place.{Place}
 use Rattle.ledger_index.specs.declared.long_place.LongPlace.{LongPlace}
 use Rattle.ledger_index.specs.LongPlace.{is_same_long, long_of}
 use Rattle.ledger_index.specs.Place.{is_same_place, place_of}
 use Rattle.ledger_index.specs.Entries.{entries_in}
-use Rattle.ledger_index.specs.Ledger.{entry_at}
+use Rattle.ledger_index.specs.Singles.{entry_at}
 
 -- whether sums break an account of a kind
 unfoldable pub breaks : ℕ → (ℕ → ℕ) → Bool
@@ -37,11 +37,11 @@ is_later short longer whole account =
     (lookup (is_at (account_cmp account)) whole))
 
 -- which accounts are still to be looked at: these of the short places, and all others
-abbrev pub left_short : {L : Type 0} → LedgerIndex L → List (Place × Kept) → Account → Bool
+abbrev pub left_short : Singles → List (Place × Kept) → Account → Bool
 left_short ledger rest = is_later rest (entries_in ledger.long.parts.items) ledger.whole.entries.entries
 
 -- these of the long places, and those that have no place
-abbrev pub left_long : {L : Type 0} → LedgerIndex L → List (LongPlace × Kept) → Account → Bool
+abbrev pub left_long : Singles → List (LongPlace × Kept) → Account → Bool
 left_long ledger rest = is_later [] rest ledger.whole.entries.entries
 
 -- An account is broken by some sums, and no lesser one is but some that are judged later; or none is but some of these.

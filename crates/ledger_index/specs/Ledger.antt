@@ -1,49 +1,35 @@
 -- What a ledger says: the sums of all accounts, and for which of them an entry stands.
-use Rattle.std.specs.Prelude.{◌≡◌, ◌↔◌, ℕ, ◌+◌, Bool, false, Option, Some, None, is_some}
-use Rattle.std.specs.BTreeMap.{btree_map_len}
+use Rattle.std.specs.Prelude.{◌≡◌, ◌↔◌, ℕ, ◌+◌, Bool, false, Option, Some, None}
+use Rattle.indexmap.specs.IndexMap.{index_map_len}
 use Rattle.accounts.specs.declared.account.Account.{Account}
 use Rattle.accounts.specs.Tally.{Sums}
-use Rattle.ledger_index.specs.declared.kept.Kept.{Kept}
 use Rattle.ledger_index.specs.declared.ledger.LedgerIndex.{LedgerIndex}
-use Rattle.ledger_index.specs.declared.place.Place.{Place}
-use Rattle.ledger_index.specs.declared.long_place.LongPlace.{LongPlace}
-use Rattle.ledger_index.specs.Entries.{Entries, by_account, by_parts, count_in}
-use Rattle.ledger_index.specs.LongPlace.{is_same_long, long_of, part_of as long_part}
-use Rattle.ledger_index.specs.Place.{is_same_place, part_of, place_of}
+use Rattle.ledger_index.specs.declared.seat.Seat.{Seat}
+use Rattle.ledger_index.specs.Entries.{Entries, by_key}
 use Rattle.ledger_index.specs.Kept.{sums_at}
+use Rattle.ledger_index.specs.Pages.{ArePages, seats_in}
+use Rattle.ledger_index.specs.Seat.{is_same_page, seat_of}
+use Rattle.ledger_index.specs.Singles as singles
 
--- what is kept of an account, if anything is: under its place, or where it has none under its long place, or else under
--- the account itself
-abbrev pub entry_at : Option Place → Option LongPlace → Entries Place → Entries LongPlace → Option Kept → Option Kept
-entry_at (Some place) long short longer whole = short place
-entry_at None (Some place) short longer whole = longer place
-entry_at None None short longer whole = whole
-
--- the entries of the two tables of a ledger that are by places
-abbrev pub short_in : {L : Type 0} → LedgerIndex L → Entries Place
-short_in ledger = by_parts is_same_place part_of ledger.short.parts.items
-
-abbrev pub long_in : {L : Type 0} → LedgerIndex L → Entries LongPlace
-long_in ledger = by_parts is_same_long long_part ledger.long.parts.items
-
-unfoldable pub entry_of : {L : Type 0} → LedgerIndex L → Account → Option Kept
-entry_of ledger account =
-    entry_at (place_of account) (long_of account) (short_in ledger) (long_in ledger)
-    (by_account ledger.whole.entries account)
+-- the sums of an account: those of its seat in a page, if it has one, or else those of an entry of its own
+abbrev pub sums_from : Option Seat → Entries Seat → (ℕ → ℕ) → ℕ → ℕ
+sums_from (Some seat) seats single field = sums_at (seats seat) field
+sums_from None seats single field = single field
 
 -- the sums of all accounts, by the number of the field
 unfoldable pub sums_of : {L : Type 0} → LedgerIndex L → Sums
-sums_of ledger account field = sums_at (entry_of ledger account) field
+sums_of ledger account field = sums_from (seat_of account) (seats_in ledger.pages.map) (singles.sums_of ledger.singles account) field
 
--- whether an entry stands for an account
+-- whether an entry of its own stands for an account
 unfoldable pub has_entry : {L : Type 0} → LedgerIndex L → Account → Bool
-has_entry ledger account = is_some (entry_of ledger account)
+has_entry ledger account = singles.has_entry ledger.singles account
 
--- An entry stands for exactly the accounts whose sums are not all zero.
-abbrev pub IsTidy : {L : Type 0} → LedgerIndex L → Type 0
-IsTidy ledger = (account : Account) → (has_entry ledger account ≡ false) ↔ ((field : ℕ) → sums_of ledger account field ≡ 0)
+-- An entry stands for exactly the accounts without a seat whose sums are not all zero, and no page stands where those of its sixteen
+-- accounts all are.
+pub record IsTidy {L : Type 0} (ledger : LedgerIndex L) : Type 0 where
+  pub entries : (account : Account) → seat_of account ≡ None → (has_entry ledger account ≡ false) ↔ ((field : ℕ) → sums_of ledger account field ≡ 0)
+  pub pages : ArePages (by_key is_same_page ledger.pages.map)
 
--- how many entries stand
+-- how many entries stand, a page being one
 unfoldable pub entries_of : {L : Type 0} → LedgerIndex L → ℕ
-entries_of ledger =
-    count_in ledger.short.parts.items + (count_in ledger.long.parts.items + btree_map_len ledger.whole.entries)
+entries_of ledger = index_map_len ledger.pages.map + singles.entries_of ledger.singles

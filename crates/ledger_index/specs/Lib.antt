@@ -4,6 +4,12 @@ pub mod Place
 pub mod PlaceLaws
 pub mod LongPlace
 pub mod LongPlaceLaws
+pub mod Seat
+pub mod SeatLaws
 pub mod Entries
-pub mod Ledger
+pub mod Singles
+pub mod Pages
 pub mod Judged
+pub mod Apart
+pub mod Ledger
+pub mod Seated

@@ -22,6 +22,14 @@ pub(crate) enum Kept {
 }
 
 impl Kept {
+    /// No sums.
+    #[tactic(auto, unfolding(crate::specs::Kept::kept_sum), using(crate::proofs::KeptLaws::none_by))]
+    pub(crate) fn none() -> Kept
+        ensures { IsZero result }
+    {
+        Kept::Few([0; 9])
+    }
+
     /// The sums whole.
     #[tactic(auto, unfolding(crate::specs::Kept::kept_sum))]
     pub(crate) fn totals(&self) -> Totals

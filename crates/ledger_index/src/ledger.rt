@@ -1,50 +1,47 @@
 //! The ledger.
 
-ghost use Rattle.std.specs.Prelude.{◌≡◌, ℕ, ◌+◌, ◌<◌, ◌≤◌, ◌++◌, List, [], false, None, IfOk, OnOk, OnErr, nat_lt};
-ghost use Rattle.std.specs.BTreeMap.{btree_map_len};
-ghost use Rattle.std.specs.Option.{option_copied};
+ghost use Rattle.std.specs.Prelude.{◌≡◌, ℕ, ◌+◌, ◌<◌, ◌≤◌, List, ◌∷◌, false, Some, IfOk, OnOk, OnErr, nat_lt, slice_get};
 ghost use Rattle.indexmap.specs.IndexMap.{index_map_len};
 ghost use Rattle.accounts.specs.Broken.{is_broken};
 ghost use Rattle.accounts.specs.Least.{IsLeastBroken};
 ghost use Rattle.accounts.specs.Sums.{sum_in};
 ghost use Rattle.accounts.specs.Tally.{no_sums};
 ghost use Rattle.recon_disk.specs.Outside.{counted};
+ghost use Rattle.ledger_index.specs.declared.page.Page.{Page as APage};
+ghost use Rattle.ledger_index.specs.declared.seat.PageKey.{PageKey as APageKey};
+ghost use Rattle.ledger_index.specs.Apart.{AreApart};
+ghost use Rattle.ledger_index.specs.Entries.{by_key};
+ghost use Rattle.ledger_index.specs.Judged.{IsLeastBut, breaks as rule_breaks, lesser_of};
+ghost use Rattle.ledger_index.specs.Kept.{sums_at};
+ghost use Rattle.ledger_index.specs.Seat.{is_same_page, kind_at};
+ghost use Rattle.ledger_index.specs.Seated.{left_pages};
+ghost use Rattle.ledger_index.specs.Singles as single;
 ghost use Rattle.ledger_index.specs.Sums.{changed, greatest, lower, raise};
-ghost use Rattle.ledger_index.specs.declared.kept.Kept.{Kept as AKept};
-ghost use Rattle.ledger_index.specs.declared.long_place.LongPlace.{LongPlace as ALongPlace};
-ghost use Rattle.ledger_index.specs.declared.place.Place.{Place as APlace};
-ghost use Rattle.ledger_index.specs.Entries.{Within, by_key, count_in};
-ghost use Rattle.ledger_index.specs.Judged.{IsLeastBut, is_later, left_long, left_short, lesser_of};
-ghost use Rattle.ledger_index.specs.Ledger.{entry_of, long_in, short_in};
-ghost use Rattle.ledger_index.specs.LongPlace.{is_same_long};
-ghost use Rattle.ledger_index.specs.Place.{is_same_place, place_of};
 
 use crate::judged::{breaks, is_broken, stand_in, stands_before};
-use crate::kept::Kept;
-use crate::long_place::LongPlace;
-use crate::place::{Place, mixed_by, part_by};
-use crate::seeded::Seeded;
-use crate::table::Table;
-use crate::whole::{Whole, copy_of};
+use crate::page::Page;
+use crate::pages::Pages;
+use crate::seat::{PageKey, Seat, kind_at};
+use crate::singles::Singles;
 use accounts::{Account, Totals, broken};
-use indexmap::IndexMap;
 use recon_disk::Steps;
 use std::alloc::Global;
 use std::marker::PhantomData;
 use verdict::NoMemory;
 
-/// The totals of the accounts of an image. An entry stands for exactly the accounts whose totals are not all zero. Each
-/// call looks once into the table and counts that, but for `new`, which does not look, and `least_broken`, which looks at
-/// most once for each entry.
+/// The totals of the accounts of an image. Those of inodes, and of the type of regular files, stand in pages: eight inodes
+/// with numbers next to each other to a page. The other accounts have an entry each. A page or an entry stands only where
+/// some total is not zero. Each call looks once into the tables and counts that, but for `new`, which does not look, and
+/// `least_broken`, which looks at most once for each page and entry.
 ///
 /// The mark `L` ties the table to its counter: code that is generic in `L` can make no counter of its own.
 #[derive(Drop)]
 pub struct LedgerIndex<L> {
-    short: Table<Place>,
-    long: Table<LongPlace>,
-    whole: Whole,
+    pages: Pages,
+    singles: Singles,
     alloc: Global,
     mark: PhantomData<L>,
+    ghost apart: { AreApart singles },
 }
 
 impl<L> LedgerIndex<L> {
@@ -58,9 +55,8 @@ impl<L> LedgerIndex<L> {
         ensures none { entries_of result ≡ 0 }
     {
         LedgerIndex {
-            short: Table::new(alloc),
-            long: Table::new(alloc),
-            whole: Whole::new(alloc),
+            pages: Pages::new(alloc),
+            singles: Singles::new(alloc),
             alloc,
             mark: PhantomData,
         }
@@ -81,7 +77,10 @@ impl<L> LedgerIndex<L> {
         ensures looks { steps.new ≡ counted steps.old }
     {
         steps.look();
-        match self.kept_of(account) {
+        let Some(seat) = Seat::of(account) else {
+            return self.singles.breaks(account);
+        };
+        match self.pages.kept(&seat) {
             Some(kept) => is_broken(account, kept),
             None => false,
         }
@@ -91,23 +90,12 @@ impl<L> LedgerIndex<L> {
     fn totals_of(&self, account: &Account) -> Totals
         ensures { (n : ℕ) → sum_in result n ≡ sums_of self.now account.now n }
     {
-        match self.kept_of(account) {
+        let Some(seat) = Seat::of(account) else {
+            return self.singles.totals_of(account);
+        };
+        match self.pages.kept(&seat) {
             Some(kept) => kept.totals(),
             None => Totals::zero(),
-        }
-    }
-
-    // What is kept of an account, if anything is.
-    #[tactic(auto, unfolding(crate::specs::Ledger::entry_of))]
-    fn kept_of(&self, account: &Account) -> Option<&Kept>
-        ensures { option_copied result ≡ entry_of self.now account.now }
-    {
-        if let Some(place) = Place::of(account) {
-            return self.short.kept(&place);
-        }
-        match LongPlace::of(account) {
-            Some(place) => self.long.kept(&place),
-            None => self.whole.kept(account),
         }
     }
 
@@ -155,50 +143,9 @@ impl<L> LedgerIndex<L> {
         if !names_a_sum(field) || amount == 0 {
             return Ok(self.is_full_at(account, field));
         }
-        let mixed = mixed_by(account);
-        let number = part_by(account);
-        if let Some((at, place)) = self.short.hinted_of(account, number, mixed) {
-            return self
-                .short
-                .add_at(self.alloc, number, at, &place, field, amount);
-        }
-        if let Some(place) = Place::of(account) {
-            self.short.seed(self.alloc, &steps.seed())?;
-            return self
-                .short
-                .add_by_hash(self.alloc, &place, mixed, field, amount);
-        }
-        self.add_apart(account, field, amount, &steps.seed())
-    }
-
-    // Adds as `add_saturating` does, to an account that has no short place. It stands apart from the others: what it takes
-    // on the stack is not made ready for them.
-    #[inline(never)]
-    #[tactic(auto, using(crate::proofs::LedgerLaws::is_tidy))]
-    fn add_apart(
-        &mut self,
-        account: &Account,
-        field: u8,
-        amount: u64,
-        seed: &[u8; 16],
-    ) -> Result<bool, NoMemory>
-        requires apart { place_of account.now ≡ None }
-        requires named { field < 9 }
-        requires more { 0 < amount }
-        ensures ok { OnOk result
-            (sums_of self.new ≡ changed raise (sums_of self.old) account.now field amount) }
-        ensures full { IfOk result (λ full. full ≡ false →
-            sums_of self.new account.now field < greatest) }
-        ensures err { OnErr result (sums_of self.new ≡ sums_of self.old) }
-        ensures entries { IsTidy self.new }
-        ensures few { entries_of self.new ≤ entries_of self.old + 1 }
-    {
-        match LongPlace::of(account) {
-            Some(place) => {
-                self.long.seed(self.alloc, seed)?;
-                self.long.add(self.alloc, &place, field, amount)
-            }
-            None => self.whole.add(self.alloc, account, field, amount),
+        match Seat::of(account) {
+            Some(seat) => self.pages.add(self.alloc, &seat, field, amount, steps),
+            None => self.singles.add_saturating(account, field, amount, steps),
         }
     }
 
@@ -223,126 +170,55 @@ impl<L> LedgerIndex<L> {
         if !names_a_sum(field) {
             return;
         }
-        if let Some(place) = Place::of(account) {
-            self.short.take(&place, field, amount);
-            return;
-        }
-        match LongPlace::of(account) {
-            Some(place) => self.long.take(&place, field, amount),
-            None => self.whole.take(account, field, amount),
+        match Seat::of(account) {
+            Some(seat) => self.pages.take(&seat, field, amount),
+            None => self.singles.take(account, field, amount),
         }
     }
 
-    /// The least account that its totals break, `None` exactly where no account is broken. It goes through all entries,
-    /// each of which is a look. The account takes its memory from the ledger's allocator.
-    #[tactic(auto, using(crate::proofs::JudgedLaws::least_ok), unfolding(crate::specs::Ledger::entries_of))]
+    /// The least account that its totals break, `None` exactly where no account is broken. It goes through all pages and
+    /// entries, each of which is a look. The account takes its memory from the ledger's allocator.
+    #[tactic(auto, unfolding(crate::specs::Ledger::entries_of))]
     pub fn least_broken(&self, steps: &mut Steps<L>) -> Result<Option<Account>, NoMemory>
         ensures least { IfOk result (IsLeastBroken
             (λ account. is_broken account (sums_of self.now account))) }
         ensures looks { steps.new ≤ steps.old + entries_of self.now }
     {
-        let least = self.least_short(steps)?;
-        let least = self.least_long(least, steps)?;
-        self.least_whole(least, steps)
+        let least = self.singles.least_broken(steps)?;
+        Ok(self.least_seated(least, steps))
     }
 
-    // The least broken one of the accounts with short places.
-    fn least_short(&self, steps: &mut Steps<L>) -> Result<Option<Account>, NoMemory>
-        ensures least { IfOk result (IsLeastBut (sums_of self.now)
-            (left_short self.now [])) }
-        ensures looks { steps.new ≤ steps.old + count_in self.now.short.parts.items }
+    // The least broken one of the accounts with seats, and of an account that is the least of those without.
+    fn least_seated(&self, first: Option<Account>, steps: &mut Steps<L>) -> Option<Account>
+        ensures least { IsLeastBroken
+            (λ account. is_broken account (single.sums_of self.now.singles account)) first →
+            IsLeastBroken (λ account. is_broken account (sums_of self.now account)) result }
+        ensures looks { steps.new ≤ steps.old + index_map_len self.now.pages.map }
     {
-        let mut least = None;
-        for part in self.short.parts() {
-            least = self.least_of_short(part, least, steps)?;
+        let mut least = first;
+        for (key, page) in self.pages.map() {
+            steps.look();
+            least = self.least_of_page(key, page, least);
         }
-        Ok(least)
+        least
     }
 
-    // The least broken one of those with short places whose entries are in a part, and of an account that is the least of the parts before.
-    fn least_of_short(
-        &self,
-        part: &IndexMap<Place, Kept, Seeded>,
-        first: Option<Account>,
-        steps: &mut Steps<L>,
-    ) -> Result<Option<Account>, NoMemory>
-        requires within { Within (by_key is_same_place part.now) (short_in self.now) }
-        ensures least { (rest : List (APlace × AKept)) →
-            IsLeastBut (sums_of self.now) (left_short self.now (part.now.entries ++ rest)) first →
-            IfOk result (IsLeastBut (sums_of self.now) (left_short self.now rest)) }
-        ensures looks { steps.new ≤ steps.old + index_map_len part.now }
+    // The least broken one of those whose seats are in a page, and of an account that is the least of those before.
+    fn least_of_page(&self, key: &PageKey, page: &Page, first: Option<Account>) -> Option<Account>
+        requires { by_key is_same_page self.now.pages.map key.now ≡ Some page.now }
+        ensures { (rest : List (APageKey × APage)) →
+            IsLeastBut (sums_of self.now) (left_pages ((key.now, page.now) ∷ rest)) first →
+            IsLeastBut (sums_of self.now) (left_pages rest) result }
     {
         let mut stand_in = stand_in(self.alloc);
         let mut least = first;
-        for (place, kept) in part {
-            steps.look();
-            if breaks(place.kind(), kept, &mut stand_in) {
-                least = self.lesser(place.account(self.alloc)?, least);
+        for slot in 0..16 {
+            if !breaks_at(page, slot, &mut stand_in) {
+                continue;
             }
+            least = self.lesser(key.account(self.alloc, slot), least);
         }
-        Ok(least)
-    }
-
-    // The least broken one of the accounts with long places, and of an account that is the least with a short one.
-    fn least_long(
-        &self,
-        first: Option<Account>,
-        steps: &mut Steps<L>,
-    ) -> Result<Option<Account>, NoMemory>
-        ensures least { IsLeastBut (sums_of self.now) (left_short self.now []) first →
-            IfOk result (IsLeastBut (sums_of self.now) (left_long self.now [])) }
-        ensures looks { steps.new ≤ steps.old + count_in self.now.long.parts.items }
-    {
-        let mut least = first;
-        for part in self.long.parts() {
-            least = self.least_of_long(part, least, steps)?;
-        }
-        Ok(least)
-    }
-
-    // The least broken one of those with long places whose entries are in a part, and of an account that is the least of those before.
-    fn least_of_long(
-        &self,
-        part: &IndexMap<LongPlace, Kept, Seeded>,
-        first: Option<Account>,
-        steps: &mut Steps<L>,
-    ) -> Result<Option<Account>, NoMemory>
-        requires within { Within (by_key is_same_long part.now) (long_in self.now) }
-        ensures least { (rest : List (ALongPlace × AKept)) →
-            IsLeastBut (sums_of self.now) (left_long self.now (part.now.entries ++ rest)) first →
-            IfOk result (IsLeastBut (sums_of self.now) (left_long self.now rest)) }
-        ensures looks { steps.new ≤ steps.old + index_map_len part.now }
-    {
-        let mut stand_in = stand_in(self.alloc);
-        let mut least = first;
-        for (place, kept) in part {
-            steps.look();
-            if breaks(place.kind(), kept, &mut stand_in) {
-                least = self.lesser(place.account(self.alloc)?, least);
-            }
-        }
-        Ok(least)
-    }
-
-    // The least broken one of those without places, and of an account that is the least with one.
-    fn least_whole(
-        &self,
-        first: Option<Account>,
-        steps: &mut Steps<L>,
-    ) -> Result<Option<Account>, NoMemory>
-        ensures least { IsLeastBut (sums_of self.now) (left_long self.now []) first →
-            IfOk result (IsLeastBut (sums_of self.now) (is_later [] [] [])) }
-        ensures looks { steps.new ≤ steps.old + btree_map_len self.now.whole.entries }
-    {
-        let mut stand_in = stand_in(self.alloc);
-        let mut least = first;
-        for (account, kept) in self.whole.entries() {
-            steps.look();
-            if breaks(account.kind, kept, &mut stand_in) {
-                least = self.lesser(copy_of(self.alloc, account)?, least);
-            }
-        }
-        Ok(least)
+        least
     }
 
     // An account, where the ledger breaks it and it stands before another, or else the other.
@@ -354,6 +230,17 @@ impl<L> LedgerIndex<L> {
             return Some(account);
         }
         other
+    }
+}
+
+// Whether the sums of a slot of a page break the rule of its account. The kind alone decides, so the stand-in takes it.
+fn breaks_at(page: &Page, slot: u8, stand_in: &mut Account) -> bool
+    ensures { result
+        ≡ rule_breaks (kind_at slot) (sums_at (slice_get page.now.slots.items slot)) }
+{
+    match page.kept(slot) {
+        Some(kept) => breaks(kind_at(slot), kept, stand_in),
+        None => false,
     }
 }
 

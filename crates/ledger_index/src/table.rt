@@ -7,6 +7,7 @@ ghost use Rattle.ledger_index.specs.Kept.{sums_at};
 ghost use Rattle.ledger_index.specs.Place.{is_same_place, part_of as place_part, place_of};
 ghost use Rattle.ledger_index.specs.Entries.{AreEmpty, AreFit, Changes, StandsIn, Stays, by_parts, count_in};
 
+use crate::hint::{HINTS, Hint, bits_of, hint_of, slot_of};
 use crate::kept::Kept;
 use crate::part::{Exact, add_at, add_by_hash, find_in, is_at, kept_at, take_at};
 use crate::place::Place;
@@ -16,18 +17,8 @@ use indexmap::IndexMap;
 use std::alloc::Global;
 use verdict::NoMemory;
 
-// How many hints there are.
-const SLOTS: usize = 4096;
-
 // How many parts there are.
 const PARTS: usize = 1024;
-
-// Where an entry stood that was last found in its part, and some bits of the number of its key.
-#[derive(Clone, Copy)]
-struct Hint {
-    at: u32,
-    bits: u32,
-}
 
 /// The sums of accounts that have keys of this type. An entry stands for exactly those whose sums are not all zero.
 #[derive(Drop)]
@@ -36,7 +27,7 @@ pub(crate) struct Table<K: Exact> {
     // table is in few of its parts, and stays in the caches of the processor.
     parts: Vec<IndexMap<K, Kept, Seeded>>,
     // Where entries stood that were last found, each at the slot of its key. Nothing rests on it.
-    near: [Hint; SLOTS],
+    near: [Hint; HINTS],
     ghost fit: { AreFit K.eq K.part_of parts.items },
 }
 
@@ -47,7 +38,7 @@ impl<K: Exact> Table<K> {
     {
         Table {
             parts: Vec::new(alloc),
-            near: [Hint { at: 0, bits: 0 }; SLOTS],
+            near: [Hint { at: 0, bits: 0 }; HINTS],
         }
     }
 
@@ -269,25 +260,5 @@ fn put_part<K: Exact>(
     match parts.push(part) {
         Ok(()) => Ok(()),
         Err(_) => Err(NoMemory),
-    }
-}
-
-// The slot of a key among the hints, by its number.
-fn slot_of(mixed: u64) -> usize
-    ensures { result < 4096 }
-{
-    (mixed >> 52) as usize % SLOTS
-}
-
-// The bits of a key's number by which its hint is told from others at the slot.
-fn bits_of(mixed: u64) -> u32 {
-    (mixed >> 32) as u32
-}
-
-// A hint to the entry of a key with this number.
-fn hint_of(mixed: u64, at: usize) -> Hint {
-    Hint {
-        at: u32::try_from(at).unwrap_or(0),
-        bits: bits_of(mixed),
     }
 }

@@ -30,7 +30,7 @@ impl<L> LiveIndex<L> {
     }
 
     /// Puts a pair into the table, in the place of the one with its tree and address where one stands.
-    /// When memory is wanting, nothing changes.
+    /// Out of memory, nothing changes.
     pub fn insert(&mut self, live: Live, steps: &mut Steps<L>) -> Result<(), NoMemory>
         ensures ok { OnOk result (pairs_of self.new ≡ with_pair (pairs_of self.old) live) }
         ensures err { OnErr result (pairs_of self.new ≡ pairs_of self.old) }

@@ -31,7 +31,7 @@ impl Orders {
         }
     }
 
-    /// Adds the places of a pair that has none. When memory is wanting, nothing changes.
+    /// Adds the places of a pair that has none. Out of memory, nothing changes.
     pub(crate) fn add(&mut self, live: &Live) -> Result<(), NoMemory>
         requires { has_address self.old (address_place live.now) ≡ false }
         ensures ok { OnOk result (AreAdded self.old self.new live.now) }
@@ -59,7 +59,7 @@ impl Orders {
     }
 
     /// Puts a pair at its key, in the place of the pair `from`, which has the same tree and address.
-    /// When memory is wanting, nothing changes.
+    /// Out of memory, nothing changes.
     pub(crate) fn exchange(&mut self, from: &Live, to: &Live) -> Result<(), NoMemory>
         ensures ok { OnOk result (AreMoved self.old self.new from.now to.now) }
         ensures err { OnErr result (AreKept self.old self.new) }

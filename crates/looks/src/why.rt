@@ -19,7 +19,7 @@ pub enum Why {
     File,
     /// A call of the disk failed.
     Disk,
-    /// Memory was wanting.
+    /// Out of memory.
     Memory,
 }
 

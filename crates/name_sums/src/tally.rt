@@ -48,7 +48,7 @@ impl NameTally {
 
     /// Adds what a record of a tree, by the tree's id, says of names, and of the inodes that entries of directories lead
     /// to. The inodes are told when all is said of the name. What has no compact form, and what is said of subvolumes,
-    /// is put behind the postings. Where memory is wanting any part of it may be added.
+    /// is put behind the postings. Out of memory, any part of it may be added.
     #[tactic(auto, using(accounts::proofs::Apart::adds_nothing), unfolding(records::specs::DirPostings::dir_postings, crate::specs::Names::led_postings))]
     pub fn take(
         &mut self,
@@ -69,7 +69,7 @@ impl NameTally {
         }
     }
 
-    /// Moves all to a tally. Nothing may be added behind it. Where memory is wanting any part of it may be there.
+    /// Moves all to a tally. Nothing may be added behind it. Out of memory, any part of it may be there.
     pub fn settle(&mut self, rest: &mut Tally) -> Result<(), NoMemory>
         ensures { OnOk result ((account : AAccount) →
             sums_in rest.new account ≡ kept account.kind

@@ -51,7 +51,7 @@ use std::alloc::Global;
 /// | 4 | a call of the disk failed |
 /// | 5 | a read of the trace failed |
 /// | 6 | a write of a line, or of the trace that a make writes, failed |
-/// | 7 | memory was wanting |
+/// | 7 | out of memory |
 /// | 8 | make: the disk is shorter than 33,554,432 bytes; nothing is written |
 pub fn recon_run<D: Disk, S: Source, K: Sink, L>(
     alloc: Global,

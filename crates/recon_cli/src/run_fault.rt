@@ -12,7 +12,7 @@ pub enum RunFault {
     Trace,
     /// A write of a line failed.
     Lines,
-    /// Memory was wanting.
+    /// Out of memory.
     Memory,
 }
 

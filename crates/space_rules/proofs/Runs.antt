@@ -110,11 +110,6 @@ sums_rest context tree item = marked_rest 2 (sectors_from item.key.offset (lengt
 
 -- ---- what was posted, where that is wanted
 
--- of some things the first is left
-pub some_left : {A B : Type 0} (f : A → B) (left rest : List A) (one : A) → left ≡ one ∷ rest → 0 < length (map f left)
-some_left f [] rest one here = absurd (cc)
-some_left f (x ∷ left) rest one here = omega arith
-
 front_of : {T E : Type 0} (old new : List Posting) (result : Result T E) (ps : List Posting) → Posts old new result ps → StandsInFront old new
 front_of old new (Ok t) ps posts = (ps, posts.all)
 front_of old new (Err e) ps posts = (take posts.some.count ps, posts.some.front)

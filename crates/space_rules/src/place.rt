@@ -114,12 +114,9 @@ impl Place {
         ensures { Posts into.old into.new result
             (place_postings self.now.of_data self.now.address self.now.length (Some home.now)) }
     {
-        into.push(self.taken(alloc, home))?;
+        into.put(self.taken(alloc, home))?;
         post_run(alloc, self.owned(), into)?;
-        if is_other_class(self.of_data, home.class) {
-            into.push(self.other_class(alloc))?;
-        }
-        Ok(())
+        self.post_class(alloc, home.class, into)
     }
 
     fn post_rest_in_home<P: Poster>(
@@ -132,21 +129,16 @@ impl Place {
             (rest_of_place self.now.of_data self.now.address self.now.length (Some home.now)) }
     {
         into.put(self.taken(alloc, home))?;
-        self.post_class(alloc, home, into)
+        self.post_class(alloc, home.class, into)
     }
 
-    // Whether its group is of another class.
-    fn post_class<P: Poster>(
-        &self,
-        alloc: Global,
-        home: &Home,
-        into: &mut P,
-    ) -> Result<(), NoMemory>
+    // That its group is of another class, where chunks of the type do not take it.
+    fn post_class<P: Poster>(&self, alloc: Global, class: u64, into: &mut P) -> Result<(), NoMemory>
         ensures { P.Leaves into.old into.new result
-            (if is_other_class self.now.of_data home.now.class then
+            (if is_other_class self.now.of_data class then
             to (group_class self.now.address) 0 1 ∷ [] else []) }
     {
-        if !is_other_class(self.of_data, home.class) {
+        if !is_other_class(self.of_data, class) {
             return Ok(());
         }
         into.put(self.other_class(alloc))

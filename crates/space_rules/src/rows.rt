@@ -36,8 +36,8 @@ const REGULAR: u8 = 1;
 
 /// Puts behind the postings what a record of a tree, by the tree's id, says of the space of the volume and of the
 /// device: the superblock, chunks, the device and its ranges, block groups, extents, ranges of files, and checksums.
-/// The accounts take their memory from this allocator. Where memory is wanting a first part of these postings may
-/// stand there. Of a record that no reader gives nothing is said but that the old postings stand in front.
+/// The accounts take their memory from this allocator. Out of memory, a first part of these postings may stand there.
+/// Of a record that no reader gives nothing is said but that the old postings stand in front.
 #[tactic(auto, unfolding(records::specs::SpacePostings::space_postings))]
 pub fn post<C: Ctx>(
     alloc: Global,
@@ -57,7 +57,8 @@ pub fn post<C: Ctx>(
     }
 }
 
-/// Puts the same postings there, in the same order, without those to sectors.
+/// Hands on the same postings, in the same order, without those to sectors. Out of memory, a first part of them may be
+/// handed on; in a list, that part stands behind the old ones.
 #[tactic(auto, unfolding(records::specs::SpacePostings::space_postings))]
 pub fn post_rest<C: Ctx, P: Poster>(
     alloc: Global,

@@ -1,9 +1,7 @@
 //! A ledger to which postings are added as they come.
 
-ghost use Rattle.ledger_index.specs.Ledger.{entries_of};
 ghost use Rattle.touched_accounts.specs.Adding.{Adds};
 ghost use Rattle.touched_accounts.specs.AddingLaws.{adds_pass};
-ghost use Rattle.touched_accounts.specs.Looks.{HaveLooks};
 
 use accounts::{Poster, Posting};
 use ledger_index::LedgerIndex;

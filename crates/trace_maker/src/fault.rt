@@ -8,7 +8,7 @@ pub enum MakeFault {
     /// A call of the sink failed.
     #[error("the trace could not be written")]
     Write,
-    /// Memory was wanting, or room on the device that the trace is made for. 200 commits have room.
+    /// Out of memory, or out of room on the device that the trace is made for. 200 commits have room.
     #[error("memory for the trace is wanting")]
     NoMemory,
 }

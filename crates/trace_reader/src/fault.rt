@@ -23,7 +23,7 @@ pub enum TraceFault {
     /// A call of the source failed.
     #[error("the trace could not be read")]
     ReadFault,
-    /// Memory for a write's bytes was wanting.
+    /// Out of memory for the bytes of a write.
     #[error("memory for a write is wanting")]
     NoMemory,
     /// As many records as there may be are followed by another.

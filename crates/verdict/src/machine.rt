@@ -106,6 +106,6 @@ pub enum Stop {
     DiskFault,
     /// An earlier event closed the machine.
     Closed,
-    /// Memory was wanting.
+    /// Out of memory.
     NoMemory,
 }

@@ -58,8 +58,8 @@ impl WriteCache {
         }
     }
 
-    /// Puts a copy of these bytes from the offset `at` on, over what waits there. When memory is
-    /// wanting, nothing changes.
+    /// Puts a copy of these bytes from the offset `at` on, over what is pending there. Out of
+    /// memory, nothing changes.
     #[tactic(auto, using(crate::proofs::CacheLaws::with_bytes_none))]
     pub fn put(&mut self, at: u64, bytes: &[u8]) -> Result<(), NoMemory>
         requires { at + length bytes.now < 2 ^ 64 }
@@ -77,7 +77,7 @@ impl WriteCache {
     }
 
     /// Puts the bytes of this write over what is pending there. Bytes in memory of their own are not copied where nothing
-    /// pending meets or touches them. When memory is wanting, nothing changes.
+    /// pending meets or touches them. Out of memory, nothing changes.
     #[tactic(auto, using(crate::proofs::CacheLaws::with_bytes_none))]
     pub fn hold(&mut self, write: HeldWrite) -> Result<(), NoMemory>
         requires { write.at + length write.bytes < 2 ^ 64 }
@@ -183,8 +183,8 @@ impl WriteCache {
     }
 
     /// The pieces: the maximal runs of offsets at which a byte is pending, in rising order, each in one
-    /// buffer. `None` where some runs may touch: a write came after the last `join`, or memory was
-    /// wanting for that.
+    /// buffer. `None` where some runs may touch: a write came after the last `join`, or it was out
+    /// of memory for that.
     pub fn pieces(&self) -> Option<Pieces<'_>>
         ensures { IfSome result (λ pieces. ArePiecesOf self.now (pieces_left pieces)) }
     {

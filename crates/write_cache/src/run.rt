@@ -53,7 +53,7 @@ impl Run {
         &self.buffer[self.start..]
     }
 
-    /// Lays bytes over the piece from the place `from` on. When memory is wanting, the piece stays.
+    /// Lays bytes over the piece from the place `from` on. Out of memory, the piece stays.
     pub(crate) fn lay(&mut self, from: usize, bytes: &[u8]) -> Result<(), AllocError>
         requires place { from ≤ length self.old }
         ensures ok { OnOk result (self.new ≡ laid_over self.old from bytes.now) }
@@ -74,7 +74,7 @@ impl Run {
         overwrite(&mut self.buffer, self.start + from, bytes);
     }
 
-    /// Puts bytes behind those of the piece. When memory is wanting, the piece stays.
+    /// Puts bytes behind those of the piece. Out of memory, the piece stays.
     pub(crate) fn append(&mut self, more: &[u8]) -> Result<(), AllocError>
         ensures ok { OnOk result (self.new ≡ self.old ++ more.now) }
         ensures err { OnErr result (self.new ≡ self.old) }
@@ -84,7 +84,7 @@ impl Run {
     }
 
     /// Puts bytes in the place of those from `from` on, and behind them what `behind` has from `skip` on. The
-    /// shorter of the two pieces is copied into the other's room. When memory is wanting, both pieces stay;
+    /// shorter of the two pieces is copied into the other's room. Out of memory, both pieces stay;
     /// else `behind` is used up.
     pub(crate) fn join(
         &mut self,
@@ -147,7 +147,7 @@ impl Run {
 }
 
 // Makes room for `needed` bytes before those that begin at a place of a buffer, and says where these begin then.
-// Where room is wanting, as much is made besides as they have bytes.
+// Where there is too little room, as much is made besides as they have bytes.
 fn make_room(buffer: &mut Vec<u8>, start: usize, needed: usize) -> Result<usize, AllocError>
     requires { start ≤ length buffer.old.items }
     ensures ok { IfOk result (λ s. (needed ≤ s) × (s ≤ length buffer.new.items)

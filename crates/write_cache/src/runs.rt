@@ -23,7 +23,7 @@ pub(crate) fn last_from(runs: &Runs, to: u64) -> Option<(u64, &[u8])>
     Some((*at, bytes.as_slice()))
 }
 
-/// Puts a copy of these bytes from the offset `at` on, over the pieces. When memory is wanting, the
+/// Puts a copy of these bytes from the offset `at` on, over the pieces. Out of memory, the
 /// pieces stay.
 pub(crate) fn put_copy(
     runs: &mut Runs,
@@ -267,7 +267,7 @@ fn remove_between(runs: &mut Runs, after: u64, to: u64)
     }
 }
 
-/// Joins the runs that touch, front to back, each appended to the one before. When memory is wanting, some may
+/// Joins the runs that touch, front to back, each appended to the one before. Out of memory, some may
 /// still touch, and their bytes stay.
 pub(crate) fn join_all(runs: &mut Runs, alloc: Global) -> Result<(), AllocError>
     requires kept { AreKept runs.old.entries }

@@ -1,11 +1,9 @@
-use Rattle.std.proofs.Common.{ap, arith, sym, refl, ⊎_elim}
+use Rattle.std.proofs.Common.{arith, refl, sym, ⊎_elim}
+use Rattle.ledger_index.specs.Ledger.{entries_of}
 use Rattle.ledger_index.specs.Sums.{raise}
-use Rattle.ledger_index.specs.Entries.{by_parts}
-use Rattle.ledger_index.specs.Kept.{sums_at}
-use Rattle.ledger_index.specs.Ledger.{entries_of, short_in}
-use Rattle.ledger_index.specs.Place.{is_same_place, part_of}
-use Rattle.ledger_index.proofs.EntryLaws.{changes_after, full_as, in_err, on_err, on_ok, raise_none, stays_after}
-use Rattle.ledger_index.proofs.LedgerLaws.{all_stay, at_place, changed_above, changed_nothing, short_changed}
+use Rattle.ledger_index.proofs.EntryLaws.{full_as, on_err, on_ok, raise_none}
+use Rattle.ledger_index.proofs.LedgerLaws.{all_stay, apart_made, at_seat, at_single, is_tidy, seat_changed, single_changed}
+use Rattle.ledger_index.proofs.SinglesLaws.{changed_above, changed_nothing}
 use Rattle.ledger_index.proofs.ledger.LedgerIndex.add_saturating.Goals as goal
 
 pub returns-then-not-names_a_sum-clause-ok : goal.returns-then-not-names_a_sum-clause-ok
@@ -13,49 +11,51 @@ returns-then-not-names_a_sum-clause-ok g c =
     ⊎_elim (λ above. changed_above raise raise_none _ _ _ _ _ above c.names_a_sum.ensures) (λ small. changed_nothing raise raise_none _ _ _ _ small.1)
     c.then-not-names_a_sum.either
 
--- to the entry that was last found
+pub returns-then-not-names_a_sum-clause-entries : goal.returns-then-not-names_a_sum-clause-entries
+returns-then-not-names_a_sum-clause-entries g c = is_tidy _
+
+-- to one with a seat
 pub returns-in-Some-clause-ok : goal.returns-in-Some-clause-ok
 returns-in-Some-clause-ok g c =
-    on_ok c.add_at.result (λ is. short_changed raise raise_none _ _ _ _ _ _ c.in-Some.ensures.0 is (λ l. refl) (λ q. refl)) c.add_at.ensures.ok
-
-pub returns-in-Some-clause-err : goal.returns-in-Some-clause-err
-returns-in-Some-clause-err g c =
-    on_err c.add_at.result (λ is. all_stay _ _ is (λ l n. refl) (λ q n. refl)) c.add_at.ensures.err
+    on_ok c.add.result (λ is. seat_changed raise raise_none c.args.account.now c.args.field c.args.amount c.args.self.now _ c.in-Some.seat (sym c.in-Some.ensures.seat) is refl)
+    c.add.ensures.ok
 
 pub returns-in-Some-clause-full : goal.returns-in-Some-clause-full
-returns-in-Some-clause-full g c = full_as c.add_at.result _ _ (at_place _ _ _ (sym c.in-Some.ensures.0) c.args.field) c.add_at.ensures.full
+returns-in-Some-clause-full g c = full_as c.add.result _ _ (sym (at_seat _ _ c.in-Some.seat (sym c.in-Some.ensures.seat) c.args.field)) c.add.ensures.full
 
--- to one that is found by its hash
-pub returns-in-Some-of-clause-ok : goal.returns-in-Some-of-clause-ok
-returns-in-Some-of-clause-ok g c =
-    on_ok c.add_by_hash.result (λ is. short_changed raise raise_none _ _ _ _ _ _ (sym c.in-Some-of.ensures)
-    (changes_after is_same_place raise (short_in c.args.self.now) (by_parts is_same_place part_of c.seed-in-Some-of.new.self.parts.items)
-    (by_parts is_same_place part_of c.add_by_hash.new.self.parts.items) _ _ _ c.seed-in-Some-of.ensures.same is) (λ l. refl) (λ q. refl)) c.add_by_hash.ensures.ok
+pub returns-in-Some-clause-err : goal.returns-in-Some-clause-err
+returns-in-Some-clause-err g c = on_err c.add.result (λ is. all_stay c.args.self.now _ is refl) c.add.ensures.err
 
-pub returns-in-Some-of-clause-err : goal.returns-in-Some-of-clause-err
-returns-in-Some-of-clause-err g c =
-    on_err c.add_by_hash.result (λ is. all_stay _ _
-    (stays_after (short_in c.args.self.now) (by_parts is_same_place part_of c.seed-in-Some-of.new.self.parts.items)
-    (by_parts is_same_place part_of c.add_by_hash.new.self.parts.items) c.seed-in-Some-of.ensures.same is)
-    (λ l n. refl) (λ q n. refl)) c.add_by_hash.ensures.err
+pub returns-in-Some-clause-entries : goal.returns-in-Some-clause-entries
+returns-in-Some-clause-entries g c = is_tidy _
 
-pub returns-in-Some-of-clause-full : goal.returns-in-Some-of-clause-full
-returns-in-Some-of-clause-full g c = full_as c.add_by_hash.result _ _ (at_place _ _ _ c.in-Some-of.ensures c.args.field) c.add_by_hash.ensures.full
-
--- out of memory for the parts of the table, all stays
-pub returns-in_err-seed-clause-err : goal.returns-in_err-seed-clause-err
-returns-in_err-seed-clause-err g c =
-    in_err c.from_residual.result (all_stay _ _ (λ p n. ap (λ o. sums_at o n) (c.seed-in-Some-of.ensures.same p)) (λ l n. refl) (λ q n. refl))
-
-pub returns-in_err-seed-clause-few : goal.returns-in_err-seed-clause-few
-unfolding entries_of
-returns-in_err-seed-clause-few g c = omega (arith, c.seed-in-Some-of.ensures.count)
-
--- there is an entry more at most
 pub returns-in-Some-clause-few : goal.returns-in-Some-clause-few
 unfolding entries_of
-returns-in-Some-clause-few g c = omega (arith, c.add_at.ensures.few)
+returns-in-Some-clause-few g c = omega (arith, c.add.ensures.few)
 
-pub returns-in-Some-of-clause-few : goal.returns-in-Some-of-clause-few
+-- to one without
+pub invariant_of-self-in-None : goal.invariant_of-self-in-None
+invariant_of-self-in-None g c = record {
+  apart = apart_made raise raise_none c.args.account.now c.args.field c.args.amount c.add_saturating.result c.args.self.now.singles c.add_saturating.new.self
+      (sym c.in-None.ensures.seat) c.add_saturating.ensures.ok c.add_saturating.ensures.err c.args.self.now.apart;
+}
+
+pub returns-in-None-clause-ok : goal.returns-in-None-clause-ok
+returns-in-None-clause-ok g c =
+    on_ok c.add_saturating.result
+    (λ is. single_changed raise raise_none c.args.account.now c.args.field c.args.amount c.args.self.now _ (sym c.in-None.ensures.seat) is (λ s. refl))
+    c.add_saturating.ensures.ok
+
+pub returns-in-None-clause-full : goal.returns-in-None-clause-full
+returns-in-None-clause-full g c =
+    full_as c.add_saturating.result _ _ (sym (at_single _ _ (sym c.in-None.ensures.seat) c.args.field)) c.add_saturating.ensures.full
+
+pub returns-in-None-clause-err : goal.returns-in-None-clause-err
+returns-in-None-clause-err g c = on_err c.add_saturating.result (λ is. all_stay c.args.self.now _ (λ s n. refl) is) c.add_saturating.ensures.err
+
+pub returns-in-None-clause-entries : goal.returns-in-None-clause-entries
+returns-in-None-clause-entries g c = is_tidy _
+
+pub returns-in-None-clause-few : goal.returns-in-None-clause-few
 unfolding entries_of
-returns-in-Some-of-clause-few g c = omega (arith, c.add_by_hash.ensures.few, c.seed-in-Some-of.ensures.count)
+returns-in-None-clause-few g c = omega (arith, c.add_saturating.ensures.few)

@@ -1,15 +1,8 @@
-use Rattle.std.proofs.Common.{ap, arith}
-use Rattle.ledger_index.specs.Entries.{by_parts, count_in}
-use Rattle.ledger_index.specs.Ledger.{entries_of}
-use Rattle.ledger_index.specs.LongPlace as longer
-use Rattle.ledger_index.specs.Place.{is_same_place, part_of}
-use Rattle.ledger_index.proofs.LedgerLaws.{none_of, sums_none}
+use Rattle.ledger_index.proofs.LedgerLaws.{is_tidy, sums_none}
 use Rattle.ledger_index.proofs.ledger.LedgerIndex.new.Goals as goal
 
 pub returns-clause-sums : goal.returns-clause-sums
-returns-clause-sums g c = sums_none _ (none_of _ (λ p. ap (λ ps. by_parts is_same_place part_of ps p) c.new.ensures)
-    (λ p. ap (λ ps. by_parts longer.is_same_long longer.part_of ps p) c.new-2.ensures) c.new-3.ensures.none)
+returns-clause-sums g c = sums_none _ c.new.ensures.none c.new-2.ensures.sums
 
-pub returns-clause-none : goal.returns-clause-none
-unfolding entries_of count_in
-returns-clause-none g c = omega (arith, ap count_in c.new.ensures, ap count_in c.new-2.ensures, c.new-3.ensures.empty)
+pub returns-clause-entries : goal.returns-clause-entries
+returns-clause-entries g c = is_tidy _
