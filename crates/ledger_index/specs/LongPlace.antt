@@ -1,11 +1,10 @@
 -- The accounts that take 56 bytes. It serves to state what private functions keep.
-use Rattle.std.specs.Prelude.{ℕ, Bool, nat_eq, ◌+◌, ◌*◌, ◌/◌, ◌^◌, min, ◌++◌, ◌&&◌, ◌==◌, nat_le, nat_lt, List, [], ◌∷◌, length, take, drop, replicate, slice_index, Option, Some, None, if◌then◌else◌}
+use Rattle.std.specs.Prelude.{ℕ, Bool, nat_eq, ◌+◌, ◌*◌, ◌/◌, ◌^◌, min, ◌++◌, ◌&&◌, ◌==◌, nat_le, nat_lt, List, [], ◌∷◌, length, take, drop, replicate, Option, Some, None, if◌then◌else◌}
 use Rattle.std.specs.Hash as fed
-use Rattle.std.specs.Int.{w32, from_le_bytes}
 use Rattle.std.specs.Cmp.Lexicographic.{pointwise}
 use Rattle.accounts.specs.declared.account.Account.{Account}
 use Rattle.ledger_index.specs.declared.long_place.LongPlace.{LongPlace}
-use Rattle.ledger_index.specs.Place.{named_head_of, part_at, two_of, wide_of}
+use Rattle.ledger_index.specs.Place.{part_at, two_of, wide_of}
 
 -- up to 36 bytes with zeros behind them
 abbrev pub padded : List ℕ → List ℕ
@@ -45,19 +44,13 @@ is_same_long p q =
     p.length == q.length
     && (p.kind == q.kind && (p.sort == q.sort && (p.tree == q.tree && (p.objectid == q.objectid && (p.offset == q.offset && (p.detail == q.detail && pointwise nat_eq p.tail q.tail))))))
 
--- the last four bytes of a tail of 36 in one number
-unfoldable pub last_number : List ℕ → ℕ
-last_number tail = from_le_bytes w32 (slice_index tail 32 ∷ slice_index tail 33 ∷ slice_index tail 34 ∷ slice_index tail 35 ∷ [])
-
--- how many bytes of a tail are fed to a hash in front of these, for a name of a length: as many as it has, in eights
+-- how many bytes of a tail are fed to a hash, for a name of a length: as many as it has, in eights
 abbrev pub eights : ℕ → ℕ
-eights length = min (8 * ((length + 7) / 8)) 32
+eights length = min (8 * ((length + 7) / 8)) 36
 
 -- what is fed of a place to a hash
 abbrev pub long_fed : LongPlace → List (List ℕ)
-long_fed p =
-    fed.u128 (wide_of (named_head_of p.length p.kind p.sort p.tree) (two_of p.objectid p.offset))
-    ++ (fed.u64 (two_of p.detail (last_number p.tail)) ++ (take (eights p.length) p.tail ∷ []))
+long_fed p = fed.u128 (wide_of (two_of p.tree p.objectid) (two_of p.offset p.detail)) ++ (take (eights p.length) p.tail ∷ [])
 
 -- the number of the part of a table that has its entry
 abbrev pub part_of : LongPlace → ℕ

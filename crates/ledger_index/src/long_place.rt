@@ -5,7 +5,7 @@ ghost use Rattle.ledger_index.specs.LongPlace as spec;
 ghost use Rattle.ledger_index.specs.LongPlaceLaws.{long_equiv, long_fed_alike, long_per, same_long};
 
 use crate::part::Exact;
-use crate::place::{front_of, mixed_of, named_head_of, part_at, two_of, wide_of};
+use crate::place::{front_of, mixed_of, part_at, two_of, wide_of};
 use accounts::Account;
 use std::alloc::Global;
 use std::hash::{Hash, Hasher};
@@ -73,28 +73,19 @@ impl Hash for LongPlace {
     ghost respects_eq = { long_fed_alike };
 
     fn hash<H: Hasher>(&self, state: &mut H) {
-        let head = named_head_of(self.length, self.kind, self.sort, self.tree);
-        state.write_u128(wide_of(head, two_of(self.objectid, self.offset)));
-        state.write_u64(two_of(self.detail, last_number(&self.tail)));
+        let inode = two_of(self.tree, self.objectid);
+        state.write_u128(wide_of(inode, two_of(self.offset, self.detail)));
         state.write(&self.tail[..eights(self.length)]);
     }
 }
 
-// The last four bytes of a tail in one number.
-#[tactic(auto, unfolding(crate::specs::LongPlace::last_number))]
-fn last_number(tail: &[u8; 36]) -> u32
-    ensures { result ≡ spec.last_number tail.now }
-{
-    u32::from_le_bytes([tail[32], tail[33], tail[34], tail[35]])
-}
-
-// How many bytes of a tail a hash is fed in front of these, for a name of this length: as many as it has, in eights. A hash takes eight
-// bytes at a time, and zeros behind a name tell nothing.
+// How many bytes of a tail a hash is fed, for a name of this length: as many as it has, in eights. A hash takes eight bytes at a time,
+// and zeros behind a name tell nothing. Nor is it fed a kind, a sort and a length: few accounts differ in these alone.
 fn eights(length: u8) -> usize
     ensures value { result ≡ spec.eights length }
-    ensures within { result ≤ 32 }
+    ensures within { result ≤ 36 }
 {
-    (8 * ((usize::from(length) + 7) / 8)).min(32)
+    (8 * ((usize::from(length) + 7) / 8)).min(36)
 }
 
 impl LongPlace {

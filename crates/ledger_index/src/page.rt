@@ -1,9 +1,9 @@
 //! The sums of sixteen accounts.
 
-ghost use Rattle.std.specs.Prelude.{◌≡◌, ◌↔◌, ◌+◌, ◌<◌, IsTrue, [], false, IfOk, OnOk, OnErr, length, slice_get};
+ghost use Rattle.std.specs.Prelude.{◌≡◌, ◌↔◌, ◌<◌, IsTrue, [], false, IfOk, OnOk, OnErr, length, slice_get};
 ghost use Rattle.std.specs.Option.{option_copied};
 ghost use Rattle.ledger_index.specs.Sums.{greatest, lower, raise};
-ghost use Rattle.ledger_index.specs.Kept.{IsZero, sums_at};
+ghost use Rattle.ledger_index.specs.Kept.{sums_at};
 
 use crate::kept::Kept;
 use std::alloc::Global;

@@ -221,7 +221,7 @@ fn head_of(kind: u8, sort: u8, tree: u32) -> u64
 }
 
 // A length of a tail, a kind, a sort and a tree in one number.
-pub(crate) fn named_head_of(length: u8, kind: u8, sort: u8, tree: u32) -> u64
+fn named_head_of(length: u8, kind: u8, sort: u8, tree: u32) -> u64
     ensures { result ≡ spec.named_head_of length kind sort tree }
 {
     head_of(kind, sort, tree) + 281474976710656 * u64::from(length)
