@@ -135,7 +135,7 @@ fn finds_the_least_broken_account(rt: HostRuntime) -> Result<(), NoMemory> {
 
 // An inode whose number takes more than 32 bits.
 fn far_inode(alloc: Global, i: u64) -> Account {
-    Account::inode(alloc, 5, 4_294_967_296 + i * 128)
+    Account::inode(alloc, 5, i.wrapping_mul(128).wrapping_add(4_294_967_296))
 }
 
 #[test]
@@ -211,12 +211,12 @@ fn keeps_inodes_of_a_page_apart(rt: HostRuntime) -> Result<(), NoMemory> {
             assert!(rt; ledger.get(account, &mut steps) == two(u128::from(amount), 1_000_000));
             amount += 1;
         }
-        let [mut other, ..] = of_inode(alloc, ino);
+        let mut other = Account::inode(alloc, 5, ino);
         other.key.offset = 1;
         assert!(rt; ledger.get(&other, &mut steps) == two(0, 0));
-        other.key.offset = 0;
-        other.block = 16;
-        assert!(rt; ledger.get(&other, &mut steps) == two(0, 0));
+        let mut another = Account::inode(alloc, 5, ino);
+        another.block = 16;
+        assert!(rt; ledger.get(&another, &mut steps) == two(0, 0));
     }
     for ino in inodes {
         for account in &of_inode(alloc, ino) {
