@@ -202,14 +202,14 @@ fn keeps_inodes_of_a_page_apart(rt: HostRuntime) -> Result<(), NoMemory> {
         for account in &of_inode(alloc, ino) {
             ledger.add(account, 0, amount, &mut steps)?;
             ledger.add(account, 1, 1_000_000, &mut steps)?;
-            amount += 1;
+            amount = amount.wrapping_add(1);
         }
     }
     amount = 1;
     for ino in inodes {
         for account in &of_inode(alloc, ino) {
             assert!(rt; ledger.get(account, &mut steps) == two(u128::from(amount), 1_000_000));
-            amount += 1;
+            amount = amount.wrapping_add(1);
         }
         let mut other = Account::inode(alloc, 5, ino);
         other.key.offset = 1;
