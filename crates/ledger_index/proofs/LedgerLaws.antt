@@ -1,6 +1,6 @@
 -- What a ledger says once one of the sums is changed.
-use Rattle.std.proofs.Common.{◌≡◌, ℕ, ◌==◌, ◌&&◌, false, cond, refl, ap, sym, ◌∙◌}
-use Rattle.std.specs.Prelude.{Option, Some, None, Result, Ok, Err, OnOk, OnErr, nat_lt}
+use Rattle.std.proofs.Common.{Bool, false, ◌≡◌, ℕ, ◌==◌, ◌&&◌, cond, refl, ap, sym, ◌∙◌}
+use Rattle.std.specs.Prelude.{Option, Some, None, Result, Ok, Err, OnOk, OnErr, ◌↔◌, nat_lt}
 use Rattle.std.proofs.Math.Path.{fun_ext}
 use Rattle.accounts.specs.declared.account.Account.{Account}
 use Rattle.accounts.specs.Sums.{is_same}
@@ -11,12 +11,13 @@ use Rattle.ledger_index.specs.declared.singles.Singles.{Singles}
 use Rattle.ledger_index.specs.Apart.{AreApart}
 use Rattle.ledger_index.specs.Entries.{Changes, Entries, Stays}
 use Rattle.ledger_index.specs.Kept.{sums_at}
-use Rattle.ledger_index.specs.Ledger.{IsTidy, has_entry, sums_from, sums_of}
+use Rattle.ledger_index.specs.Ledger.{IsTidy, entry_from, has_entry, sums_from, sums_of}
 use Rattle.ledger_index.specs.Pages.{seats_in}
 use Rattle.ledger_index.specs.Seat.{is_same_seat, seat_of}
 use Rattle.ledger_index.specs.Singles as single
 use Rattle.ledger_index.specs.Sums.{changed}
 use Rattle.ledger_index.proofs.EntryLaws.{other_amount}
+use Rattle.ledger_index.proofs.KeptLaws.{stands_law}
 use Rattle.ledger_index.proofs.PlaceLaws.{apart, apart'}
 use Rattle.ledger_index.proofs.SeatLaws.{seats_alike}
 use Rattle.ledger_index.proofs.SinglesLaws.{is_tidy as singles_tidy}
@@ -90,14 +91,17 @@ module _ {L : Type 0} (ledger : LedgerIndex L) (account : Account) where
   unfolding sums_of
   at_single at n = ap (λ o. sums_from o (seats_in ledger.pages.map) (single.sums_of ledger.singles account) n) at
 
--- an entry stands for exactly the accounts without a seat whose sums are not all zero
+tidy_case : (seat : Option Seat) (seats : Entries Seat) (single : Bool) (sums : ℕ → ℕ) → (single ≡ false) ↔ ((n : ℕ) → sums n ≡ 0)
+    → (entry_from seat seats single ≡ false) ↔ ((n : ℕ) → sums_from seat seats sums n ≡ 0)
+tidy_case (Some s) seats single sums tidy = stands_law (seats s)
+tidy_case None seats single sums tidy = tidy
+
+-- an entry stands for exactly the accounts whose sums are not all zero
 pub is_tidy : {L : Type 0} (ledger : LedgerIndex L) → IsTidy ledger
-unfolding has_entry
+unfolding has_entry sums_of
 is_tidy ledger = record {
-  entries = λ account at. (
-    λ none n. at_single ledger account at n ∙ (singles_tidy ledger.singles account).0 none n,
-    λ zero. (singles_tidy ledger.singles account).1 (λ n. sym (at_single ledger account at n) ∙ zero n),
-  );
+  entries = λ account. tidy_case (seat_of account) (seats_in ledger.pages.map) (single.has_entry ledger.singles account) (single.sums_of ledger.singles account)
+      (singles_tidy ledger.singles account);
   pages = ledger.pages.stand;
 }
 

@@ -1,5 +1,5 @@
 -- What is kept of the nine sums of one account. It serves to state what private functions keep.
-use Rattle.std.specs.Prelude.{◌≡◌, ℕ, ◌-◌, nat_lt, Option, Some, None, slice_index, if◌then◌else◌}
+use Rattle.std.specs.Prelude.{◌≡◌, ℕ, ◌-◌, ◌&&◌, ◌==◌, Bool, true, false, not, nat_lt, List, [], ◌∷◌, take, Option, Some, None, slice_index, if◌then◌else◌}
 use Rattle.accounts.specs.Sums.{sum_in}
 use Rattle.ledger_index.specs.declared.kept.Kept.{Kept}
 use Rattle.ledger_index.specs.declared.kept.Kept.TheVariants.{Few, Long, Whole}
@@ -18,3 +18,19 @@ IsZero kept = (n : ℕ) → kept_sum kept n ≡ 0
 abbrev pub sums_at : Option Kept → ℕ → ℕ
 sums_at None n = 0
 sums_at (Some kept) n = kept_sum kept n
+
+-- whether numbers are all zero
+unfoldable pub are_zero : List ℕ → Bool
+are_zero [] = true
+are_zero (x ∷ xs) = x == 0 && are_zero xs
+
+-- whether all nine sums are
+unfoldable pub is_zero : Kept → Bool
+is_zero (Few few) = are_zero few
+is_zero (Long few long) = are_zero (take 7 few) && are_zero long
+is_zero (Whole totals) = are_zero totals.value.f
+
+-- whether something is kept of an account that is not zero
+abbrev pub stands : Option Kept → Bool
+stands None = false
+stands (Some kept) = not (is_zero kept)

@@ -38,3 +38,7 @@ AreZero slots = (i n : ℕ) → sums_at (slice_get slots i) n ≡ 0
 -- no page stands whose sums are all zero
 abbrev pub ArePages : (PageKey → Option Page) → Type 0
 ArePages pages = (key : PageKey) (page : Page) → pages key ≡ Some page → AreZero page.slots.items → ⊥
+
+-- the same of the pages of a map
+abbrev pub StandIn : {S : Type 0} → IndexMap PageKey Page S → Type 0
+StandIn pages = ArePages (by_key is_same_page pages)

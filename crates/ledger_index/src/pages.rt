@@ -7,7 +7,7 @@ ghost use Rattle.ledger_index.specs.declared.seat.Seat.{Seat as ASeat};
 ghost use Rattle.ledger_index.specs.Sums.{greatest, lower, raise};
 ghost use Rattle.ledger_index.specs.Kept.{sums_at};
 ghost use Rattle.ledger_index.specs.Entries.{Changes, StandsAt, Stays, by_key};
-ghost use Rattle.ledger_index.specs.Pages.{ArePages, seats_in};
+ghost use Rattle.ledger_index.specs.Pages.{StandIn, seats_in};
 ghost use Rattle.ledger_index.specs.Seat.{is_same_page, is_same_seat};
 
 use crate::hint::{HINTS, Hint, bits_of, hint_of, slot_of};
@@ -27,7 +27,7 @@ pub(crate) struct Pages {
     map: IndexMap<PageKey, Page, Seeded>,
     // Where pages stood that were last found, each at the slot of its key. Nothing rests on it.
     near: [Hint; HINTS],
-    ghost stand: { ArePages (by_key is_same_page map) },
+    ghost stand: { StandIn map },
 }
 
 impl Pages {
@@ -235,7 +235,7 @@ fn add_to(
     ensures full { IfOk result (λ made. made.0 ≡ false →
         sums_at (seats_in map.new seat.now) field < greatest) }
     ensures err { OnErr result (Stays (seats_in map.old) (seats_in map.new)) }
-    ensures stand { ArePages (by_key is_same_page map.old) → ArePages (by_key is_same_page map.new) }
+    ensures stand { StandIn map.old → StandIn map.new }
     ensures few { index_map_len map.new ≤ index_map_len map.old + 1 }
 {
     match map.entry(seat.page) {
@@ -274,7 +274,7 @@ fn take_from(
     requires named { field < 9 }
     ensures changes { Changes is_same_seat lower (seats_in map.old)
         (seats_in map.new) seat.now field amount }
-    ensures stand { ArePages (by_key is_same_page map.old) → ArePages (by_key is_same_page map.new) }
+    ensures stand { StandIn map.old → StandIn map.new }
 {
     let page = map.get_index_mut(at).unwrap();
     page.lower(seat.slot, field, amount);
