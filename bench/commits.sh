@@ -1,5 +1,6 @@
 #!/usr/bin/env bash
-# Measures what a commit costs beside the size of the volume, and what the index costs, by user time (the least of three runs each).
+# Measures what a commit costs beside the size of the volume, and what the index costs, by processor time, user and system (the least of
+# three runs each; where the system counts by ticks, their sum is right and their parts are not).
 # - A settle that rewrites one leaf of the file tree with its own bytes, on a volume of 2,000 small files and on one of 200,000: microseconds
 #   each, and the ratio.
 # - The start of a replay beside `recon check`: seconds, peak memory, and the ratio; the bytes of the index beside those of the metadata.
@@ -66,14 +67,15 @@ BLOCK = 16384
 
 
 def run(words, trace=None):
-    """The least user seconds of three runs, the peak memory in bytes, and the lines."""
+    """The least processor seconds of three runs, the peak memory in bytes, and the lines."""
     least = peak = lines = None
     for _ in range(3):
         with open(trace or os.devnull, 'rb') as given:
             child = subprocess.Popen([program, *words], stdin=given, stdout=subprocess.PIPE)
             lines = child.stdout.read().decode().splitlines()
             used = os.wait4(child.pid, 0)[2]
-        least = used.ru_utime if least is None else min(least, used.ru_utime)
+        spent = used.ru_utime + used.ru_stime
+        least = spent if least is None else min(least, spent)
         peak = max(peak or 0, used.ru_maxrss * 1024)
     return least, peak, lines
 

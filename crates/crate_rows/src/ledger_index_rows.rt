@@ -262,3 +262,162 @@ fn finds_the_least_broken_inode(rt: HostRuntime) -> Result<(), NoMemory> {
     }
     Ok(())
 }
+
+// An account of a link of an inode in directory 256, with this index and a name of this many bytes.
+fn link(alloc: Global, ino: u64, index: u64, length: usize) -> Result<Account, NoMemory> {
+    let mut account = entry(alloc, length)?;
+    account.kind = 12;
+    account.key = Key {
+        objectid: ino,
+        kind: 12,
+        offset: 256,
+    };
+    account.detail = index;
+    Ok(account)
+}
+
+// The same of the entry of the directory, with this hash, and of this type.
+fn typed(
+    alloc: Global,
+    ino: u64,
+    hash: u64,
+    length: usize,
+    sort: u8,
+) -> Result<Account, NoMemory> {
+    let mut account = entry(alloc, length)?;
+    account.key.offset = hash;
+    account.detail = ino;
+    account.tail.push(sort)?;
+    account.tail.push(1)?;
+    Ok(account)
+}
+
+// Accounts of one name: a link and an entry of a regular file, others with another index, another hash and another type, and one whose
+// index takes more than 32 bits.
+fn of_name(alloc: Global, ino: u64, length: usize) -> Result<[Account; 6], NoMemory> {
+    Ok([
+        link(alloc, ino, 2, length)?,
+        typed(alloc, ino, 1, length, 1)?,
+        link(alloc, ino, 3, length)?,
+        typed(alloc, ino, 2, length, 1)?,
+        typed(alloc, ino, 1, length, 2)?,
+        link(alloc, ino, 4_294_967_298, length)?,
+    ])
+}
+
+#[test]
+fn keeps_accounts_of_a_name_apart(rt: HostRuntime) -> Result<(), NoMemory> {
+    let alloc = rt.alloc();
+    let mut steps = Steps::seeded((), [2; 16]);
+    let mut ledger = LedgerIndex::new(alloc);
+    let names = [
+        (257, 1),
+        (258, 1),
+        (257, 3),
+        (257, 12),
+        (257, 36),
+        (257, 37),
+        (4_294_967_553, 3),
+    ];
+    let mut amount = 1;
+    for which in 0..6usize {
+        for (ino, length) in names {
+            let account = &of_name(alloc, ino, length)?[which];
+            ledger.add(account, 0, amount, &mut steps)?;
+            ledger.add(account, 1, 1_000_000, &mut steps)?;
+            amount = amount.wrapping_add(1);
+        }
+    }
+    amount = 1;
+    for which in 0..6usize {
+        for (ino, length) in names {
+            let account = &of_name(alloc, ino, length)?[which];
+            assert!(rt; ledger.get(account, &mut steps) == two(u128::from(amount), 1_000_000));
+            assert!(rt; ledger.breaks(account, &mut steps));
+            amount = amount.wrapping_add(1);
+        }
+    }
+    // A sum that is none of the two stands beside them.
+    let first = &of_name(alloc, 257, 3)?[0];
+    let mut totals = ledger.get(first, &mut steps);
+    ledger.add(first, 7, 5, &mut steps)?;
+    totals.f[7] = 5;
+    assert!(rt; ledger.get(first, &mut steps) == totals);
+    ledger.take(first, 7, 9, &mut steps);
+    for which in 0..6usize {
+        for (ino, length) in names {
+            let account = &of_name(alloc, ino, length)?[which];
+            ledger.take(account, 0, u64::MAX, &mut steps);
+            assert!(rt; ledger.get(account, &mut steps) == two(0, 1_000_000));
+            ledger.take(account, 1, 1_000_000, &mut steps);
+            assert!(rt; ledger.get(account, &mut steps) == two(0, 0));
+        }
+    }
+    // Nothing stands any more, so nothing is looked at.
+    let looks = steps.looks();
+    assert!(rt; ledger.least_broken(&mut steps)?.is_none());
+    assert!(rt; steps.looks() == looks);
+    Ok(())
+}
+
+#[test]
+fn finds_the_least_broken_name(rt: HostRuntime) -> Result<(), NoMemory> {
+    let alloc = rt.alloc();
+    let mut steps = Steps::seeded((), [4; 16]);
+    let mut ledger = LedgerIndex::new(alloc);
+    for ino in 257..321 {
+        for account in &[link(alloc, ino, ino, 3)?, typed(alloc, ino, ino, 3, 1)?] {
+            ledger.add(account, 0, 1, &mut steps)?;
+            ledger.add(account, 1, 1, &mut steps)?;
+        }
+    }
+    // The two of a name are one entry.
+    let looks = steps.looks();
+    assert!(rt; ledger.least_broken(&mut steps)?.is_none());
+    assert!(rt; steps.looks().wrapping_sub(looks) == 64);
+    // Each is lesser than the one before: links, one beside another with its index, and entries.
+    let broken = [
+        link(alloc, 320, 320, 3)?,
+        link(alloc, 258, 258, 3)?,
+        link(alloc, 258, 7, 3)?,
+        typed(alloc, 320, 320, 3, 1)?,
+        typed(alloc, 257, 257, 3, 1)?,
+        typed(alloc, 257, 7, 3, 1)?,
+    ];
+    for account in &broken {
+        ledger.add(account, 0, 1, &mut steps)?;
+        assert!(rt; ledger.breaks(account, &mut steps));
+        assert!(rt; ledger.least_broken(&mut steps)?.as_ref() == Some(account));
+    }
+    for account in &broken {
+        ledger.add(account, 1, 1, &mut steps)?;
+        assert!(rt; !ledger.breaks(account, &mut steps));
+    }
+    assert!(rt; ledger.least_broken(&mut steps)?.is_none());
+    Ok(())
+}
+
+#[test]
+fn finds_names_among_many(rt: HostRuntime) -> Result<(), NoMemory> {
+    let alloc = rt.alloc();
+    let mut steps = Steps::seeded((), [6; 16]);
+    let mut ledger = LedgerIndex::new(alloc);
+    for ino in 0..5000 {
+        ledger.add(&link(alloc, ino, 2, 20)?, 0, 1, &mut steps)?;
+        ledger.add(&typed(alloc, ino, 1, 20, 1)?, 1, ino + 1, &mut steps)?;
+    }
+    for ino in 0..5000 {
+        if ino % 3 == 0 {
+            ledger.take(&link(alloc, ino, 2, 20)?, 0, 1, &mut steps);
+            ledger.take(&typed(alloc, ino, 1, 20, 1)?, 1, ino + 1, &mut steps);
+        }
+    }
+    for ino in 0..5000 {
+        let stands = if ino % 3 == 0 { 0 } else { 1 };
+        assert!(rt; ledger.get(&link(alloc, ino, 2, 20)?, &mut steps) == two(stands, 0));
+        let named = ledger.get(&typed(alloc, ino, 1, 20, 1)?, &mut steps);
+        assert!(rt; named == two(0, stands * (u128::from(ino) + 1)));
+    }
+    assert!(rt; ledger.least_broken(&mut steps)? == Some(typed(alloc, 1, 1, 20, 1)?));
+    Ok(())
+}

@@ -220,7 +220,7 @@ module _ {K : Type 0} (same : K → K → Bool) (key : K) where
   none_apart [] fs none = (refl, none)
   none_apart (e ∷ es) fs none = none_step e es fs (same key e.0) refl (none_apart es fs) none
 
-  none_in : {S : Type 0} (parts : List (IndexMap K Kept S)) (n : ℕ) → is_some (lookup (same key) (entries_in parts)) ≡ false
+  pub none_in : {S : Type 0} (parts : List (IndexMap K Kept S)) (n : ℕ) → is_some (lookup (same key) (entries_in parts)) ≡ false
       → is_some (in_part same key (slice_get parts n)) ≡ false
   unfolding entries_in
   none_in [] n none = refl

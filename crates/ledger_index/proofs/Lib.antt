@@ -1,4 +1,5 @@
 pub mod KeptLaws
+pub mod SideLaws
 pub mod EntryLaws
 pub mod PartLaws
 pub mod PlaceLaws
@@ -6,6 +7,10 @@ pub mod PagesLaws
 pub mod SinglesLaws
 pub mod JudgedLaws
 pub mod PlacedLaws
+pub mod NameLaws
+pub mod NamesLaws
 pub mod SeatLaws
+pub mod UnpagedLaws
+pub mod NamedLaws
 pub mod LedgerLaws
 pub mod SeatedLaws

@@ -91,7 +91,7 @@ none_count (part ∷ parts) none = absurd (omega (arith, none))
 
 module _ {K S : Type 0} (same : K → K → Bool) (exact : (a b : K) → same a b ≡ true → a ≡ b) (number : K → ℕ) where
   -- what is kept of the keys of other parts stays
-  apart_case : (parts : List (IndexMap K Kept S)) (i : ℕ) (part' : IndexMap K Kept S) (q : K) → (i ≡ number q → ⊥)
+  pub apart_case : (parts : List (IndexMap K Kept S)) (i : ℕ) (part' : IndexMap K Kept S) (q : K) → (i ≡ number q → ⊥)
       → by_parts same number (set parts i part') q ≡ by_parts same number parts q
   apart_case parts i part' q apart = ap (in_part same q) (set_apart parts i (number q) part' apart)
 
@@ -99,7 +99,7 @@ module _ {K S : Type 0} (same : K → K → Bool) (exact : (a b : K) → same a 
     pub here_new : (q : K) → i ≡ number q → by_parts same number (set parts i part') q ≡ by_key same part' q
     here_new q is = ap (λ n. in_part same q (slice_get (set parts i part') n)) (sym is) ∙ ap (in_part same q) (set_here parts i part' within)
 
-    here_old : (q : K) → i ≡ number q → by_parts same number parts q ≡ by_key same part q
+    pub here_old : (q : K) → i ≡ number q → by_parts same number parts q ≡ by_key same part q
     here_old q is = ap (λ n. in_part same q (slice_get parts n)) (sym is) ∙ ap (in_part same q) at
 
     module _ (how : ℕ → ℕ → ℕ) (none : (sum : ℕ) → how 0 sum ≡ sum) (key : K) (here : number key ≡ i) (field amount : ℕ) where

@@ -20,9 +20,9 @@ use Rattle.ledger_index.specs.Pages.{seats_in, slots_of}
 use Rattle.ledger_index.specs.Seat.{account_at, is_same_page, kind_at, seat_of}
 use Rattle.ledger_index.specs.SeatLaws.{same_page}
 use Rattle.ledger_index.specs.Seated.{is_within, is_within_from, left_pages, left_slots}
-use Rattle.ledger_index.specs.Singles as single
+use Rattle.ledger_index.specs.Unpaged as unpaged
 use Rattle.ledger_index.proofs.JudgedLaws.{judged, unbroken}
-use Rattle.ledger_index.proofs.LedgerLaws.{at_seat, at_single}
+use Rattle.ledger_index.proofs.LedgerLaws.{at_seat, at_unpaged}
 use Rattle.ledger_index.proofs.SeatLaws.{of_seat, slot_within}
 
 or_first : (b : Bool) (slot : ℕ) → (b || (true && nat_le 0 slot)) ≡ true
@@ -93,8 +93,8 @@ module _ {L : Type 0} (ledger : LedgerIndex L) where
   seat_keeps account s at zero = ap (is_broken account) (fun_ext (λ n. at_seat ledger account s at n ∙ zero n)) ∙ unposted account
 
   start_case : (account : Account) (seat : Option Seat) → seat_of account ≡ seat → is_within ledger.pages.map.entries seat ≡ false
-      → is_broken account (single.sums_of ledger.singles account) ≡ false → is_broken account (sums_of ledger account) ≡ false
-  start_case account None at past keeps = ap (is_broken account) (fun_ext (at_single ledger account at)) ∙ keeps
+      → is_broken account (unpaged.sums_of ledger.unpaged account) ≡ false → is_broken account (sums_of ledger account) ≡ false
+  start_case account None at past keeps = ap (is_broken account) (fun_ext (at_unpaged ledger account at)) ∙ keeps
   start_case account (Some s) at past keeps =
       seat_keeps account s at (λ n. ap (λ o. sums_at (slice_get (slots_of o) s.slot) n) (none_is (lookup (is_same_page s.page) ledger.pages.map.entries) past))
     where
@@ -103,13 +103,13 @@ module _ {L : Type 0} (ledger : LedgerIndex L) where
       none_is (Some a) is = absurd (cc is)
 
   -- an account without a seat that is broken by itself
-  found_case : (l : Account) (seat : Option Seat) → seat_of l ≡ seat → is_broken l (single.sums_of ledger.singles l) ≡ true → is_broken l (sums_of ledger l) ≡ true
-  found_case l None at broken = ap (is_broken l) (fun_ext (at_single ledger l at)) ∙ broken
+  found_case : (l : Account) (seat : Option Seat) → seat_of l ≡ seat → is_broken l (unpaged.sums_of ledger.unpaged l) ≡ true → is_broken l (sums_of ledger l) ≡ true
+  found_case l None at broken = ap (is_broken l) (fun_ext (at_unpaged ledger l at)) ∙ broken
   found_case l (Some s) at broken =
-      let none : is_broken l (single.sums_of ledger.singles l) ≡ false = ap (is_broken l) (fun_ext (λ n. ledger.apart l s at n)) ∙ unposted l in
+      let none : is_broken l (unpaged.sums_of ledger.unpaged l) ≡ false = ap (is_broken l) (fun_ext (λ n. ledger.apart l s at n)) ∙ unposted l in
       absurd (cc (sym broken ∙ none))
 
-  pub least_start : (found : Option Account) → IsLeastBroken (λ account. is_broken account (single.sums_of ledger.singles account)) found
+  pub least_start : (found : Option Account) → IsLeastBroken (λ account. is_broken account (unpaged.sums_of ledger.unpaged account)) found
       → IsLeastBut (sums_of ledger) (left_pages ledger.pages.map.entries) found
   unfolding IsLeastBut left_pages
   least_start None least = λ account past. start_case account (seat_of account) refl past (least account)

@@ -8,8 +8,16 @@ pub mod Seat
 pub mod SeatLaws
 pub mod Entries
 pub mod Singles
+pub mod Side
+pub mod Shifts
+pub mod Name
+pub mod Names
 pub mod Pages
 pub mod Judged
 pub mod Apart
+pub mod Beside
+pub mod Unpaged
+pub mod Added
+pub mod Named
 pub mod Ledger
 pub mod Seated

@@ -3,7 +3,7 @@
 ghost use Rattle.std.specs.Prelude.{◌≡◌, slice_index, IfSome};
 ghost use Rattle.accounts.specs.Broken.{inode_keeps, is_broken};
 ghost use Rattle.ledger_index.specs.declared.kept.Kept.TheVariants.{Long};
-ghost use Rattle.ledger_index.specs.Judged.{breaks, stands_before};
+ghost use Rattle.ledger_index.specs.Judged.{breaks, lesser_of, stands_before};
 ghost use Rattle.ledger_index.specs.Kept.{kept_sum};
 
 use crate::kept::Kept;
@@ -89,8 +89,18 @@ fn long_inode_keeps(f: &[u8; 7], long: &[u32; 2]) -> bool
         && long[0] == long[1]
 }
 
-/// Whether an account stands before another, if there is another.
-pub(crate) fn stands_before(account: &Account, other: &Option<Account>) -> bool
+/// An account, where it is broken and stands before another, or else the other.
+pub(crate) fn lesser(is_broken: bool, account: Account, other: Option<Account>) -> Option<Account>
+    ensures { result ≡ lesser_of is_broken account other }
+{
+    if is_broken && stands_before(&account, &other) {
+        return Some(account);
+    }
+    other
+}
+
+// Whether an account stands before another, if there is another.
+fn stands_before(account: &Account, other: &Option<Account>) -> bool
     ensures { result ≡ stands_before account.now other.now }
 {
     match other {

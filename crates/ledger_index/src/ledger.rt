@@ -15,14 +15,14 @@ ghost use Rattle.ledger_index.specs.Judged.{IsLeastBut, breaks as rule_breaks, l
 ghost use Rattle.ledger_index.specs.Kept.{sums_at};
 ghost use Rattle.ledger_index.specs.Seat.{is_same_page, kind_at};
 ghost use Rattle.ledger_index.specs.Seated.{left_pages};
-ghost use Rattle.ledger_index.specs.Singles as single;
 ghost use Rattle.ledger_index.specs.Sums.{changed, greatest, lower, raise};
+ghost use Rattle.ledger_index.specs.Unpaged as unpaged;
 
-use crate::judged::{breaks, is_broken, stand_in, stands_before};
+use crate::judged::{breaks, is_broken, lesser, stand_in};
 use crate::page::Page;
 use crate::pages::Pages;
 use crate::seat::{PageKey, Seat, kind_at};
-use crate::singles::Singles;
+use crate::unpaged::Unpaged;
 use accounts::{Account, Totals, broken};
 use recon_disk::Steps;
 use std::alloc::Global;
@@ -30,18 +30,19 @@ use std::marker::PhantomData;
 use verdict::NoMemory;
 
 /// The totals of the accounts of an image. Those of inodes, and of the type of regular files, stand in pages: eight inodes
-/// with numbers next to each other to a page. The other accounts have an entry each. A page or an entry stands only where
-/// some total is not zero. Each call looks once into the tables and counts that, but for `new`, which does not look, and
-/// `least_broken`, which looks at most once for each page and entry.
+/// with numbers next to each other to a page. Those of the names of regular files stand two to an entry: that of the entry of
+/// the directory, and that of the link of the inode. The other accounts have an entry each. A page or an entry stands only
+/// where some total is not zero. Each call looks once into the tables and counts that, but for `new`, which does not look,
+/// and `least_broken`, which looks at most once for each page and entry.
 ///
 /// The mark `L` ties the table to its counter: code that is generic in `L` can make no counter of its own.
 #[derive(Drop)]
 pub struct LedgerIndex<L> {
     pages: Pages,
-    singles: Singles,
+    unpaged: Unpaged,
     alloc: Global,
     mark: PhantomData<L>,
-    ghost apart: { AreApart singles },
+    ghost apart: { AreApart unpaged },
 }
 
 impl<L> LedgerIndex<L> {
@@ -56,7 +57,7 @@ impl<L> LedgerIndex<L> {
     {
         LedgerIndex {
             pages: Pages::new(alloc),
-            singles: Singles::new(alloc),
+            unpaged: Unpaged::new(alloc),
             alloc,
             mark: PhantomData,
         }
@@ -78,7 +79,7 @@ impl<L> LedgerIndex<L> {
     {
         steps.look();
         let Some(seat) = Seat::of(account) else {
-            return self.singles.breaks(account);
+            return self.unpaged.breaks(account);
         };
         match self.pages.kept(&seat) {
             Some(kept) => is_broken(account, kept),
@@ -91,7 +92,7 @@ impl<L> LedgerIndex<L> {
         ensures { (n : ℕ) → sum_in result n ≡ sums_of self.now account.now n }
     {
         let Some(seat) = Seat::of(account) else {
-            return self.singles.totals_of(account);
+            return self.unpaged.totals_of(account);
         };
         match self.pages.kept(&seat) {
             Some(kept) => kept.totals(),
@@ -145,7 +146,7 @@ impl<L> LedgerIndex<L> {
         }
         match Seat::of(account) {
             Some(seat) => self.pages.add(self.alloc, &seat, field, amount, steps),
-            None => self.singles.add_saturating(account, field, amount, steps),
+            None => self.unpaged.add_saturating(account, field, amount, steps),
         }
     }
 
@@ -172,7 +173,7 @@ impl<L> LedgerIndex<L> {
         }
         match Seat::of(account) {
             Some(seat) => self.pages.take(&seat, field, amount),
-            None => self.singles.take(account, field, amount),
+            None => self.unpaged.take(account, field, amount),
         }
     }
 
@@ -184,14 +185,14 @@ impl<L> LedgerIndex<L> {
             (λ account. is_broken account (sums_of self.now account))) }
         ensures looks { steps.new ≤ steps.old + entries_of self.now }
     {
-        let least = self.singles.least_broken(steps)?;
+        let least = self.unpaged.least_broken(steps)?;
         Ok(self.least_seated(least, steps))
     }
 
     // The least broken one of the accounts with seats, and of an account that is the least of those without.
     fn least_seated(&self, first: Option<Account>, steps: &mut Steps<L>) -> Option<Account>
         ensures least { IsLeastBroken
-            (λ account. is_broken account (single.sums_of self.now.singles account)) first →
+            (λ account. is_broken account (unpaged.sums_of self.now.unpaged account)) first →
             IsLeastBroken (λ account. is_broken account (sums_of self.now account)) result }
         ensures looks { steps.new ≤ steps.old + index_map_len self.now.pages.map }
     {
@@ -226,10 +227,8 @@ impl<L> LedgerIndex<L> {
         ensures { result
             ≡ lesser_of (is_broken account (sums_of self.now account)) account other }
     {
-        if broken(&account, &self.totals_of(&account)) && stands_before(&account, &other) {
-            return Some(account);
-        }
-        other
+        let is_broken = broken(&account, &self.totals_of(&account));
+        lesser(is_broken, account, other)
     }
 }
 

@@ -6,16 +6,20 @@ mod judged;
 mod kept;
 mod ledger;
 mod long_place;
+mod name;
+mod name_part;
 mod page;
 mod pages;
 mod part;
 mod place;
 mod seat;
 mod seeded;
+mod side;
 mod singles;
 mod table;
 #[cfg(test)]
 mod tests;
+mod unpaged;
 mod whole;
 
 pub use ledger::LedgerIndex;

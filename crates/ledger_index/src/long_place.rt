@@ -2,8 +2,10 @@
 
 ghost use Rattle.std.specs.Prelude.{◌≡◌, ◌≤◌, IfOk, length};
 ghost use Rattle.ledger_index.specs.LongPlace as spec;
+ghost use Rattle.ledger_index.specs.Name.{account_at, link_of};
 ghost use Rattle.ledger_index.specs.LongPlaceLaws.{long_equiv, long_fed_alike, long_per, same_long};
 
+use crate::name::{DIR_ITEM, INODE_ITEM, INODE_REF, LINK, NAME_ENTRY, REGULAR, Side};
 use crate::part::Exact;
 use crate::place::{front_of, mixed_of, part_at, two_of, wide_of};
 use accounts::Account;
@@ -120,6 +122,78 @@ impl LongPlace {
             detail,
             tail: padded(tail),
         })
+    }
+
+    /// The place of the link of an inode in a directory, with index 0, or `None` where it takes more.
+    #[tactic(auto, unfolding(crate::specs::Name::link_of, crate::specs::LongPlace::long_of))]
+    pub(crate) fn of_link(
+        block: u64,
+        tree: u64,
+        inode: u64,
+        dir: u64,
+        name: &[u8],
+    ) -> Option<LongPlace>
+        ensures { result ≡ link_of block tree inode dir name.now }
+    {
+        if block != 0 || name.len() > 36 {
+            return None;
+        }
+        let Ok(tree) = u32::try_from(tree) else {
+            return None;
+        };
+        let Ok(objectid) = u32::try_from(inode) else {
+            return None;
+        };
+        let Ok(offset) = u32::try_from(dir) else {
+            return None;
+        };
+        Some(LongPlace {
+            length: name.len() as u8,
+            kind: LINK,
+            sort: INODE_REF,
+            tree,
+            objectid,
+            offset,
+            detail: 0,
+            tail: padded(name),
+        })
+    }
+
+    /// The account of a side of the name whose place this is.
+    pub(crate) fn side_account(&self, alloc: Global, side: Side) -> Result<Account, NoMemory>
+        ensures { IfOk result (λ account. account ≡ account_at self.now side) }
+    {
+        let mut tail = front_of(alloc, &self.tail, self.length)?;
+        match side {
+            Side::Link(index) => Ok(Account {
+                kind: LINK,
+                tree: u64::from(self.tree),
+                block: 0,
+                key: Key {
+                    objectid: u64::from(self.objectid),
+                    kind: INODE_REF,
+                    offset: u64::from(self.offset),
+                },
+                detail: u64::from(index),
+                tail,
+            }),
+            Side::Entry(hash) => {
+                tail.push(REGULAR)?;
+                tail.push(INODE_ITEM)?;
+                Ok(Account {
+                    kind: NAME_ENTRY,
+                    tree: u64::from(self.tree),
+                    block: 0,
+                    key: Key {
+                        objectid: u64::from(self.offset),
+                        kind: DIR_ITEM,
+                        offset: u64::from(hash),
+                    },
+                    detail: u64::from(self.objectid),
+                    tail,
+                })
+            }
+        }
     }
 
     /// The kind of the account.

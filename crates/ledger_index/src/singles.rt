@@ -18,7 +18,7 @@ ghost use Rattle.ledger_index.specs.Singles.{entry_of, long_in, short_in};
 ghost use Rattle.ledger_index.specs.LongPlace.{is_same_long};
 ghost use Rattle.ledger_index.specs.Place.{is_same_place, place_of};
 
-use crate::judged::{breaks, is_broken, stand_in, stands_before};
+use crate::judged::{breaks, is_broken, lesser, stand_in};
 use crate::kept::Kept;
 use crate::long_place::LongPlace;
 use crate::place::{Place, mixed_by, part_by};
@@ -287,9 +287,7 @@ impl Singles {
         ensures { result
             ≡ lesser_of (is_broken account (sums_of self.now account)) account other }
     {
-        if broken(&account, &self.totals_of(&account)) && stands_before(&account, &other) {
-            return Some(account);
-        }
-        other
+        let is_broken = broken(&account, &self.totals_of(&account));
+        lesser(is_broken, account, other)
     }
 }

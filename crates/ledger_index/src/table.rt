@@ -4,11 +4,19 @@ ghost use Rattle.std.specs.Prelude.{◌≡◌, ◌+◌, ◌<◌, ◌≤◌, fals
 ghost use Rattle.std.specs.Option.{option_copied};
 ghost use Rattle.ledger_index.specs.Sums.{greatest, lower, raise};
 ghost use Rattle.ledger_index.specs.Kept.{sums_at};
+ghost use Rattle.ledger_index.specs.LongPlace.{is_same_long, part_of as long_part};
+ghost use Rattle.ledger_index.specs.Name.{is_same_name};
+ghost use Rattle.ledger_index.specs.Names.{CountedIn, names_in};
 ghost use Rattle.ledger_index.specs.Place.{is_same_place, part_of as place_part, place_of};
+ghost use Rattle.ledger_index.specs.Shifts.{Posted, Rests, Shifts};
+ghost use Rattle.ledger_index.specs.Side.{has_sums};
 ghost use Rattle.ledger_index.specs.Entries.{AreEmpty, AreFit, Changes, StandsIn, Stays, by_parts, count_in};
 
 use crate::hint::{HINTS, Hint, bits_of, hint_of, slot_of};
 use crate::kept::Kept;
+use crate::long_place::LongPlace;
+use crate::name::Name;
+use crate::name_part::{post_at, post_to, take_from};
 use crate::part::{Exact, add_at, add_by_hash, find_in, is_at, kept_at, take_at};
 use crate::place::Place;
 use crate::seeded::Seeded;
@@ -229,6 +237,134 @@ impl Table<Place> {
             return Some((hint.at as usize, *place));
         }
         None
+    }
+}
+
+impl Table<LongPlace> {
+    /// The two sums of an account of a name.
+    pub(crate) fn sums(&self, name: &Name) -> (u128, u128)
+        ensures first { result.0 ≡ names_in self.now.parts.items name.now 0 }
+        ensures second { result.1 ≡ names_in self.now.parts.items name.now 1 }
+    {
+        match self.kept(&name.place) {
+            Some(kept) => kept.sums(name.side),
+            None => (0, 0),
+        }
+    }
+
+    /// Adds an amount to one of the two sums of an account of a name, or as much of it as there is room for in 128 bits, and
+    /// tells whether the sum stands at the greatest number of 128 bits then. `None` where another account has its side of the
+    /// name, or it has no sums and none may begin: all sums stay, also out of memory. The seed is that of the hash by which accounts
+    /// are found, where there are no parts yet.
+    pub(crate) fn post(
+        &mut self,
+        alloc: Global,
+        seed: &[u8; 16],
+        name: &Name,
+        field: u8,
+        amount: u64,
+        may_begin: bool,
+    ) -> Result<Option<bool>, NoMemory>
+        requires all { CountedIn self.old.parts.items }
+        requires named { field < 2 }
+        requires more { 0 < amount }
+        ensures ok { IfOk result (Posted is_same_name may_begin name.now field amount
+            (names_in self.old.parts.items) (names_in self.new.parts.items)) }
+        ensures none { IfOk result (λ full. full ≡ None →
+            count_in self.new.parts.items ≤ count_in self.old.parts.items) }
+        ensures err { OnErr result
+            (Rests (names_in self.old.parts.items) (names_in self.new.parts.items)) }
+        ensures counted { CountedIn self.new.parts.items }
+        ensures few { count_in self.new.parts.items ≤ count_in self.old.parts.items + 1 }
+    {
+        let mixed = name.place.mixed();
+        if let Some(at) = self.hinted(&name.place, mixed) {
+            return self.post_at(alloc, at, name, field, amount, may_begin);
+        }
+        match self.seed(alloc, seed) {
+            Ok(()) => self.post_by_hash(alloc, name, mixed, field, amount, may_begin),
+            Err(_) => Err(NoMemory),
+        }
+    }
+
+    // Adds as `post` does, to an account of a name whose entry stands at this index of its part.
+    fn post_at(
+        &mut self,
+        alloc: Global,
+        at: usize,
+        name: &Name,
+        field: u8,
+        amount: u64,
+        may_begin: bool,
+    ) -> Result<Option<bool>, NoMemory>
+        requires all { CountedIn self.old.parts.items }
+        requires there { StandsIn is_same_long long_part self.old.parts.items at name.now.place }
+        requires named { field < 2 }
+        ensures ok { IfOk result (Posted is_same_name may_begin name.now field amount
+            (names_in self.old.parts.items) (names_in self.new.parts.items)) }
+        ensures err { OnErr result
+            (Rests (names_in self.old.parts.items) (names_in self.new.parts.items)) }
+        ensures counted { CountedIn self.new.parts.items }
+        ensures few { count_in self.new.parts.items ≤ count_in self.old.parts.items }
+    {
+        match self.parts.get_mut(name.place.part()) {
+            Some(part) => post_at(part, alloc, at, name, field, amount, may_begin),
+            None => Err(NoMemory),
+        }
+    }
+
+    // Adds as `post` does, and finds the entry by its hash, which is computed once.
+    #[inline(never)]
+    fn post_by_hash(
+        &mut self,
+        alloc: Global,
+        name: &Name,
+        mixed: u64,
+        field: u8,
+        amount: u64,
+        may_begin: bool,
+    ) -> Result<Option<bool>, NoMemory>
+        requires all { CountedIn self.old.parts.items }
+        requires named { field < 2 }
+        requires more { 0 < amount }
+        ensures ok { IfOk result (Posted is_same_name may_begin name.now field amount
+            (names_in self.old.parts.items) (names_in self.new.parts.items)) }
+        ensures none { IfOk result (λ full. full ≡ None →
+            count_in self.new.parts.items ≤ count_in self.old.parts.items) }
+        ensures err { OnErr result
+            (Rests (names_in self.old.parts.items) (names_in self.new.parts.items)) }
+        ensures counted { CountedIn self.new.parts.items }
+        ensures few { count_in self.new.parts.items ≤ count_in self.old.parts.items + 1 }
+    {
+        match self.parts.get_mut(name.place.part()) {
+            Some(part) => match post_to(part, alloc, name, field, amount, may_begin) {
+                Ok((full, at)) => {
+                    self.near[slot_of(mixed)] = hint_of(mixed, at);
+                    Ok(full)
+                }
+                Err(_) => Err(NoMemory),
+            },
+            None => Err(NoMemory),
+        }
+    }
+
+    /// Takes an amount from one of the two sums of an account of a name, or all of it where it is less, and tells whether it had
+    /// sums.
+    pub(crate) fn lower(&mut self, name: &Name, field: u8, amount: u64) -> bool
+        requires all { CountedIn self.old.parts.items }
+        requires named { field < 2 }
+        ensures had { result ≡ has_sums (names_in self.old.parts.items name.now) }
+        ensures less { Shifts is_same_name lower (names_in self.old.parts.items)
+            (names_in self.new.parts.items) name.now field amount }
+        ensures counted { CountedIn self.new.parts.items }
+    {
+        let Some(at) = self.index_of(&name.place) else {
+            return false;
+        };
+        match self.parts.get_mut(name.place.part()) {
+            Some(part) => take_from(part, at, name, field, amount),
+            None => false,
+        }
     }
 }
 

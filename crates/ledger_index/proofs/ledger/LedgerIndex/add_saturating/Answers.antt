@@ -2,7 +2,7 @@ use Rattle.std.proofs.Common.{arith, refl, sym, ⊎_elim}
 use Rattle.ledger_index.specs.Ledger.{entries_of}
 use Rattle.ledger_index.specs.Sums.{raise}
 use Rattle.ledger_index.proofs.EntryLaws.{full_as, on_err, on_ok, raise_none}
-use Rattle.ledger_index.proofs.LedgerLaws.{all_stay, apart_made, at_seat, at_single, is_tidy, seat_changed, single_changed}
+use Rattle.ledger_index.proofs.LedgerLaws.{all_stay, apart_made, at_seat, at_unpaged, is_tidy, seat_changed, unpaged_changed}
 use Rattle.ledger_index.proofs.SinglesLaws.{changed_above, changed_nothing}
 use Rattle.ledger_index.proofs.ledger.LedgerIndex.add_saturating.Goals as goal
 
@@ -36,19 +36,19 @@ returns-in-Some-clause-few g c = omega (arith, c.add.ensures.few)
 -- to one without
 pub invariant_of-self-in-None : goal.invariant_of-self-in-None
 invariant_of-self-in-None g c = record {
-  apart = apart_made raise raise_none c.args.account.now c.args.field c.args.amount c.add_saturating.result c.args.self.now.singles c.add_saturating.new.self
+  apart = apart_made raise raise_none c.args.account.now c.args.field c.args.amount c.add_saturating.result c.args.self.now.unpaged c.add_saturating.new.self
       (sym c.in-None.ensures.seat) c.add_saturating.ensures.ok c.add_saturating.ensures.err c.args.self.now.apart;
 }
 
 pub returns-in-None-clause-ok : goal.returns-in-None-clause-ok
 returns-in-None-clause-ok g c =
     on_ok c.add_saturating.result
-    (λ is. single_changed raise raise_none c.args.account.now c.args.field c.args.amount c.args.self.now _ (sym c.in-None.ensures.seat) is (λ s. refl))
+    (λ is. unpaged_changed raise raise_none c.args.account.now c.args.field c.args.amount c.args.self.now _ (sym c.in-None.ensures.seat) is (λ s. refl))
     c.add_saturating.ensures.ok
 
 pub returns-in-None-clause-full : goal.returns-in-None-clause-full
 returns-in-None-clause-full g c =
-    full_as c.add_saturating.result _ _ (sym (at_single _ _ (sym c.in-None.ensures.seat) c.args.field)) c.add_saturating.ensures.full
+    full_as c.add_saturating.result _ _ (sym (at_unpaged _ _ (sym c.in-None.ensures.seat) c.args.field)) c.add_saturating.ensures.full
 
 pub returns-in-None-clause-err : goal.returns-in-None-clause-err
 returns-in-None-clause-err g c = on_err c.add_saturating.result (λ is. all_stay c.args.self.now _ (λ s n. refl) is) c.add_saturating.ensures.err

@@ -3,14 +3,14 @@ use Rattle.std.proofs.Math.Path.{fun_ext}
 use Rattle.accounts.proofs.First.{unposted}
 use Rattle.accounts.specs.Broken.{is_broken}
 use Rattle.ledger_index.specs.Kept.{sums_at}
-use Rattle.ledger_index.proofs.LedgerLaws.{at_seat, at_single}
+use Rattle.ledger_index.proofs.LedgerLaws.{at_seat, at_unpaged}
 use Rattle.ledger_index.proofs.ledger.LedgerIndex.breaks.Goals as goal
 
 -- it has no seat
 pub returns-in_default-clause-broken : goal.returns-in_default-clause-broken
 returns-in_default-clause-broken g c =
     c.breaks.ensures
-    ∙ ap (is_broken c.args.account.now) (fun_ext (λ n. sym (at_single c.args.self.now c.args.account.now (sym c.of.ensures.seat ∙ c.in_default.is) n)))
+    ∙ ap (is_broken c.args.account.now) (fun_ext (λ n. sym (at_unpaged c.args.self.now c.args.account.now (sym c.of.ensures.seat ∙ c.in_default.is) n)))
 
 pub returns-in-Some-kept-clause-broken : goal.returns-in-Some-kept-clause-broken
 returns-in-Some-kept-clause-broken g c =

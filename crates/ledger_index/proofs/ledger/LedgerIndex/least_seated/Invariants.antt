@@ -7,14 +7,14 @@ use Rattle.ledger_index.specs.Judged.{IsLeastBut}
 use Rattle.ledger_index.specs.Ledger.{sums_of}
 use Rattle.ledger_index.specs.Seat.{is_same_page}
 use Rattle.ledger_index.specs.Seated.{left_pages}
-use Rattle.ledger_index.specs.Singles as single
+use Rattle.ledger_index.specs.Unpaged as unpaged
 use Rattle.ledger_index.proofs.JudgedLaws.{Found}
 use Rattle.ledger_index.proofs.ledger.LedgerIndex.least_seated.Given as goal
 
 -- the least of all but those whose pages are left, each of which is one look more
 abbrev pub invariant-loop-key : goal.invariant-loop-key
 invariant-loop-key g l = record {
-  least : IsLeastBroken (λ account. is_broken account (single.sums_of l.self.singles account)) l.fn.first
+  least : IsLeastBroken (λ account. is_broken account (unpaged.sums_of l.self.unpaged account)) l.fn.first
       → IsLeastBut (sums_of l.self) (left_pages l.key-iterator) l.least;
   found : Found (by_key is_same_page l.self.pages.map) l.key-iterator;
   looks : l.steps + length l.key-iterator ≤ l.fn.steps + index_map_len l.self.pages.map;

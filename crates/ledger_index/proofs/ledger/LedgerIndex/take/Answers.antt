@@ -1,7 +1,7 @@
 use Rattle.std.proofs.Common.{refl, sym}
 use Rattle.ledger_index.specs.Sums.{lower}
 use Rattle.ledger_index.proofs.EntryLaws.{lower_none}
-use Rattle.ledger_index.proofs.LedgerLaws.{apart_changed, is_tidy, seat_changed, single_changed}
+use Rattle.ledger_index.proofs.LedgerLaws.{apart_changed, is_tidy, seat_changed, unpaged_changed}
 use Rattle.ledger_index.proofs.SinglesLaws.{changed_above}
 use Rattle.ledger_index.proofs.ledger.LedgerIndex.take.Goals as goal
 
@@ -13,7 +13,7 @@ returns-then-not-names_a_sum-clause-entries g c = is_tidy _
 
 pub invariant_of-self-in-None : goal.invariant_of-self-in-None
 invariant_of-self-in-None g c = record {
-  apart = apart_changed lower lower_none c.args.account.now c.args.field c.args.amount c.args.self.now.singles c.take-in-None.new.self
+  apart = apart_changed lower lower_none c.args.account.now c.args.field c.args.amount c.args.self.now.unpaged c.take-in-None.new.self
       (sym c.in-None.ensures.seat) c.take-in-None.ensures c.args.self.now.apart;
 }
 
@@ -26,7 +26,7 @@ returns-in-Some-clause-entries g c = is_tidy _
 
 pub returns-in-None-clause-sums : goal.returns-in-None-clause-sums
 returns-in-None-clause-sums g c =
-    single_changed lower lower_none c.args.account.now c.args.field c.args.amount c.args.self.now _ (sym c.in-None.ensures.seat) c.take-in-None.ensures (λ s. refl)
+    unpaged_changed lower lower_none c.args.account.now c.args.field c.args.amount c.args.self.now _ (sym c.in-None.ensures.seat) c.take-in-None.ensures (λ s. refl)
 
 pub returns-in-None-clause-entries : goal.returns-in-None-clause-entries
 returns-in-None-clause-entries g c = is_tidy _

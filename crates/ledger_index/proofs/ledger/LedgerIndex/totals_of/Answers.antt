@@ -1,10 +1,10 @@
 use Rattle.std.proofs.Common.{ap, sym, ◌∙◌}
 use Rattle.ledger_index.specs.Kept.{sums_at}
-use Rattle.ledger_index.proofs.LedgerLaws.{at_seat, at_single}
+use Rattle.ledger_index.proofs.LedgerLaws.{at_seat, at_unpaged}
 use Rattle.ledger_index.proofs.ledger.LedgerIndex.totals_of.Goals as goal
 
 pub returns-in_default : goal.returns-in_default
-returns-in_default g c = λ n. c.totals_of.ensures n ∙ sym (at_single c.args.self.now c.args.account.now (sym c.of.ensures.seat ∙ c.in_default.is) n)
+returns-in_default g c = λ n. c.totals_of.ensures n ∙ sym (at_unpaged c.args.self.now c.args.account.now (sym c.of.ensures.seat ∙ c.in_default.is) n)
 
 pub returns-in-Some-kept : goal.returns-in-Some-kept
 returns-in-Some-kept g c = λ n.
