@@ -11,6 +11,7 @@ pub mod Singles
 pub mod Side
 pub mod Shifts
 pub mod Name
+pub mod Link
 pub mod Names
 pub mod Pages
 pub mod Judged

@@ -5,6 +5,7 @@ mod hint;
 mod judged;
 mod kept;
 mod ledger;
+mod link;
 mod long_place;
 mod name;
 mod name_part;

@@ -1,10 +1,12 @@
 //! Accounts in 56 bytes.
 
-ghost use Rattle.std.specs.Prelude.{◌≡◌, ◌≤◌, IfOk, length};
+ghost use Rattle.std.specs.Prelude.{◌≡◌, ◌≤◌, Some, true, IfOk, length};
 ghost use Rattle.ledger_index.specs.LongPlace as spec;
-ghost use Rattle.ledger_index.specs.Name.{account_at, link_of};
+ghost use Rattle.ledger_index.specs.Link.{place_said};
+ghost use Rattle.ledger_index.specs.Name.{account_at};
 ghost use Rattle.ledger_index.specs.LongPlaceLaws.{long_equiv, long_fed_alike, long_per, same_long};
 
+use crate::link::Link;
 use crate::name::{DIR_ITEM, INODE_ITEM, INODE_REF, LINK, NAME_ENTRY, REGULAR, Side};
 use crate::part::Exact;
 use crate::place::{front_of, mixed_of, part_at, two_of, wide_of};
@@ -124,39 +126,50 @@ impl LongPlace {
         })
     }
 
-    /// The place of the link of an inode in a directory, with index 0, or `None` where it takes more.
+    /// The place of a name, that of the link with index 0, or `None` where it takes more.
     #[tactic(auto, unfolding(crate::specs::Name::link_of, crate::specs::LongPlace::long_of))]
-    pub(crate) fn of_link(
-        block: u64,
-        tree: u64,
-        inode: u64,
-        dir: u64,
-        name: &[u8],
-    ) -> Option<LongPlace>
-        ensures { result ≡ link_of block tree inode dir name.now }
+    pub(crate) fn said(link: &Link) -> Option<LongPlace>
+        ensures { result ≡ place_said link.now }
     {
-        if block != 0 || name.len() > 36 {
+        if link.block != 0 || link.name.len() > 36 {
             return None;
         }
-        let Ok(tree) = u32::try_from(tree) else {
+        let Ok(tree) = u32::try_from(link.tree) else {
             return None;
         };
-        let Ok(objectid) = u32::try_from(inode) else {
+        let Ok(objectid) = u32::try_from(link.inode) else {
             return None;
         };
-        let Ok(offset) = u32::try_from(dir) else {
+        let Ok(offset) = u32::try_from(link.dir) else {
             return None;
         };
         Some(LongPlace {
-            length: name.len() as u8,
+            length: link.name.len() as u8,
             kind: LINK,
             sort: INODE_REF,
             tree,
             objectid,
             offset,
             detail: 0,
-            tail: padded(name),
+            tail: padded(link.name),
         })
+    }
+
+    /// Whether the name of a link has this place. The place is not made of the link.
+    #[tactic(auto, unfolding(crate::specs::Name::link_of, crate::specs::LongPlace::long_of))]
+    pub(crate) fn is_of(&self, link: &Link) -> bool
+        ensures { result ≡ true → place_said link.now ≡ Some self.now }
+    {
+        link.inode == u64::from(self.objectid)
+            && link.dir == u64::from(self.offset)
+            && link.tree == u64::from(self.tree)
+            && link.block == 0
+            && self.kind == LINK
+            && self.sort == INODE_REF
+            && self.detail == 0
+            && link.name.len() == usize::from(self.length)
+            && self.length <= 36
+            && padded(link.name) == self.tail
     }
 
     /// The account of a side of the name whose place this is.

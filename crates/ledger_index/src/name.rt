@@ -1,9 +1,11 @@
 //! The two accounts of a name of a regular file.
 
 ghost use Rattle.std.specs.Prelude.{◌≡◌};
+ghost use Rattle.ledger_index.specs.Link.{name_said};
 ghost use Rattle.ledger_index.specs.Name as spec;
 ghost use Rattle.ledger_index.specs.Side as sides;
 
+use crate::link::Link;
 use crate::long_place::LongPlace;
 use accounts::Account;
 
@@ -72,59 +74,19 @@ impl Side {
 
 impl Name {
     /// The name that an account is of, or `None` where it is of none, or takes more.
-    #[tactic(auto, unfolding(crate::specs::Name::name_of))]
     pub(crate) fn of(account: &Account) -> Option<Name>
         ensures { result ≡ spec.name_of account.now }
     {
-        if account.kind == LINK && account.key.kind == INODE_REF {
-            Name::of_link(account)
-        } else if account.kind == NAME_ENTRY && account.key.kind == DIR_ITEM {
-            Name::of_entry(account)
-        } else {
-            None
-        }
+        Name::said(&Link::of(account)?)
     }
 
-    // The name of an account of a link.
-    fn of_link(account: &Account) -> Option<Name>
-        ensures { result ≡ spec.of_link account.now }
+    /// The name of a link, or `None` where it takes more.
+    pub(crate) fn said(link: &Link) -> Option<Name>
+        ensures { result ≡ name_said link.now }
     {
-        let Ok(index) = u32::try_from(account.detail) else {
-            return None;
-        };
-        let place = LongPlace::of_link(
-            account.block,
-            account.tree,
-            account.key.objectid,
-            account.key.offset,
-            account.tail.as_slice(),
-        )?;
         Some(Name {
-            place,
-            side: Side::Link(index),
-        })
-    }
-
-    // The name of an account of an entry of a directory, if that is of a regular file.
-    fn of_entry(account: &Account) -> Option<Name>
-        ensures { result ≡ spec.of_entry account.now }
-    {
-        let Some(name) = account.tail.as_slice().strip_suffix(&[REGULAR, INODE_ITEM]) else {
-            return None;
-        };
-        let Ok(hash) = u32::try_from(account.key.offset) else {
-            return None;
-        };
-        let place = LongPlace::of_link(
-            account.block,
-            account.tree,
-            account.detail,
-            account.key.objectid,
-            name,
-        )?;
-        Some(Name {
-            place,
-            side: Side::Entry(hash),
+            place: LongPlace::said(link)?,
+            side: link.side,
         })
     }
 }

@@ -5,7 +5,8 @@ ghost use Rattle.std.specs.Option.{option_copied};
 ghost use Rattle.ledger_index.specs.Sums.{greatest, lower, raise};
 ghost use Rattle.ledger_index.specs.Kept.{sums_at};
 ghost use Rattle.ledger_index.specs.LongPlace.{is_same_long, part_of as long_part};
-ghost use Rattle.ledger_index.specs.Name.{is_same_name};
+ghost use Rattle.ledger_index.specs.Link.{place_said};
+ghost use Rattle.ledger_index.specs.Name.{is_same_name, name_of};
 ghost use Rattle.ledger_index.specs.Names.{CountedIn, names_in};
 ghost use Rattle.ledger_index.specs.Place.{is_same_place, part_of as place_part, place_of};
 ghost use Rattle.ledger_index.specs.Shifts.{Posted, Rests, Shifts};
@@ -14,11 +15,12 @@ ghost use Rattle.ledger_index.specs.Entries.{AreEmpty, AreFit, Changes, StandsIn
 
 use crate::hint::{HINTS, Hint, bits_of, hint_of, slot_of};
 use crate::kept::Kept;
+use crate::link::Link;
 use crate::long_place::LongPlace;
-use crate::name::Name;
+use crate::name::{LINK, Name};
 use crate::name_part::{post_at, post_to, take_from};
 use crate::part::{Exact, add_at, add_by_hash, find_in, is_at, kept_at, take_at};
-use crate::place::Place;
+use crate::place::{Place, mixed_of, part_at};
 use crate::seeded::Seeded;
 use accounts::Account;
 use indexmap::IndexMap;
@@ -252,20 +254,61 @@ impl Table<LongPlace> {
         }
     }
 
+    /// The name that an account is of, `None` where it is of none, and where its entry stands in its part, if it is the one that was
+    /// last found for a name of the same slot. The place of that one is not made of the account: what the account says is compared
+    /// with what stands there.
+    pub(crate) fn name_of(&self, account: &Account) -> Option<(Name, Option<usize>)>
+        ensures some { IfSome result (λ p. (name_of account.now ≡ Some p.0) × IfSome p.1
+            (λ at. StandsIn is_same_long long_part self.now.parts.items at p.0.place)) }
+        ensures none { result ≡ None → name_of account.now ≡ None }
+    {
+        let Some(link) = Link::of(account) else {
+            return None;
+        };
+        if let Some((at, place)) = self.hinted_said(&link) {
+            let side = link.side;
+            return Some((Name { place, side }, Some(at)));
+        }
+        match Name::said(&link) {
+            Some(name) => Some((name, None)),
+            None => None,
+        }
+    }
+
+    // Where the entry of a name stands in its part, and its place, as `name_of` tells them.
+    fn hinted_said(&self, link: &Link) -> Option<(usize, LongPlace)>
+        ensures { IfSome result (λ p. (place_said link.now ≡ Some p.1)
+            × StandsIn is_same_long long_part self.now.parts.items p.0 p.1) }
+    {
+        let mixed = mixed_of(LINK, link.inode, link.dir);
+        let hint = self.near[slot_of(mixed)];
+        if hint.bits == bits_of(mixed)
+            && let Some(part) = self.parts.get(part_at(link.inode))
+            && let Some((place, _)) = part.get_index(hint.at as usize)
+            && place.is_of(link)
+        {
+            return Some((hint.at as usize, *place));
+        }
+        None
+    }
+
     /// Adds an amount to one of the two sums of an account of a name, or as much of it as there is room for in 128 bits, and
     /// tells whether the sum stands at the greatest number of 128 bits then. `None` where another account has its side of the
-    /// name, or it has no sums and none may begin: all sums stay, also out of memory. The seed is that of the hash by which accounts
-    /// are found, where there are no parts yet.
+    /// name, or it has no sums and none may begin: all sums stay, also out of memory. The entry of the name stands at this index of
+    /// its part, if it is known. The seed is that of the hash by which it is found otherwise, where there are no parts yet.
     pub(crate) fn post(
         &mut self,
         alloc: Global,
         seed: &[u8; 16],
         name: &Name,
+        at: Option<usize>,
         field: u8,
         amount: u64,
         may_begin: bool,
     ) -> Result<Option<bool>, NoMemory>
         requires all { CountedIn self.old.parts.items }
+        requires there { IfSome at
+            (λ at. StandsIn is_same_long long_part self.old.parts.items at name.now.place) }
         requires named { field < 2 }
         requires more { 0 < amount }
         ensures ok { IfOk result (Posted is_same_name may_begin name.now field amount
@@ -277,12 +320,11 @@ impl Table<LongPlace> {
         ensures counted { CountedIn self.new.parts.items }
         ensures few { count_in self.new.parts.items ≤ count_in self.old.parts.items + 1 }
     {
-        let mixed = name.place.mixed();
-        if let Some(at) = self.hinted(&name.place, mixed) {
+        if let Some(at) = at {
             return self.post_at(alloc, at, name, field, amount, may_begin);
         }
         match self.seed(alloc, seed) {
-            Ok(()) => self.post_by_hash(alloc, name, mixed, field, amount, may_begin),
+            Ok(()) => self.post_by_hash(alloc, name, field, amount, may_begin),
             Err(_) => Err(NoMemory),
         }
     }
@@ -319,7 +361,6 @@ impl Table<LongPlace> {
         &mut self,
         alloc: Global,
         name: &Name,
-        mixed: u64,
         field: u8,
         amount: u64,
         may_begin: bool,
@@ -339,6 +380,7 @@ impl Table<LongPlace> {
         match self.parts.get_mut(name.place.part()) {
             Some(part) => match post_to(part, alloc, name, field, amount, may_begin) {
                 Ok((full, at)) => {
+                    let mixed = name.place.mixed();
                     self.near[slot_of(mixed)] = hint_of(mixed, at);
                     Ok(full)
                 }

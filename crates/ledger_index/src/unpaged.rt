@@ -143,7 +143,7 @@ impl Unpaged {
         ensures err { OnErr result (sums_of self.new ≡ sums_of self.old) }
         ensures few { entries_of self.new ≤ entries_of self.old + 1 }
     {
-        let Some(name) = Name::of(account) else {
+        let Some((name, at)) = self.names.name_of(account) else {
             return Ok(None);
         };
         if field >= 2 {
@@ -151,10 +151,15 @@ impl Unpaged {
             return Ok(None);
         }
         let may_begin = !self.apart;
-        match self
-            .names
-            .post(self.alloc, &steps.seed(), &name, field, amount, may_begin)
-        {
+        match self.names.post(
+            self.alloc,
+            &steps.seed(),
+            &name,
+            at,
+            field,
+            amount,
+            may_begin,
+        ) {
             Ok(Some(full)) => Ok(Some(full)),
             Ok(None) => {
                 self.apart = true;

@@ -1,4 +1,4 @@
-use Rattle.std.proofs.Common.{arith, not, refl, sym, subst}
+use Rattle.std.proofs.Common.{arith, not, refl, subst}
 use Rattle.ledger_index.specs.Name.{is_same_name}
 use Rattle.ledger_index.specs.Names.{names_in}
 use Rattle.ledger_index.specs.Shifts.{Posted}
@@ -31,8 +31,8 @@ invariant_of-self-in-Some-post-2 g c =
     let posted = subst (Posted is_same_name (not old.apart) name c.args.field c.args.amount (names_in old.names.parts.items) (names_in c.post.new.self.parts.items))
     c.in-Ok-Some.field-0-is c.in-Ok-Some.ensures.ok in record {
       counted = c.post.ensures.counted;
-      once = once_shifted raise raise_none c.args.account.now c.args.field c.args.amount (names_in old.names.parts.items) (names_in c.post.new.self.parts.items) _ name (sym c.in-Some.ensures) posted.0
-          old.once (own_none old c.args.account.now name (sym c.in-Some.ensures) posted.1.1);
+      once = once_shifted raise raise_none c.args.account.now c.args.field c.args.amount (names_in old.names.parts.items) (names_in c.post.new.self.parts.items) _ name c.in-Some.ensures.some.0 posted.0
+          old.once (own_none old c.args.account.now name c.in-Some.ensures.some.0 posted.1.1);
       named = old.named;
     }
 
@@ -42,9 +42,9 @@ returns-in-Ok-Some-clause-ok g c =
     let name = c.in-Some.name in
     let posted = subst (Posted is_same_name (not old.apart) name c.args.field c.args.amount (names_in old.names.parts.items) (names_in c.post.new.self.parts.items))
     c.in-Ok-Some.field-0-is c.in-Ok-Some.ensures.ok in
-    let own = own_none old c.args.account.now name (sym c.in-Some.ensures) posted.1.1 c.args.field (omega (arith, c.if-field-ge2.false)) in (
-      to_name old _ raise raise_none c.args.account.now c.args.field c.args.amount name (sym c.in-Some.ensures) posted.0 refl own,
-      λ low. full_name _ c.args.account.now name (sym c.in-Some.ensures) c.args.field own (posted.1.0 low),
+    let own = own_none old c.args.account.now name c.in-Some.ensures.some.0 posted.1.1 c.args.field (omega (arith, c.if-field-ge2.false)) in (
+      to_name old _ raise raise_none c.args.account.now c.args.field c.args.amount name c.in-Some.ensures.some.0 posted.0 refl own,
+      λ low. full_name _ c.args.account.now name c.in-Some.ensures.some.0 c.args.field own (posted.1.0 low),
     )
 
 pub returns-in-Ok-Some-clause-few : goal.returns-in-Ok-Some-clause-few
@@ -60,7 +60,7 @@ returns-in-Ok-None-clause-ok g c =
     c.in-Ok-None.field-0-is c.in-Ok-None.ensures.ok in (
       all_stay old _ posted.1 refl,
       record {
-        none = λ t at low. none_after (names_in old.names.parts.items) (names_in c.post.new.self.parts.items) c.args.account.now name t (sym c.in-Some.ensures) at posted.0 posted.1;
+        none = λ t at low. none_after (names_in old.names.parts.items) (names_in c.post.new.self.parts.items) c.args.account.now name t c.in-Some.ensures.some.0 at posted.0 posted.1;
         apart = λ t at. refl;
       },
     )

@@ -1,0 +1,73 @@
+//! What an account of a name says of the link.
+
+ghost use Rattle.std.specs.Prelude.{◌≡◌};
+ghost use Rattle.ledger_index.specs.Link.{said_by};
+ghost use Rattle.ledger_index.specs.Name.{name_of, of_entry, of_link};
+
+use crate::name::{DIR_ITEM, INODE_ITEM, INODE_REF, LINK, NAME_ENTRY, REGULAR, Side};
+use accounts::Account;
+
+/// A link of an inode in a directory, as one of its two accounts says it.
+#[derive(Clone, Copy, Debug)]
+pub(crate) struct Link<'a> {
+    /// Which of the two accounts it is.
+    pub(crate) side: Side,
+    pub(crate) block: u64,
+    pub(crate) tree: u64,
+    pub(crate) inode: u64,
+    pub(crate) dir: u64,
+    pub(crate) name: &'a [u8],
+}
+
+impl<'a> Link<'a> {
+    /// What an account says of a link, or `None` where it is of none.
+    #[tactic(auto, unfolding(crate::specs::Name::name_of))]
+    pub(crate) fn of(account: &'a Account) -> Option<Link<'a>>
+        ensures { said_by result ≡ name_of account.now }
+    {
+        if account.kind == LINK && account.key.kind == INODE_REF {
+            Link::by_link(account)
+        } else if account.kind == NAME_ENTRY && account.key.kind == DIR_ITEM {
+            Link::by_entry(account)
+        } else {
+            None
+        }
+    }
+
+    // What an account of a link says.
+    fn by_link(account: &'a Account) -> Option<Link<'a>>
+        ensures { said_by result ≡ of_link account.now }
+    {
+        let Ok(index) = u32::try_from(account.detail) else {
+            return None;
+        };
+        Some(Link {
+            side: Side::Link(index),
+            block: account.block,
+            tree: account.tree,
+            inode: account.key.objectid,
+            dir: account.key.offset,
+            name: account.tail.as_slice(),
+        })
+    }
+
+    // What an account of an entry of a directory says, if that is of a regular file.
+    fn by_entry(account: &'a Account) -> Option<Link<'a>>
+        ensures { said_by result ≡ of_entry account.now }
+    {
+        let Some(name) = account.tail.as_slice().strip_suffix(&[REGULAR, INODE_ITEM]) else {
+            return None;
+        };
+        let Ok(hash) = u32::try_from(account.key.offset) else {
+            return None;
+        };
+        Some(Link {
+            side: Side::Entry(hash),
+            block: account.block,
+            tree: account.tree,
+            inode: account.detail,
+            dir: account.key.objectid,
+            name,
+        })
+    }
+}
