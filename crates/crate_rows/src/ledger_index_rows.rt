@@ -277,13 +277,7 @@ fn link(alloc: Global, ino: u64, index: u64, length: usize) -> Result<Account, N
 }
 
 // The same of the entry of the directory, with this hash, and of this type.
-fn typed(
-    alloc: Global,
-    ino: u64,
-    hash: u64,
-    length: usize,
-    sort: u8,
-) -> Result<Account, NoMemory> {
+fn typed(alloc: Global, ino: u64, hash: u64, length: usize, sort: u8) -> Result<Account, NoMemory> {
     let mut account = entry(alloc, length)?;
     account.key.offset = hash;
     account.detail = ino;

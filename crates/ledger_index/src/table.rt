@@ -214,6 +214,21 @@ impl<K: Exact> Table<K> {
         }
         None
     }
+
+    // The entry that was last found for an account of this slot, in the part with this number: its index there, and its key.
+    fn seen(&self, number: usize, mixed: u64) -> Option<(usize, &K)>
+        ensures { IfSome result (λ p. (number ≡ K.part_of p.1.now)
+            × StandsIn K.eq K.part_of self.now.parts.items p.0 p.1.now) }
+    {
+        let hint = self.near[slot_of(mixed)];
+        if hint.bits == bits_of(mixed)
+            && let Some(part) = self.parts.get(number)
+            && let Some((key, _)) = part.get_index(hint.at as usize)
+        {
+            return Some((hint.at as usize, key));
+        }
+        None
+    }
 }
 
 impl Table<Place> {
@@ -230,15 +245,11 @@ impl Table<Place> {
             × (number ≡ place_part p.1)
             × StandsIn is_same_place place_part self.now.parts.items p.0 p.1) }
     {
-        let hint = self.near[slot_of(mixed)];
-        if hint.bits == bits_of(mixed)
-            && let Some(part) = self.parts.get(number)
-            && let Some((place, _)) = part.get_index(hint.at as usize)
-            && place.is_of(account)
-        {
-            return Some((hint.at as usize, *place));
+        let (at, place) = self.seen(number, mixed)?;
+        if !place.is_of(account) {
+            return None;
         }
-        None
+        Some((at, *place))
     }
 }
 
@@ -281,15 +292,11 @@ impl Table<LongPlace> {
             × StandsIn is_same_long long_part self.now.parts.items p.0 p.1) }
     {
         let mixed = mixed_of(LINK, link.inode, link.dir);
-        let hint = self.near[slot_of(mixed)];
-        if hint.bits == bits_of(mixed)
-            && let Some(part) = self.parts.get(part_at(link.inode))
-            && let Some((place, _)) = part.get_index(hint.at as usize)
-            && place.is_of(link)
-        {
-            return Some((hint.at as usize, *place));
+        let (at, place) = self.seen(part_at(link.inode), mixed)?;
+        if !place.is_of(link) {
+            return None;
         }
-        None
+        Some((at, *place))
     }
 
     /// Adds an amount to one of the two sums of an account of a name, or as much of it as there is room for in 128 bits, and
