@@ -5,6 +5,7 @@ pub mod Broken
 pub mod Least
 pub mod Context
 pub mod Kinds
+pub mod Lent
 pub mod Taken
 pub mod Posts
 pub mod PostsLaws

@@ -1,11 +1,12 @@
 //! What one record adds to the sums of accounts.
 
 ghost use Rattle.std.specs.Prelude.{◌≡◌, ◌<◌, [], ◌∷◌, ◌++◌, OnOk, OnErr};
+ghost use Rattle.accounts.specs.Lent.{posting_lent};
 ghost use Rattle.accounts.specs.Posts.{Done, Passes, Posts};
 ghost use Rattle.accounts.specs.PostsLaws.{posts_pass};
 ghost use Rattle.accounts.specs.Taken.{IsLastTaken};
 
-use crate::Account;
+use crate::{Account, NameAccount};
 use std::alloc::Global;
 use std::marker::Model;
 use verdict::NoMemory;
@@ -47,6 +48,17 @@ pub trait Poster {
     fn put(&mut self, posting: Posting) -> Result<(), NoMemory>
         ensures { Leaves self.old self.new result (posting ∷ []) };
 
+    /// Hands it an amount to the sum of an account of a name with this number, 0 to 8. Where it needs the account, that takes
+    /// its memory from this allocator. Out of memory, it may have taken the amount or not.
+    fn put_name(
+        &mut self,
+        alloc: Global,
+        name: &NameAccount<'_>,
+        field: u8,
+        amount: u64,
+    ) -> Result<(), NoMemory>
+        ensures { Leaves self.old self.new result (posting_lent name.now field amount ∷ []) };
+
     /// No postings leave it as it was, and what some leave and others behind them is what all of them leave.
     ghost passes: { Passes Leaves };
 }
@@ -73,6 +85,17 @@ impl Poster for Postings {
 
     fn put(&mut self, posting: Posting) -> Result<(), NoMemory> {
         self.push(posting)
+    }
+
+    fn put_name(
+        &mut self,
+        alloc: Global,
+        name: &NameAccount<'_>,
+        field: u8,
+        amount: u64,
+    ) -> Result<(), NoMemory> {
+        let account = name.account(alloc)?;
+        self.push(Posting::to(account, field, amount))
     }
 }
 

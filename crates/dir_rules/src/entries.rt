@@ -6,7 +6,7 @@ ghost use Rattle.fs_items.specs.Lent.{dir_in, entry_fields, inode_ref_in, name_f
 ghost use Rattle.records.specs.DirPostings.{dir_entry_postings, entry_posting, indexed_postings, is_root_name, link_postings, names_postings};
 ghost use Rattle.records.specs.Post.{to};
 
-use accounts::{Account, Poster, Posting};
+use accounts::{Account, NameAccount, Poster, Posting};
 use fs_items::{DirEntry, DirItem, InodeRef, NameAt};
 use recon_crc::name_hash;
 use std::alloc::Global;
@@ -77,8 +77,14 @@ pub fn post_link<P: Poster>(
 ) -> Result<(), NoMemory>
     ensures { P.Leaves into.old into.new result (link_postings tree ino (name_fields name.now)) }
 {
-    let account = Account::link(alloc, tree, ino, name.parent, name.index, name.name)?;
-    add(account, 1, 1, into)
+    let link = NameAccount::Link {
+        tree,
+        ino,
+        dir: name.parent,
+        index: name.index,
+        name: name.name,
+    };
+    into.put_name(alloc, &link, 1, 1)
 }
 
 // The entries of a directory.
@@ -129,10 +135,15 @@ fn post_name<P: Poster>(
     ensures { P.Leaves into.old into.new result
         (entry_posting tree dir field (entry_fields entry.now) ∷ []) }
 {
-    let hash = name_hash(entry.name);
-    let (location, sort) = (entry.location, entry.sort);
-    let account = Account::name_entry(alloc, tree, dir, hash, location, entry.name, sort)?;
-    add(account, field, 1, into)
+    let name = NameAccount::Entry {
+        tree,
+        dir,
+        hash: name_hash(entry.name),
+        location: entry.location,
+        name: entry.name,
+        sort: entry.sort,
+    };
+    into.put_name(alloc, &name, field, 1)
 }
 
 // The entry of a directory by its index.
@@ -169,8 +180,14 @@ fn post_target<P: Poster>(
     let (dir, index, target) = (key.objectid, key.offset, entry.location.objectid);
     match entry.location.kind {
         INODE_ITEM => {
-            let account = Account::link(alloc, tree, target, dir, index, entry.name)?;
-            add(account, 0, 1, into)
+            let link = NameAccount::Link {
+                tree,
+                ino: target,
+                dir,
+                index,
+                name: entry.name,
+            };
+            into.put_name(alloc, &link, 0, 1)
         }
         ROOT_ITEM => {
             let account = Account::subvolume_entry(alloc, tree, target, dir, index, entry.name)?;

@@ -8,6 +8,7 @@ pub mod SinglesLaws
 pub mod JudgedLaws
 pub mod PlacedLaws
 pub mod NameLaws
+pub mod LentLaws
 pub mod NamesLaws
 pub mod SeatLaws
 pub mod UnpagedLaws

@@ -4,6 +4,7 @@ ghost use Rattle.std.specs.Prelude.{◌≡◌, ℕ, ◌+◌, ◌<◌, ◌≤◌,
 ghost use Rattle.indexmap.specs.IndexMap.{index_map_len};
 ghost use Rattle.accounts.specs.Broken.{is_broken};
 ghost use Rattle.accounts.specs.Least.{IsLeastBroken};
+ghost use Rattle.accounts.specs.Lent.{account_lent};
 ghost use Rattle.accounts.specs.Sums.{sum_in};
 ghost use Rattle.accounts.specs.Tally.{no_sums};
 ghost use Rattle.recon_disk.specs.Outside.{counted};
@@ -23,7 +24,7 @@ use crate::page::Page;
 use crate::pages::Pages;
 use crate::seat::{PageKey, Seat, kind_at};
 use crate::unpaged::Unpaged;
-use accounts::{Account, Totals, broken};
+use accounts::{Account, NameAccount, Totals, broken};
 use recon_disk::Steps;
 use std::alloc::Global;
 use std::marker::PhantomData;
@@ -148,6 +149,33 @@ impl<L> LedgerIndex<L> {
             Some(seat) => self.pages.add(self.alloc, &seat, field, amount, steps),
             None => self.unpaged.add_saturating(account, field, amount, steps),
         }
+    }
+
+    /// Adds as `add_saturating` does, to an account of a name. The account is made only where it has to have an entry of its own,
+    /// or where nothing is added. It takes its memory from the ledger's allocator then.
+    #[tactic(auto, using(crate::proofs::LedgerLaws::is_tidy))]
+    pub fn add_name(
+        &mut self,
+        name: &NameAccount<'_>,
+        field: u8,
+        amount: u64,
+        steps: &mut Steps<L>,
+    ) -> Result<bool, NoMemory>
+        ensures ok { OnOk result (sums_of self.new
+            ≡ changed raise (sums_of self.old) (account_lent name.now) field amount) }
+        ensures full { IfOk result (λ full. full ≡ false →
+            sums_of self.new (account_lent name.now) field < greatest) }
+        ensures err { OnErr result (sums_of self.new ≡ sums_of self.old) }
+        ensures entries { IsTidy self.new }
+        ensures few { entries_of self.new ≤ entries_of self.old + 1 }
+        ensures looks { steps.new ≡ counted steps.old }
+    {
+        steps.look();
+        if !names_a_sum(field) || amount == 0 {
+            let account = name.account(self.alloc)?;
+            return Ok(self.is_full_at(&account, field));
+        }
+        self.unpaged.add_lent(name, field, amount, steps)
     }
 
     // Whether a sum of an account stands at the greatest number of 128 bits. A field above 8 names no sum.

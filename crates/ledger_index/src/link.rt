@@ -1,11 +1,14 @@
 //! What an account of a name says of the link.
 
 ghost use Rattle.std.specs.Prelude.{◌≡◌};
+ghost use Rattle.accounts.specs.Kinds.{link, name_entry};
+ghost use Rattle.accounts.specs.Lent.{account_lent};
 ghost use Rattle.ledger_index.specs.Link.{said_by};
 ghost use Rattle.ledger_index.specs.Name.{name_of, of_entry, of_link};
 
 use crate::name::{DIR_ITEM, INODE_ITEM, INODE_REF, LINK, NAME_ENTRY, REGULAR, Side};
-use accounts::Account;
+use accounts::{Account, NameAccount};
+use verdict::Key;
 
 /// A link of an inode in a directory, as one of its two accounts says it.
 #[derive(Clone, Copy, Debug)]
@@ -70,4 +73,70 @@ impl<'a> Link<'a> {
             name,
         })
     }
+
+    /// What the account of a name says of a link, without the account.
+    pub(crate) fn lent(name: &NameAccount<'a>) -> Option<Link<'a>>
+        ensures { said_by result ≡ name_of (account_lent name.now) }
+    {
+        match *name {
+            NameAccount::Entry {
+                tree,
+                dir,
+                hash,
+                location,
+                name,
+                sort,
+            } => by_regular(tree, dir, hash, location, name, sort),
+            NameAccount::Link {
+                tree,
+                ino,
+                dir,
+                index,
+                name,
+            } => by_index(tree, ino, dir, index, name),
+        }
+    }
+}
+
+// What an entry of a directory says, if it is of a regular file.
+#[tactic(auto, using(crate::proofs::LentLaws::entry_said, crate::proofs::LentLaws::entry_regular))]
+fn by_regular<'a>(
+    tree: u64,
+    dir: u64,
+    hash: u32,
+    location: Key,
+    name: &'a [u8],
+    sort: u8,
+) -> Option<Link<'a>>
+    ensures { said_by result ≡ name_of (name_entry tree dir hash location name.now sort) }
+{
+    if sort != REGULAR || location.kind != INODE_ITEM {
+        return None;
+    }
+    Some(Link {
+        side: Side::Entry(hash),
+        block: 0,
+        tree,
+        inode: location.objectid,
+        dir,
+        name,
+    })
+}
+
+// What a link says.
+#[tactic(auto, unfolding(crate::specs::Name::name_of))]
+fn by_index<'a>(tree: u64, ino: u64, dir: u64, index: u64, name: &'a [u8]) -> Option<Link<'a>>
+    ensures { said_by result ≡ name_of (link tree ino dir index name.now) }
+{
+    let Ok(index) = u32::try_from(index) else {
+        return None;
+    };
+    Some(Link {
+        side: Side::Link(index),
+        block: 0,
+        tree,
+        inode: ino,
+        dir,
+        name,
+    })
 }

@@ -5,8 +5,8 @@ ghost use Rattle.std.specs.Option.{option_copied};
 ghost use Rattle.ledger_index.specs.Sums.{greatest, lower, raise};
 ghost use Rattle.ledger_index.specs.Kept.{sums_at};
 ghost use Rattle.ledger_index.specs.LongPlace.{is_same_long, part_of as long_part};
-ghost use Rattle.ledger_index.specs.Link.{place_said};
-ghost use Rattle.ledger_index.specs.Name.{is_same_name, name_of};
+ghost use Rattle.ledger_index.specs.Link.{name_said, place_said};
+ghost use Rattle.ledger_index.specs.Name.{is_same_name};
 ghost use Rattle.ledger_index.specs.Names.{CountedIn, names_in};
 ghost use Rattle.ledger_index.specs.Place.{is_same_place, part_of as place_part, place_of};
 ghost use Rattle.ledger_index.specs.Shifts.{Posted, Rests, Shifts};
@@ -265,28 +265,25 @@ impl Table<LongPlace> {
         }
     }
 
-    /// The name that an account is of, `None` where it is of none, and where its entry stands in its part, if it is the one that was
-    /// last found for a name of the same slot. The place of that one is not made of the account: what the account says is compared
-    /// with what stands there.
-    pub(crate) fn name_of(&self, account: &Account) -> Option<(Name, Option<usize>)>
-        ensures some { IfSome result (λ p. (name_of account.now ≡ Some p.0) × IfSome p.1
+    /// The name that a link is of, `None` where it takes more, and where its entry stands in its part, if it is the one that was
+    /// last found for a name of the same slot. The place of that one is not made of the link: what the link says is compared with
+    /// what stands there.
+    pub(crate) fn name_said(&self, link: &Link) -> Option<(Name, Option<usize>)>
+        ensures some { IfSome result (λ p. (name_said link.now ≡ Some p.0) × IfSome p.1
             (λ at. StandsIn is_same_long long_part self.now.parts.items at p.0.place)) }
-        ensures none { result ≡ None → name_of account.now ≡ None }
+        ensures none { result ≡ None → name_said link.now ≡ None }
     {
-        let Some(link) = Link::of(account) else {
-            return None;
-        };
-        if let Some((at, place)) = self.hinted_said(&link) {
+        if let Some((at, place)) = self.hinted_said(link) {
             let side = link.side;
             return Some((Name { place, side }, Some(at)));
         }
-        match Name::said(&link) {
+        match Name::said(link) {
             Some(name) => Some((name, None)),
             None => None,
         }
     }
 
-    // Where the entry of a name stands in its part, and its place, as `name_of` tells them.
+    // Where the entry of a name stands in its part, and its place, as `name_said` tells them.
     fn hinted_said(&self, link: &Link) -> Option<(usize, LongPlace)>
         ensures { IfSome result (λ p. (place_said link.now ≡ Some p.1)
             × StandsIn is_same_long long_part self.now.parts.items p.0 p.1) }

@@ -5,6 +5,7 @@ ghost use Rattle.indexmap.specs.IndexMap.{index_map_len};
 ghost use Rattle.accounts.specs.declared.account.Account.{Account as AnAccount};
 ghost use Rattle.accounts.specs.Broken.{is_broken};
 ghost use Rattle.accounts.specs.Least.{IsLeastBroken};
+ghost use Rattle.accounts.specs.Lent.{account_lent};
 ghost use Rattle.accounts.specs.Sums.{sum_in};
 ghost use Rattle.accounts.specs.Tally.{no_sums};
 ghost use Rattle.ledger_index.specs.declared.kept.Kept.{Kept as AKept};
@@ -12,19 +13,22 @@ ghost use Rattle.ledger_index.specs.declared.long_place.LongPlace.{LongPlace as 
 ghost use Rattle.ledger_index.specs.Beside.{AreNamed, AreOnce};
 ghost use Rattle.ledger_index.specs.Entries.{Within, by_key, count_in};
 ghost use Rattle.ledger_index.specs.Judged.{IsLeastBut, lesser_of};
+ghost use Rattle.ledger_index.specs.Link.{name_said};
 ghost use Rattle.ledger_index.specs.LongPlace.{is_same_long};
+ghost use Rattle.ledger_index.specs.Name.{name_of};
 ghost use Rattle.ledger_index.specs.Names.{CountedIn};
 ghost use Rattle.ledger_index.specs.Singles as single;
 ghost use Rattle.ledger_index.specs.Sums.{changed, greatest, lower, raise};
 
 use crate::judged::lesser;
 use crate::kept::Kept;
+use crate::link::Link;
 use crate::long_place::LongPlace;
 use crate::name::{Name, Side};
 use crate::seeded::Seeded;
 use crate::singles::Singles;
 use crate::table::Table;
-use accounts::{Account, Totals, broken};
+use accounts::{Account, NameAccount, Totals, broken};
 use indexmap::IndexMap;
 use recon_disk::Steps;
 use std::alloc::Global;
@@ -127,6 +131,33 @@ impl Unpaged {
         }
     }
 
+    /// Adds as `add_saturating` does, to an account of a name, which is made only where it has to have an entry of its own.
+    pub(crate) fn add_lent<L>(
+        &mut self,
+        name: &NameAccount<'_>,
+        field: u8,
+        amount: u64,
+        steps: &Steps<L>,
+    ) -> Result<bool, NoMemory>
+        requires named { field < 9 }
+        requires more { 0 < amount }
+        ensures ok { OnOk result
+            (sums_of self.new ≡ changed raise (sums_of self.old) (account_lent name.now) field amount) }
+        ensures full { IfOk result (λ full. full ≡ false →
+            sums_of self.new (account_lent name.now) field < greatest) }
+        ensures err { OnErr result (sums_of self.new ≡ sums_of self.old) }
+        ensures few { entries_of self.new ≤ entries_of self.old + 1 }
+    {
+        match self.add_said(name, field, amount, steps) {
+            Ok(Some(full)) => Ok(full),
+            Ok(None) => {
+                let account = name.account(self.alloc)?;
+                self.add_saturating(&account, field, amount, steps)
+            }
+            Err(_) => Err(NoMemory),
+        }
+    }
+
     // Adds as `add_saturating` does, in the entry of the account's name. `None` where the account is of no name, or has to have an
     // entry of its own.
     fn add_named<L>(
@@ -143,7 +174,51 @@ impl Unpaged {
         ensures err { OnErr result (sums_of self.new ≡ sums_of self.old) }
         ensures few { entries_of self.new ≤ entries_of self.old + 1 }
     {
-        let Some((name, at)) = self.names.name_of(account) else {
+        match Link::of(account) {
+            Some(link) => self.add_link(&link, field, amount, steps),
+            None => Ok(None),
+        }
+    }
+
+    // The same of an account of a name that is not made.
+    fn add_said<L>(
+        &mut self,
+        name: &NameAccount<'_>,
+        field: u8,
+        amount: u64,
+        steps: &Steps<L>,
+    ) -> Result<Option<bool>, NoMemory>
+        requires more { 0 < amount }
+        ensures ok { IfOk result (IsAdded self.old self.new (account_lent name.now) field amount) }
+        ensures none { IfOk result (λ full. full ≡ None →
+            entries_of self.new ≤ entries_of self.old) }
+        ensures err { OnErr result (sums_of self.new ≡ sums_of self.old) }
+        ensures few { entries_of self.new ≤ entries_of self.old + 1 }
+    {
+        match Link::lent(name) {
+            Some(link) => self.add_link(&link, field, amount, steps),
+            None => Ok(None),
+        }
+    }
+
+    // The same of the accounts that say this of a link.
+    fn add_link<L>(
+        &mut self,
+        link: &Link<'_>,
+        field: u8,
+        amount: u64,
+        steps: &Steps<L>,
+    ) -> Result<Option<bool>, NoMemory>
+        requires said { (account : AnAccount) × (name_of account ≡ name_said link.now) }
+        requires more { 0 < amount }
+        ensures ok { (account : AnAccount) → name_of account ≡ name_said link.now →
+            IfOk result (IsAdded self.old self.new account field amount) }
+        ensures none { IfOk result (λ full. full ≡ None →
+            entries_of self.new ≤ entries_of self.old) }
+        ensures err { OnErr result (sums_of self.new ≡ sums_of self.old) }
+        ensures few { entries_of self.new ≤ entries_of self.old + 1 }
+    {
+        let Some((name, at)) = self.names.name_said(link) else {
             return Ok(None);
         };
         if field >= 2 {

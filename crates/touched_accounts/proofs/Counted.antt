@@ -1,5 +1,5 @@
 -- A counter of looks, some looks later.
-use Rattle.std.proofs.Common.{◌≡◌, ℕ, zero, suc, ◌+◌, ◌≤◌, refl, ap, sym, ◌∙◌, arith}
+use Rattle.std.proofs.Common.{◌≡◌, ℕ, zero, suc, ◌+◌, ◌≤◌, ap, sym, ◌∙◌, arith}
 use Rattle.recon_disk.specs.Outside.{counted}
 use Rattle.touched_accounts.specs.AddingLaws.{counted_suc}
 use Rattle.touched_accounts.specs.Looks.{HaveLooks, counted_times}

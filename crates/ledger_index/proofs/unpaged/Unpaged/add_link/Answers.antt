@@ -1,4 +1,4 @@
-use Rattle.std.proofs.Common.{arith, not, refl, subst}
+use Rattle.std.proofs.Common.{arith, not, refl, subst, ◌∙◌}
 use Rattle.ledger_index.specs.Name.{is_same_name}
 use Rattle.ledger_index.specs.Names.{names_in}
 use Rattle.ledger_index.specs.Shifts.{Posted}
@@ -6,11 +6,11 @@ use Rattle.ledger_index.specs.Unpaged.{entries_of}
 use Rattle.ledger_index.specs.Sums.{raise}
 use Rattle.ledger_index.proofs.EntryLaws.{raise_none}
 use Rattle.ledger_index.proofs.UnpagedLaws.{all_stay, full_name, none_after, once_shifted, own_none, to_name}
-use Rattle.ledger_index.proofs.unpaged.Unpaged.add_named.Goals as goal
+use Rattle.ledger_index.proofs.unpaged.Unpaged.add_link.Goals as goal
 
 -- to none of the two sums
 pub returns-then-field-ge2-clause-ok : goal.returns-then-field-ge2-clause-ok
-returns-then-field-ge2-clause-ok g c = (
+returns-then-field-ge2-clause-ok g c = λ account said. (
   all_stay c.args.self.now _ (λ t n. refl) refl,
   record { none = λ t at low. absurd (omega (arith, low, c.if-field-ge2.true)); apart = λ t at. refl },
 )
@@ -28,23 +28,25 @@ pub invariant_of-self-in-Some-post-2 : goal.invariant_of-self-in-Some-post-2
 invariant_of-self-in-Some-post-2 g c =
     let old = c.args.self.now in
     let name = c.in-Some.name in
+    let says = c.requires.said.1 ∙ c.in-Some.ensures.some.0 in
     let posted = subst (Posted is_same_name (not old.apart) name c.args.field c.args.amount (names_in old.names.parts.items) (names_in c.post.new.self.parts.items))
     c.in-Ok-Some.field-0-is c.in-Ok-Some.ensures.ok in record {
       counted = c.post.ensures.counted;
-      once = once_shifted raise raise_none c.args.account.now c.args.field c.args.amount (names_in old.names.parts.items) (names_in c.post.new.self.parts.items) _ name c.in-Some.ensures.some.0 posted.0
-          old.once (own_none old c.args.account.now name c.in-Some.ensures.some.0 posted.1.1);
+      once = once_shifted raise raise_none c.requires.said.0 c.args.field c.args.amount (names_in old.names.parts.items) (names_in c.post.new.self.parts.items) _ name says posted.0
+          old.once (own_none old c.requires.said.0 name says posted.1.1);
       named = old.named;
     }
 
 pub returns-in-Ok-Some-clause-ok : goal.returns-in-Ok-Some-clause-ok
-returns-in-Ok-Some-clause-ok g c =
+returns-in-Ok-Some-clause-ok g c = λ account said.
     let old = c.args.self.now in
     let name = c.in-Some.name in
+    let says = said ∙ c.in-Some.ensures.some.0 in
     let posted = subst (Posted is_same_name (not old.apart) name c.args.field c.args.amount (names_in old.names.parts.items) (names_in c.post.new.self.parts.items))
     c.in-Ok-Some.field-0-is c.in-Ok-Some.ensures.ok in
-    let own = own_none old c.args.account.now name c.in-Some.ensures.some.0 posted.1.1 c.args.field (omega (arith, c.if-field-ge2.false)) in (
-      to_name old _ raise raise_none c.args.account.now c.args.field c.args.amount name c.in-Some.ensures.some.0 posted.0 refl own,
-      λ low. full_name _ c.args.account.now name c.in-Some.ensures.some.0 c.args.field own (posted.1.0 low),
+    let own = own_none old account name says posted.1.1 c.args.field (omega (arith, c.if-field-ge2.false)) in (
+      to_name old _ raise raise_none account c.args.field c.args.amount name says posted.0 refl own,
+      λ low. full_name _ account name says c.args.field own (posted.1.0 low),
     )
 
 pub returns-in-Ok-Some-clause-few : goal.returns-in-Ok-Some-clause-few
@@ -53,14 +55,15 @@ returns-in-Ok-Some-clause-few g c = omega (arith, c.post.ensures.few)
 
 -- the name has no sums of the account
 pub returns-in-Ok-None-clause-ok : goal.returns-in-Ok-None-clause-ok
-returns-in-Ok-None-clause-ok g c =
+returns-in-Ok-None-clause-ok g c = λ account said.
     let old = c.args.self.now in
     let name = c.in-Some.name in
+    let says = said ∙ c.in-Some.ensures.some.0 in
     let posted = subst (Posted is_same_name (not old.apart) name c.args.field c.args.amount (names_in old.names.parts.items) (names_in c.post.new.self.parts.items))
     c.in-Ok-None.field-0-is c.in-Ok-None.ensures.ok in (
       all_stay old _ posted.1 refl,
       record {
-        none = λ t at low. none_after (names_in old.names.parts.items) (names_in c.post.new.self.parts.items) c.args.account.now name t c.in-Some.ensures.some.0 at posted.0 posted.1;
+        none = λ t at low. none_after (names_in old.names.parts.items) (names_in c.post.new.self.parts.items) account name t says at posted.0 posted.1;
         apart = λ t at. refl;
       },
     )
