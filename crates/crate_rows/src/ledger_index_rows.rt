@@ -1,4 +1,4 @@
-use accounts::{Account, Totals};
+use accounts::{Account, NameAccount, Totals};
 use ledger_index::LedgerIndex;
 use recon_disk::Steps;
 use std::alloc::Global;
@@ -413,5 +413,71 @@ fn finds_names_among_many(rt: HostRuntime) -> Result<(), NoMemory> {
         assert!(rt; named == two(0, stands * (u128::from(ino) + 1)));
     }
     assert!(rt; ledger.least_broken(&mut steps)? == Some(typed(alloc, 1, 1, 20, 1)?));
+    Ok(())
+}
+
+// An account of an entry of directory 256, which leads to the item 300 of this kind, and is of this type.
+fn lent_entry(name: &[u8], kind: u8, sort: u8) -> NameAccount<'_> {
+    NameAccount::Entry {
+        tree: 5,
+        dir: 256,
+        hash: 1,
+        location: Key {
+            objectid: 300,
+            kind,
+            offset: 0,
+        },
+        name,
+        sort,
+    }
+}
+
+// An account of a link of inode 300 in directory 256, with this index.
+fn lent_link(name: &[u8], index: u64) -> NameAccount<'_> {
+    NameAccount::Link {
+        tree: 5,
+        ino: 300,
+        dir: 256,
+        index,
+        name,
+    }
+}
+
+#[test]
+fn adds_to_names_without_their_accounts(rt: HostRuntime) -> Result<(), NoMemory> {
+    let alloc = rt.alloc();
+    let mut steps = Steps::new(());
+    let mut made = LedgerIndex::new(alloc);
+    let mut lent = LedgerIndex::new(alloc);
+    let wanted = Totals {
+        f: [18_446_744_073_709_551_618, 2, 0, 0, 0, 1, 0, 0, 0],
+    };
+    for length in [0, 1, 36, 37, 255] {
+        let Ok(bytes) = Vec::from_elem(alloc, 97, length) else {
+            return Err(NoMemory);
+        };
+        let name = bytes.as_slice();
+        let names = [
+            lent_entry(name, 1, 1),
+            lent_link(name, 2),
+            lent_entry(name, 1, 2),
+            lent_entry(name, 132, 1),
+            lent_link(name, 4_294_967_296),
+        ];
+        for one in names {
+            let account = one.account(alloc)?;
+            for (field, amount) in [(0, 3), (1, 2), (0, u64::MAX), (5, 1), (1, 0), (9, 4)] {
+                let before = steps.looks();
+                assert!(rt; !made.add_saturating(&account, field, amount, &mut steps)?);
+                assert!(rt; !lent.add_name(&one, field, amount, &mut steps)?);
+                assert!(rt; steps.looks() == before.wrapping_add(2));
+            }
+            assert!(rt; made.get(&account, &mut steps) == wanted);
+            assert!(rt; lent.get(&account, &mut steps) == wanted);
+        }
+    }
+    let least = lent.least_broken(&mut steps)?;
+    assert!(rt; least == made.least_broken(&mut steps)?);
+    assert!(rt; least == Some(lent_entry(&[], 1, 1).account(alloc)?));
     Ok(())
 }

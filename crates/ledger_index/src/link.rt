@@ -86,57 +86,57 @@ impl<'a> Link<'a> {
                 location,
                 name,
                 sort,
-            } => by_regular(tree, dir, hash, location, name, sort),
+            } => Link::lent_entry(tree, dir, hash, location, name, sort),
             NameAccount::Link {
                 tree,
                 ino,
                 dir,
                 index,
                 name,
-            } => by_index(tree, ino, dir, index, name),
+            } => Link::lent_link(tree, ino, dir, index, name),
         }
     }
-}
 
-// What an entry of a directory says, if it is of a regular file.
-#[tactic(auto, using(crate::proofs::LentLaws::entry_said, crate::proofs::LentLaws::entry_regular))]
-fn by_regular<'a>(
-    tree: u64,
-    dir: u64,
-    hash: u32,
-    location: Key,
-    name: &'a [u8],
-    sort: u8,
-) -> Option<Link<'a>>
-    ensures { said_by result ≡ name_of (name_entry tree dir hash location name.now sort) }
-{
-    if sort != REGULAR || location.kind != INODE_ITEM {
-        return None;
+    // What an entry of a directory says, if it is of a regular file.
+    #[tactic(auto, using(crate::proofs::LentLaws::entry_said, crate::proofs::LentLaws::entry_regular))]
+    fn lent_entry(
+        tree: u64,
+        dir: u64,
+        hash: u32,
+        location: Key,
+        name: &'a [u8],
+        sort: u8,
+    ) -> Option<Link<'a>>
+        ensures { said_by result ≡ name_of (name_entry tree dir hash location name.now sort) }
+    {
+        if sort != REGULAR || location.kind != INODE_ITEM {
+            return None;
+        }
+        Some(Link {
+            side: Side::Entry(hash),
+            block: 0,
+            tree,
+            inode: location.objectid,
+            dir,
+            name,
+        })
     }
-    Some(Link {
-        side: Side::Entry(hash),
-        block: 0,
-        tree,
-        inode: location.objectid,
-        dir,
-        name,
-    })
-}
 
-// What a link says.
-#[tactic(auto, unfolding(crate::specs::Name::name_of))]
-fn by_index<'a>(tree: u64, ino: u64, dir: u64, index: u64, name: &'a [u8]) -> Option<Link<'a>>
-    ensures { said_by result ≡ name_of (link tree ino dir index name.now) }
-{
-    let Ok(index) = u32::try_from(index) else {
-        return None;
-    };
-    Some(Link {
-        side: Side::Link(index),
-        block: 0,
-        tree,
-        inode: ino,
-        dir,
-        name,
-    })
+    // What a link says.
+    #[tactic(auto, unfolding(crate::specs::Name::name_of))]
+    fn lent_link(tree: u64, ino: u64, dir: u64, index: u64, name: &'a [u8]) -> Option<Link<'a>>
+        ensures { said_by result ≡ name_of (link tree ino dir index name.now) }
+    {
+        let Ok(index) = u32::try_from(index) else {
+            return None;
+        };
+        Some(Link {
+            side: Side::Link(index),
+            block: 0,
+            tree,
+            inode: ino,
+            dir,
+            name,
+        })
+    }
 }
