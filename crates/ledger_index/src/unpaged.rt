@@ -148,14 +148,13 @@ impl Unpaged {
         ensures err { OnErr result (sums_of self.new ≡ sums_of self.old) }
         ensures few { entries_of self.new ≤ entries_of self.old + 1 }
     {
-        match self.add_said(name, field, amount, steps) {
-            Ok(Some(full)) => Ok(full),
-            Ok(None) => {
-                let account = name.account(self.alloc)?;
-                self.add_saturating(&account, field, amount, steps)
-            }
-            Err(_) => Err(NoMemory),
+        if let Some(link) = Link::lent(name)
+            && let Some(full) = self.add_link(&link, field, amount, steps)?
+        {
+            return Ok(full);
         }
+        let account = name.account(self.alloc)?;
+        self.add_saturating(&account, field, amount, steps)
     }
 
     // Adds as `add_saturating` does, in the entry of the account's name. `None` where the account is of no name, or has to have an
@@ -180,28 +179,7 @@ impl Unpaged {
         }
     }
 
-    // The same of an account of a name that is not made.
-    fn add_said<L>(
-        &mut self,
-        name: &NameAccount<'_>,
-        field: u8,
-        amount: u64,
-        steps: &Steps<L>,
-    ) -> Result<Option<bool>, NoMemory>
-        requires more { 0 < amount }
-        ensures ok { IfOk result (IsAdded self.old self.new (account_lent name.now) field amount) }
-        ensures none { IfOk result (λ full. full ≡ None →
-            entries_of self.new ≤ entries_of self.old) }
-        ensures err { OnErr result (sums_of self.new ≡ sums_of self.old) }
-        ensures few { entries_of self.new ≤ entries_of self.old + 1 }
-    {
-        match Link::lent(name) {
-            Some(link) => self.add_link(&link, field, amount, steps),
-            None => Ok(None),
-        }
-    }
-
-    // The same of the accounts that say this of a link.
+    // Adds as `add_named` does, to the accounts that say this of a link.
     fn add_link<L>(
         &mut self,
         link: &Link<'_>,
