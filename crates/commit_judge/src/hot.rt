@@ -3,10 +3,11 @@
 ghost use Rattle.std.specs.Prelude.{◌≡◌, ◌||◌, not};
 ghost use Rattle.std.specs.List.{count_by};
 ghost use Rattle.live_index.specs.declared.live.Live.{Live as ALive};
-ghost use Rattle.touched_pairs.specs.Touched.{any_written, copy_written, same_place, stays_in_place, touches_block, written_in};
+ghost use Rattle.touched_pairs.specs.Touched.{same_place, stays_in_place, touches_block, written_in};
 
 use chunk_map::ChunkMap;
 use live_index::Live;
+use touched_pairs::touches_place;
 use verdict::Place;
 use write_cache::WriteCache;
 
@@ -48,7 +49,7 @@ fn is_hot(
     let size = u64::from(nodesize);
     let was = old.place(address, size, end);
     let is = new.place(address, size, end);
-    is_written(cache, &was, nodesize) || !are_same(&was, &is)
+    touches_place(cache, &was, nodesize) || !are_same(&was, &is)
 }
 
 // Whether two places are the same.
@@ -56,24 +57,4 @@ fn are_same(one: &Place, other: &Place) -> bool
     ensures { result ≡ same_place one.now other.now }
 {
     one == other
-}
-
-// Whether a pending write touches a byte of a copy of the block, of `nodesize` bytes, that stands at a place.
-fn is_written(cache: &WriteCache, place: &Place, nodesize: u32) -> bool
-    ensures { result ≡ copy_written (written_in cache.now) nodesize place.now }
-{
-    match *place {
-        Place::Nowhere => false,
-        Place::One(first) => touches(cache, first, nodesize),
-        Place::Two(first, second) => {
-            touches(cache, first, nodesize) || touches(cache, second, nodesize)
-        }
-    }
-}
-
-// Whether a pending write has one of so many bytes from an offset on.
-fn touches(cache: &WriteCache, at: u64, nodesize: u32) -> bool
-    ensures { result ≡ any_written (written_in cache.now) at nodesize }
-{
-    cache.touches(at, u64::from(nodesize))
 }

@@ -18,5 +18,6 @@ pub use marks::{Marks, PairPlace};
 pub use moved::Move;
 pub use moves::{moved_pairs, moved_pairs_of};
 pub use own::touched_of;
+pub use pending::touches_place;
 pub use test::AddressTest;
 pub use written::touched_pairs;

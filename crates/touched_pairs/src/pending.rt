@@ -2,7 +2,7 @@
 
 ghost use Rattle.std.specs.Prelude.{◌≡◌};
 ghost use Rattle.touched_pairs.specs.Spots.{AreSpotsOf};
-ghost use Rattle.touched_pairs.specs.Touched.{any_written, touches_block, written_in};
+ghost use Rattle.touched_pairs.specs.Touched.{any_written, copy_written, touches_block, written_in};
 
 use crate::spot::Spot;
 use crate::test::AddressTest;
@@ -49,7 +49,19 @@ pub(crate) fn is_touched(
 ) -> bool
     ensures { result ≡ touches_block (written_in cache.now) map.now nodesize end address }
 {
-    match map.place(address, u64::from(nodesize), end) {
+    touches_place(
+        cache,
+        &map.place(address, u64::from(nodesize), end),
+        nodesize,
+    )
+}
+
+/// Whether one of pending writes touches a byte of a copy of the block, of `nodesize` bytes, that stands at a place. It costs a search among
+/// the writes for each copy.
+pub fn touches_place(cache: &WriteCache, place: &Place, nodesize: u32) -> bool
+    ensures { result ≡ copy_written (written_in cache.now) nodesize place.now }
+{
+    match *place {
         Place::Nowhere => false,
         Place::One(first) => touches_copy(cache, nodesize, first),
         Place::Two(first, second) => {
