@@ -1,6 +1,6 @@
 -- The least broken account, one entry after the other.
 use Rattle.std.proofs.Common.{◌≡◌, ℕ, zero, suc, ◌&&◌, Bool, true, false, cond, List, [], ◌∷◌, ◌++◌, ◌⊎◌, inl, inr, ⊎_elim, refl, ap, sym, ◌∙◌, subst}
-use Rattle.std.specs.Prelude.{Option, Some, None, Result, Ok, Err, IfOk, is_some, slice_get}
+use Rattle.std.specs.Prelude.{Option, Some, None, is_some, slice_get}
 use Rattle.std.proofs.Math.Path.{fun_ext}
 use Rattle.std.specs.Cmp.{IsEquivalence}
 use Rattle.std.specs.List.{AllByRecursion, IsDistinct}
@@ -306,8 +306,3 @@ module _ (ledger : Singles) where
         subst (IsLeastBut (sums_of ledger) (is_later [] [] rest)) (sym so)
         (judged (sums_of ledger) (is_later [] [] ((a, kept) ∷ rest)) (is_later [] [] rest) (λ account. IsWhole account a)
         (λ account. whole_passed account (a, kept) rest) k (λ account at. at.2 ∙ sym made) found is)
-
-pub least_ok : {E : Type 0} (sums : Sums) (result : Result (Option Account) E) → IfOk result (IsLeastBut sums (is_later [] [] []))
-    → IfOk result (IsLeastBroken (λ account. is_broken account (sums account)))
-least_ok sums (Ok found) is = least_of_all sums found is
-least_ok sums (Err e) is = is

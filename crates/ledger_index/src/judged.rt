@@ -11,32 +11,27 @@ use accounts::{Account, broken};
 use std::alloc::Global;
 use verdict::{Bytes, Key};
 
-/// An account that can take the kind of any other. It takes no memory.
-pub(crate) fn stand_in(alloc: Global) -> Account {
-    Account {
-        kind: 0,
-        tree: 0,
-        block: 0,
-        key: Key {
-            objectid: 0,
-            kind: 0,
-            offset: 0,
-        },
-        detail: 0,
-        tail: Bytes::from(Vec::new(alloc)),
-    }
-}
-
-/// Whether these sums break an account of this kind: the kind alone decides, so the stand-in takes it.
-pub(crate) fn breaks(kind: u8, kept: &Kept, stand_in: &mut Account) -> bool
+/// Whether these sums break an account of this kind: the kind alone decides, so another account of it stands in. It takes no memory.
+pub(crate) fn breaks(alloc: Global, kind: u8, kept: &Kept) -> bool
     ensures { result ≡ breaks kind (kept_sum kept.now) }
 {
     match small_breaks(kind, kept) {
         Some(is) => is,
-        None => {
-            stand_in.kind = kind;
-            broken(stand_in, &kept.totals())
-        }
+        None => broken(&stand_in(alloc, kind), &kept.totals()),
+    }
+}
+
+// An account of this kind.
+fn stand_in(alloc: Global, kind: u8) -> Account
+    ensures { result.kind ≡ kind }
+{
+    Account {
+        kind,
+        tree: 0,
+        block: 0,
+        key: Key::none(),
+        detail: 0,
+        tail: Bytes::from(Vec::new(alloc)),
     }
 }
 

@@ -19,7 +19,7 @@ ghost use Rattle.ledger_index.specs.Seated.{left_pages};
 ghost use Rattle.ledger_index.specs.Sums.{changed, greatest, lower, raise};
 ghost use Rattle.ledger_index.specs.Unpaged as unpaged;
 
-use crate::judged::{breaks, is_broken, lesser, stand_in};
+use crate::judged::{breaks, is_broken, lesser};
 use crate::page::Page;
 use crate::pages::Pages;
 use crate::seat::{PageKey, Seat, kind_at};
@@ -239,10 +239,9 @@ impl<L> LedgerIndex<L> {
             IsLeastBut (sums_of self.now) (left_pages ((key.now, page.now) ∷ rest)) first →
             IsLeastBut (sums_of self.now) (left_pages rest) result }
     {
-        let mut stand_in = stand_in(self.alloc);
         let mut least = first;
         for slot in 0..16 {
-            if !breaks_at(page, slot, &mut stand_in) {
+            if !breaks_at(self.alloc, page, slot) {
                 continue;
             }
             least = self.lesser(key.account(self.alloc, slot), least);
@@ -260,13 +259,13 @@ impl<L> LedgerIndex<L> {
     }
 }
 
-// Whether the sums of a slot of a page break the rule of its account. The kind alone decides, so the stand-in takes it.
-fn breaks_at(page: &Page, slot: u8, stand_in: &mut Account) -> bool
+// Whether the sums of a slot of a page break the rule of its account.
+fn breaks_at(alloc: Global, page: &Page, slot: u8) -> bool
     ensures { result
         ≡ rule_breaks (kind_at slot) (sums_at (slice_get page.now.slots.items slot)) }
 {
     match page.kept(slot) {
-        Some(kept) => breaks(kind_at(slot), kept, stand_in),
+        Some(kept) => breaks(alloc, kind_at(slot), kept),
         None => false,
     }
 }

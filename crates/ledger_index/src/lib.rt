@@ -2,6 +2,7 @@
 #![tactic(auto)]
 
 mod hint;
+mod judge;
 mod judged;
 mod kept;
 mod ledger;

@@ -58,10 +58,6 @@ impl Exact for LongPlace {
 
     ghost exact = { same_long };
 
-    fn kind(&self) -> u8 {
-        LongPlace::kind(self)
-    }
-
     fn part(&self) -> usize {
         part_at(u64::from(self.objectid))
     }

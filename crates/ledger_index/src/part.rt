@@ -20,9 +20,6 @@ pub(crate) trait Exact: Eq + Hash + Copy {
     /// The number of the part of a table that has the key's entry.
     ghost part_of: { Self → ℕ };
 
-    /// The kind of the account.
-    fn kind(&self) -> u8;
-
     /// A number that keys seldom have in common. It costs less than a hash, and nothing rests on it.
     fn mixed(&self) -> u64;
 

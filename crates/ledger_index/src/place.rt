@@ -109,10 +109,6 @@ impl Exact for Place {
 
     ghost exact = { same_place };
 
-    fn kind(&self) -> u8 {
-        Place::kind(self)
-    }
-
     fn part(&self) -> usize {
         match *self {
             Place::Plain {

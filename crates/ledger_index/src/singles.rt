@@ -1,32 +1,25 @@
 //! The accounts that have an entry each.
 
-ghost use Rattle.std.specs.Prelude.{◌≡◌, ℕ, ◌+◌, ◌<◌, ◌≤◌, ◌++◌, List, [], false, None, IfOk, OnOk, OnErr};
+ghost use Rattle.std.specs.Prelude.{◌≡◌, ℕ, ◌+◌, ◌<◌, ◌≤◌, [], false, None, IfOk, OnOk, OnErr};
 ghost use Rattle.std.specs.BTreeMap.{btree_map_len};
 ghost use Rattle.std.specs.Option.{option_copied};
-ghost use Rattle.indexmap.specs.IndexMap.{index_map_len};
 ghost use Rattle.accounts.specs.Broken.{is_broken};
 ghost use Rattle.accounts.specs.Least.{IsLeastBroken};
 ghost use Rattle.accounts.specs.Sums.{sum_in};
 ghost use Rattle.accounts.specs.Tally.{no_sums};
 ghost use Rattle.ledger_index.specs.Sums.{changed, greatest, lower, raise};
-ghost use Rattle.ledger_index.specs.declared.kept.Kept.{Kept as AKept};
-ghost use Rattle.ledger_index.specs.declared.long_place.LongPlace.{LongPlace as ALongPlace};
-ghost use Rattle.ledger_index.specs.declared.place.Place.{Place as APlace};
-ghost use Rattle.ledger_index.specs.Entries.{Within, by_key, count_in};
 ghost use Rattle.ledger_index.specs.Judged.{IsLeastBut, is_later, left_long, left_short, lesser_of};
 ghost use Rattle.ledger_index.specs.Singles.{entry_of, long_in, short_in};
-ghost use Rattle.ledger_index.specs.LongPlace.{is_same_long};
-ghost use Rattle.ledger_index.specs.Place.{is_same_place, place_of};
+ghost use Rattle.ledger_index.specs.Place.{place_of};
 
-use crate::judged::{breaks, is_broken, lesser, stand_in};
+use crate::judge::Judge;
+use crate::judged::{breaks, is_broken, lesser};
 use crate::kept::Kept;
 use crate::long_place::LongPlace;
 use crate::place::{Place, mixed_by, part_by};
-use crate::seeded::Seeded;
 use crate::table::Table;
 use crate::whole::{Whole, copy_of};
 use accounts::{Account, Totals, broken};
-use indexmap::IndexMap;
 use recon_disk::Steps;
 use std::alloc::Global;
 use verdict::NoMemory;
@@ -172,93 +165,15 @@ impl Singles {
 
     /// The least account that its totals break, `None` exactly where no account is broken. It goes through all entries,
     /// each of which is a look. The account takes its memory from the ledger's allocator.
-    #[tactic(auto, using(crate::proofs::JudgedLaws::least_ok), unfolding(crate::specs::Singles::entries_of))]
+    #[tactic(auto, unfolding(crate::specs::Singles::entries_of))]
     pub(crate) fn least_broken<L>(&self, steps: &mut Steps<L>) -> Result<Option<Account>, NoMemory>
         ensures least { IfOk result (IsLeastBroken
             (λ account. is_broken account (sums_of self.now account))) }
         ensures looks { steps.new ≤ steps.old + entries_of self.now }
     {
-        let least = self.least_short(steps)?;
-        let least = self.least_long(least, steps)?;
+        let least = self.short.least(self, None, steps)?;
+        let least = self.long.least(self, least, steps)?;
         self.least_whole(least, steps)
-    }
-
-    // The least broken one of the accounts with short places.
-    fn least_short<L>(&self, steps: &mut Steps<L>) -> Result<Option<Account>, NoMemory>
-        ensures least { IfOk result (IsLeastBut (sums_of self.now)
-            (left_short self.now [])) }
-        ensures looks { steps.new ≤ steps.old + count_in self.now.short.parts.items }
-    {
-        let mut least = None;
-        for part in self.short.parts() {
-            least = self.least_of_short(part, least, steps)?;
-        }
-        Ok(least)
-    }
-
-    // The least broken one of those with short places whose entries are in a part, and of an account that is the least of the parts before.
-    fn least_of_short<L>(
-        &self,
-        part: &IndexMap<Place, Kept, Seeded>,
-        first: Option<Account>,
-        steps: &mut Steps<L>,
-    ) -> Result<Option<Account>, NoMemory>
-        requires within { Within (by_key is_same_place part.now) (short_in self.now) }
-        ensures least { (rest : List (APlace × AKept)) →
-            IsLeastBut (sums_of self.now) (left_short self.now (part.now.entries ++ rest)) first →
-            IfOk result (IsLeastBut (sums_of self.now) (left_short self.now rest)) }
-        ensures looks { steps.new ≤ steps.old + index_map_len part.now }
-    {
-        let mut stand_in = stand_in(self.alloc);
-        let mut least = first;
-        for (place, kept) in part {
-            steps.look();
-            if breaks(place.kind(), kept, &mut stand_in) {
-                least = self.lesser(place.account(self.alloc)?, least);
-            }
-        }
-        Ok(least)
-    }
-
-    // The least broken one of the accounts with long places, and of an account that is the least with a short one.
-    fn least_long<L>(
-        &self,
-        first: Option<Account>,
-        steps: &mut Steps<L>,
-    ) -> Result<Option<Account>, NoMemory>
-        ensures least { IsLeastBut (sums_of self.now) (left_short self.now []) first →
-            IfOk result (IsLeastBut (sums_of self.now) (left_long self.now [])) }
-        ensures looks { steps.new ≤ steps.old + count_in self.now.long.parts.items }
-    {
-        let mut least = first;
-        for part in self.long.parts() {
-            least = self.least_of_long(part, least, steps)?;
-        }
-        Ok(least)
-    }
-
-    // The least broken one of those with long places whose entries are in a part, and of an account that is the least of those before.
-    fn least_of_long<L>(
-        &self,
-        part: &IndexMap<LongPlace, Kept, Seeded>,
-        first: Option<Account>,
-        steps: &mut Steps<L>,
-    ) -> Result<Option<Account>, NoMemory>
-        requires within { Within (by_key is_same_long part.now) (long_in self.now) }
-        ensures least { (rest : List (ALongPlace × AKept)) →
-            IsLeastBut (sums_of self.now) (left_long self.now (part.now.entries ++ rest)) first →
-            IfOk result (IsLeastBut (sums_of self.now) (left_long self.now rest)) }
-        ensures looks { steps.new ≤ steps.old + index_map_len part.now }
-    {
-        let mut stand_in = stand_in(self.alloc);
-        let mut least = first;
-        for (place, kept) in part {
-            steps.look();
-            if breaks(place.kind(), kept, &mut stand_in) {
-                least = self.lesser(place.account(self.alloc)?, least);
-            }
-        }
-        Ok(least)
     }
 
     // The least broken one of those without places, and of an account that is the least with one.
@@ -271,11 +186,10 @@ impl Singles {
             IfOk result (IsLeastBut (sums_of self.now) (is_later [] [] [])) }
         ensures looks { steps.new ≤ steps.old + btree_map_len self.now.whole.entries }
     {
-        let mut stand_in = stand_in(self.alloc);
         let mut least = first;
         for (account, kept) in self.whole.entries() {
             steps.look();
-            if breaks(account.kind, kept, &mut stand_in) {
+            if breaks(self.alloc, account.kind, kept) {
                 least = self.lesser(copy_of(self.alloc, account)?, least);
             }
         }
@@ -289,5 +203,45 @@ impl Singles {
     {
         let is_broken = broken(&account, &self.totals_of(&account));
         lesser(is_broken, account, other)
+    }
+}
+
+impl Judge<Place> for Singles {
+    ghost use Rattle.ledger_index.specs.Singles.{sums_of};
+
+    ghost entry = { short_in };
+
+    ghost IsLeast = { λ ledger rest. IsLeastBut (sums_of ledger) (left_short ledger rest) };
+
+    fn least_of_entry(
+        &self,
+        place: &Place,
+        kept: &Kept,
+        first: Option<Account>,
+    ) -> Result<Option<Account>, NoMemory> {
+        if !breaks(self.alloc, place.kind(), kept) {
+            return Ok(first);
+        }
+        Ok(self.lesser(place.account(self.alloc)?, first))
+    }
+}
+
+impl Judge<LongPlace> for Singles {
+    ghost use Rattle.ledger_index.specs.Singles.{sums_of};
+
+    ghost entry = { long_in };
+
+    ghost IsLeast = { λ ledger rest. IsLeastBut (sums_of ledger) (left_long ledger rest) };
+
+    fn least_of_entry(
+        &self,
+        place: &LongPlace,
+        kept: &Kept,
+        first: Option<Account>,
+    ) -> Result<Option<Account>, NoMemory> {
+        if !breaks(self.alloc, place.kind(), kept) {
+            return Ok(first);
+        }
+        Ok(self.lesser(place.account(self.alloc)?, first))
     }
 }

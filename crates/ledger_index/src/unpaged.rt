@@ -1,7 +1,6 @@
 //! The accounts that have no page.
 
-ghost use Rattle.std.specs.Prelude.{◌≡◌, ℕ, ◌+◌, ◌<◌, ◌≤◌, ◌⊎◌, ◌∷◌, ◌++◌, List, Bool, true, false, Some, None, IfOk, IfSome, OnOk, OnErr};
-ghost use Rattle.indexmap.specs.IndexMap.{index_map_len};
+ghost use Rattle.std.specs.Prelude.{◌≡◌, ℕ, ◌+◌, ◌<◌, ◌≤◌, ◌⊎◌, ◌∷◌, List, Bool, true, false, Some, None, IfOk, IfSome, OnOk, OnErr};
 ghost use Rattle.accounts.specs.declared.account.Account.{Account as AnAccount};
 ghost use Rattle.accounts.specs.Broken.{is_broken};
 ghost use Rattle.accounts.specs.Least.{IsLeastBroken};
@@ -11,25 +10,22 @@ ghost use Rattle.accounts.specs.Tally.{no_sums};
 ghost use Rattle.ledger_index.specs.declared.kept.Kept.{Kept as AKept};
 ghost use Rattle.ledger_index.specs.declared.long_place.LongPlace.{LongPlace as ALongPlace};
 ghost use Rattle.ledger_index.specs.Beside.{AreNamed, AreOnce};
-ghost use Rattle.ledger_index.specs.Entries.{Within, by_key, count_in};
 ghost use Rattle.ledger_index.specs.Judged.{IsLeastBut, lesser_of};
 ghost use Rattle.ledger_index.specs.Link.{name_said};
-ghost use Rattle.ledger_index.specs.LongPlace.{is_same_long};
 ghost use Rattle.ledger_index.specs.Name.{name_of};
 ghost use Rattle.ledger_index.specs.Names.{CountedIn};
 ghost use Rattle.ledger_index.specs.Singles as single;
 ghost use Rattle.ledger_index.specs.Sums.{changed, greatest, lower, raise};
 
+use crate::judge::Judge;
 use crate::judged::lesser;
 use crate::kept::Kept;
 use crate::link::Link;
 use crate::long_place::LongPlace;
 use crate::name::{Name, Side};
-use crate::seeded::Seeded;
 use crate::singles::Singles;
 use crate::table::Table;
 use accounts::{Account, NameAccount, Totals, broken};
-use indexmap::IndexMap;
 use recon_disk::Steps;
 use std::alloc::Global;
 use verdict::NoMemory;
@@ -258,48 +254,7 @@ impl Unpaged {
         ensures looks { steps.new ≤ steps.old + entries_of self.now }
     {
         let least = self.singles.least_broken(steps)?;
-        self.least_named(least, steps)
-    }
-
-    // The least broken one of those with sums in the entry of a name, and of an account that is the least of the others.
-    fn least_named<L>(
-        &self,
-        first: Option<Account>,
-        steps: &mut Steps<L>,
-    ) -> Result<Option<Account>, NoMemory>
-        ensures least { IsLeastBroken
-            (λ account. is_broken account (single.sums_of self.now.singles account)) first →
-            IfOk result (IsLeastBroken (λ account. is_broken account (sums_of self.now account))) }
-        ensures looks { steps.new ≤ steps.old + count_in self.now.names.parts.items }
-    {
-        let mut least = first;
-        for part in self.names.parts() {
-            least = self.least_of_part(part, least, steps)?;
-        }
-        Ok(least)
-    }
-
-    // The least broken one of those with sums in the entry of a name in a part, and of an account that is the least of those before.
-    fn least_of_part<L>(
-        &self,
-        part: &IndexMap<LongPlace, Kept, Seeded>,
-        first: Option<Account>,
-        steps: &mut Steps<L>,
-    ) -> Result<Option<Account>, NoMemory>
-        requires within { Within (by_key is_same_long part.now) (kept_in self.now) }
-        ensures least { (rest : List (ALongPlace × AKept)) →
-            IsLeastBut (sums_of self.now) (left_in self.now (part.now.entries ++ rest)) first →
-            IfOk result (IsLeastBut (sums_of self.now) (left_in self.now rest)) }
-        ensures looks { steps.new ≤ steps.old + index_map_len part.now }
-    {
-        let mut least = first;
-        for (place, kept) in part {
-            steps.look();
-            if !kept.is_even() {
-                least = self.least_of_name(place, kept, least)?;
-            }
-        }
-        Ok(least)
+        self.names.least(self, least, steps)
     }
 
     // The least broken one of those with sums in the entry of a name, and of an account that is the least of those before.
@@ -350,5 +305,26 @@ impl Unpaged {
     {
         let is_broken = broken(&account, &self.totals_of(&account));
         lesser(is_broken, account, other)
+    }
+}
+
+impl Judge<LongPlace> for Unpaged {
+    ghost use Rattle.ledger_index.specs.Named.{kept_in, left_in};
+    ghost use Rattle.ledger_index.specs.Unpaged.{sums_of};
+
+    ghost entry = { kept_in };
+
+    ghost IsLeast = { λ unpaged rest. IsLeastBut (sums_of unpaged) (left_in unpaged rest) };
+
+    fn least_of_entry(
+        &self,
+        place: &LongPlace,
+        kept: &Kept,
+        first: Option<Account>,
+    ) -> Result<Option<Account>, NoMemory> {
+        if kept.is_even() {
+            return Ok(first);
+        }
+        self.least_of_name(place, kept, first)
     }
 }
