@@ -1,5 +1,5 @@
 #!/usr/bin/env bash
-# Times the cache of waiting writes beside std's ordered map in plain Rust with the same rules: COUNT scattered
+# Times the cache of pending writes beside std's ordered map in plain Rust with the same rules: COUNT scattered
 # writes of 4096 bytes, RISE writes of 4096 bytes at rising offsets, and ROUNDS buffers of 16384 bytes with the
 # scattered writes laid over. Prints the user seconds of each, the least of five runs, and the ratios.
 # Then it times SMALL writes of 512 bytes at rising offsets, at falling ones, and in an order that joins two long

@@ -2,7 +2,7 @@
 # Measures the replay of a long trace onto a file: MIB mebibytes in writes of 128 KiB with a commit after each
 # 32 MiB, beside `cp` of the same bytes and `sync`. Prints seconds, peak memory and the ratio.
 # Usage: bench/replay.sh [MIB]. It wants python3 and three times MIB of room.
-#        bench/replay.sh --scattered [FOLDER] measures what waiting writes cost the judge: 0, 1,000, 16,000 and 100,000
+#        bench/replay.sh --scattered [FOLDER] measures what pending writes cost the judge: 0, 1,000, 16,000 and 100,000
 # scattered writes of 4096 bytes and one commit over a volume with much metadata (bench/volume.sh). Prints the user
 # seconds of each, the least of three runs.
 set -eu

@@ -94,7 +94,7 @@ cmp -s "$folder/image" "$folder/after" || fail 'a commit in one request left ano
 # With FUA a write is judged at once, and a client that leaves settles.
 serve 0 'nbd_bridge: end passed 2 rejected 0' \
     "$(client 'h.pwrite(b"a" * 512, 31 << 20, nbd.CMD_FLAG_FUA); h.pwrite(b"a" * 512, 30 << 20)')" "$image" "$ours"
-# Reads, of all the disk and of what waits.
+# Reads, of all the disk and of the pending writes.
 read="open(\"$folder/read\", \"wb\").write(h.pread(32 << 20, 0))"
 serve 0 'nbd_bridge: end passed 1 rejected 0' "$(client "h.pwrite(b\"a\" * 512, 31 << 20); $read")" "$image" "$ours"
 cmp -s "$folder/image" "$folder/start" && fail 'what was pending did not reach the image'

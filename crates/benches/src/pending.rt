@@ -1,4 +1,4 @@
-//! Measures the cache of waiting writes: takes COUNT writes of SIZE bytes in an order, then lays what waits over ROUNDS
+//! Measures the cache of pending writes: takes COUNT writes of SIZE bytes in an order, then lays them over ROUNDS
 //! scattered buffers of 16384 bytes. The words are `ORDER COUNT ROUNDS SIZE`, and SIZE is 4096 where it is left out.
 //! Prints the number of pieces, the sum of their lengths, and a sum of bytes laid over.
 
@@ -136,7 +136,7 @@ fn sizes(cache: &mut WriteCache) -> (u64, u64) {
     (count, length)
 }
 
-/// The sum of the first bytes of both halves of each buffer, after what waits is laid over it.
+/// The sum of the first bytes of both halves of each buffer, after the pending writes are laid over it.
 fn laid_over(cache: &WriteCache, rounds: u64) -> u64 {
     let mut sum = 0u64;
     for round in 0..rounds {

@@ -1,4 +1,4 @@
--- How often a walk reads: once for each copy of each block that no waiting writes cover.
+-- How often a walk reads: once for each copy of each block that no pending writes cover.
 use Rattle.std.proofs.Common.{◌≡◌, ℕ, ◌==◌, ◌+◌, ◌-◌, ◌^◌, ◌≤◌, Bool, true, false, cond, List, [], ◌∷◌, ap, refl, sym, ◌∙◌, IfSome, Option, Some, None, Ok, Err, Result, arith}
 use Rattle.std.proofs.Math.Nat.{min-le_left}
 use Rattle.std.specs.List.{fold}

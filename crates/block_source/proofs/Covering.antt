@@ -1,4 +1,4 @@
--- A copy that waiting writes cover has their bytes, whatever the disk has there.
+-- A copy that pending writes cover has their bytes, whatever the disk has there.
 use Rattle.std.proofs.Common.{◌≡◌, ℕ, zero, suc, ◌+◌, ◌≤◌, ◌<◌, Bool, true, false, List, [], ◌∷◌, inl, inr, length, refl, ap, sym, subst, ◌∙◌, arith}
 use Rattle.std.specs.Prelude.{Option, Some, None, IsTrue, IsSome, ◌↔◌, ◌&&◌, is_some}
 use Rattle.std.specs.Option.{unwrap_or}

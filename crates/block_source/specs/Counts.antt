@@ -41,7 +41,7 @@ after_copies waiting n (Two first second) reads = after_copy waiting n second (a
 abbrev pub after_block : BlockSource → ℕ → ℕ → ℕ
 after_block source address reads = after_copies source.cache.now source.sup.now.nodesize (copies_of source address) reads
 
--- a counter of reads, with a record more: each copy of a block is read that no waiting writes cover
+-- a counter of reads, with a record more: each copy of a block is read that no pending writes cover
 abbrev pub with_read : BlockSource → ℕ → Seen → ℕ
 with_read source reads (BlockSeen block) = after_block source block.address reads
 with_read source reads (PointerSeen pointer) = reads

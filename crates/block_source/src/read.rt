@@ -1,4 +1,4 @@
-//! The bytes of a tree block: its one or two copies on the disk, with the waiting writes over them.
+//! The bytes of a tree block: its one or two copies on the disk, with the pending writes over them.
 
 ghost use Rattle.std.specs.Prelude.{◌≡◌, ◌+◌, ◌^◌, ◌<◌, ◌≤◌, length, true, OnOk, IfOk, IfSome};
 ghost use Rattle.verdict.specs.Image.{range};
@@ -36,7 +36,7 @@ pub struct BlockSource<'a> {
     pub end: u64,
 }
 
-/// Reads 1 to 65,536 bytes of the disk from the byte `at` on, with the waiting writes over them.
+/// Reads 1 to 65,536 bytes of the disk from the byte `at` on, with the pending writes over them.
 #[tactic(auto, using(crate::proofs::Copies::overlays))]
 pub fn read_under<D: Disk>(
     disk: &mut D,
@@ -57,15 +57,15 @@ pub fn read_under<D: Disk>(
     Ok(())
 }
 
-// Whether the waiting writes cover these bytes of the disk.
+// Whether the pending writes cover these bytes of the disk.
 fn is_covered(cache: &WriteCache, at: u64, len: u64) -> bool
     ensures { result ≡ cover cache.now at len }
 {
     cache.covers(at, len)
 }
 
-// The bytes of a copy of a block, of a tree block's size: lent where one run of the waiting writes has them all, else in the
-// buffer. Where the waiting writes cover the copy, all its bytes are theirs, and the disk is not read.
+// The bytes of a copy of a block, of a tree block's size: lent where one run of the pending writes has them all, else in the
+// buffer. Where the pending writes cover the copy, all its bytes are theirs, and the disk is not read.
 #[tactic(auto, using(crate::proofs::Covering::covered_range, crate::proofs::Covering::lent_range))]
 fn read_copy<'a, 's: 'a, D: Disk>(
     disk: &mut D,
@@ -167,10 +167,10 @@ fn read_bytes<'a, 's: 'a, D: Disk>(
     read_copies(disk, source, e, place, first, second)
 }
 
-/// Reads the block that is expected, and lends it: from the waiting writes where one run of them has the whole copy, else
+/// Reads the block that is expected, and lends it: from the pending writes where one run of them has the whole copy, else
 /// from the first buffer, of a tree block's size, into which it is read. The second buffer is for its second copy. A
 /// finding is that of the copies (N1, N2), else that of the rules of a block. An Ok has read the disk once for each copy
-/// that the waiting writes do not cover.
+/// that the pending writes do not cover.
 #[tactic(auto, unfolding(node_reader::specs::Stored::block_in))]
 pub fn read_block<'a, 's: 'a, D: Disk>(
     disk: &mut D,

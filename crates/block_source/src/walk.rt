@@ -24,7 +24,7 @@ use verdict::{Finding, Key};
 /// Walks the tree from the block on that is expected, and gives its records to a taker: a block's own, which are itself
 /// and its pointers or items, before those of what is below it, and children in their order. It stops at the first
 /// finding: of a block's copies, of the block, or of an item; what was taken before is with the taker then. Each copy of
-/// each block is read once, but for those that the waiting writes cover whole: of these the disk is not read.
+/// each block is read once, but for those that the pending writes cover whole: of these the disk is not read.
 pub fn walk_tree<D: Disk, T: Taker>(
     alloc: Global,
     disk: &mut D,

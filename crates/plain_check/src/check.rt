@@ -15,7 +15,7 @@ use recon_disk::Disk;
 use std::alloc::Global;
 use write_cache::WriteCache;
 
-// Checks all that the image holds which the disk's bytes make with the waiting writes over them: its superblock, the
+// Checks all that the image holds which the disk's bytes make with the pending writes over them: its superblock, the
 // chunks of the system array, the chunk tree through these, the rules on the chunk map, the root tree through the whole
 // map, the rules on the list of root items, then each tree that a root item names, in the order of their ids as
 // unsigned numbers, and last the accounts of all that these say. The disk has `end` bytes. Gives the generation of the

@@ -25,7 +25,7 @@ pub struct Superblock {
     pub sup: Super,
 }
 
-// Reads the superblock of a disk of `end` bytes with the waiting writes over them, or gives its first finding. It is one
+// Reads the superblock of a disk of `end` bytes with the pending writes over them, or gives its first finding. It is one
 // read of the disk.
 pub fn read_superblock<D: Disk>(
     disk: &mut D,

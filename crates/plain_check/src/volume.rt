@@ -60,7 +60,7 @@ pub struct Volume {
 }
 
 impl Volume {
-    /// Opens the image which the disk's bytes make with the waiting writes over them: its superblock, the chunks of the
+    /// Opens the image which the disk's bytes make with the pending writes over them: its superblock, the chunks of the
     /// system array, the chunk tree through these, the rules on the chunk map, the root tree through the whole map, and
     /// the rules on the list of root items. The disk has `end` bytes.
     ///

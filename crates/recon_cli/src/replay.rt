@@ -95,7 +95,7 @@ fn print_fault<K: Sink>(
 }
 
 // Takes the records of a trace one by one, up to its end, its fault, or the first event that passes the end
-// of the device. What still waits then is dropped with the checker.
+// of the device. What is still pending then is dropped with the checker.
 fn take_records<D: Disk, S: Source, K: Sink, L>(
     replay: &mut Replay<L>,
     lent: &mut Outside<'_, '_, '_, '_, D, S, K, L>,

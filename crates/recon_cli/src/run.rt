@@ -32,7 +32,7 @@ use std::alloc::Global;
 ///
 /// A replay that ends with 0 reads the superblock of the disk's image once and each block of its trees at most
 /// twice, and then for each judged event at most twice each block that the images before and after it do not
-/// share, for each fetch once, and for a write that waits not at all. It looks into the index at most 64 times for each
+/// share, for each fetch once, and for a write that is held not at all. It looks into the index at most 64 times for each
 /// block, entry, posting, span and chunk of the disk's image, and at each judged event at most 64 times for each unit of
 /// its work, which counts the same of what changes.
 ///

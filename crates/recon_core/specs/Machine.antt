@@ -30,7 +30,7 @@ pub record Step : Type 0 where
   pub answer : Answer
   pub after : MachineState
 
--- the image that a judged event would make: all waiting writes applied in order
+-- the image that a judged event would make: all pending writes applied in order
 abbrev pub judged_image : MachineState → List ℕ
 judged_image s = applied s.image s.pending
 
@@ -56,7 +56,7 @@ judged_step s verdict = record {
   after = record { image = image_by verdict (judged_image s) s.image; pending = []; closed = s.closed };
 }
 
--- all waiting writes are judged
+-- all pending writes are judged
 abbrev pub settle_step : MachineState → Step
 settle_step s = judged_step s (full_check (judged_image s))
 

@@ -37,7 +37,7 @@ pub record IsMachineState (state : MachineState) : Type 0 where
   pub inside : AllInside (length state.image) state.pending
   pub apart : AllMissPlace state.pending
 
--- The checker stands for the state: its cache has exactly the offsets that the waiting writes touch,
+-- The checker stands for the state: its cache has exactly the offsets that the pending writes touch,
 -- each with the newest byte, its index stands for the image, and its flag and its length are those of the state.
 pub record StandsFor {L : Type 0} (checker : Checker L) (state : MachineState) : Type 0 where
   pub lawful : IsMachineState state

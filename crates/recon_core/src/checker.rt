@@ -14,13 +14,13 @@ use std::alloc::Global;
 use verdict::{Answer, Event, Finding, HeldWrite, Stop, meets_superblock};
 use write_cache::WriteCache;
 
-/// A checker over a disk: what waits, what is known of the disk's image, whether it is closed, and the disk's length in
-/// bytes. A closed checker is not used again.
+/// A checker over a disk: the pending writes, what is known of the disk's image, whether it is closed, and the disk's length
+/// in bytes. A closed checker is not used again.
 ///
 /// The mark `L` ties the index to its counter of looks.
 #[derive(Drop)]
 pub struct Checker<L> {
-    /// The writes that wait.
+    /// The pending writes.
     pub cache: WriteCache,
     /// What is known of the disk's image.
     pub index: Index<L>,
@@ -33,7 +33,7 @@ pub struct Checker<L> {
 /// What the start of a checker gives.
 #[derive(Drop)]
 pub enum Started<L> {
-    /// The disk's image is accepted, and nothing waits.
+    /// The disk's image is accepted, and no write is pending.
     Ready(Checker<L>),
     /// The full check's finding of the disk's image.
     Refused(Finding),
@@ -123,16 +123,16 @@ impl<L> Checker<L> {
     /// The refusals, in this order: `Closed` exactly where the checker is closed; `PastEnd` exactly
     /// where the event's range passes the end of the disk; `NoMemory`, after which all stays, but a
     /// judged event closes the checker; `DiskFault` only where a call of the disk failed, never at a
-    /// write that waits, and it closes the checker. After it the disk holds a stop image of the event: the
+    /// write that is held, and it closes the checker. After it the disk holds a stop image of the event: the
     /// old image, and where the full check accepts the judged image, that one, or the old one to which the
-    /// waiting writes went out in part outside the superblock place.
+    /// pending writes went out in part outside the superblock place.
     ///
-    /// A passed event sends its bytes to the disk in this order, and nothing else: the maximal runs of what
-    /// waits outside the superblock place in rising order, each cut from its front into calls of 1,048,576
+    /// A passed event sends its bytes to the disk in this order, and nothing else: the maximal runs of the
+    /// pending writes outside the superblock place in rising order, each cut from its front into calls of 1,048,576
     /// bytes and a shorter last one; a flush; and on a commit the whole place in one call and a flush.
     /// Where a call fails, those before it were sent. Any other answer, and `NoMemory`, sends nothing.
     ///
-    /// A write that waits reads nothing, and a fetch once. A judged event that passes reads at most twice each block
+    /// A write that is held reads nothing, and a fetch once. A judged event that passes reads at most twice each block
     /// that the image before it and the judged one do not share. It looks into the index at most 64 times for each unit of
     /// its work: of these blocks, their entries, what these post, the spans that share a sector with what changes, the runs
     /// of the pending writes, and the chunks.
@@ -238,7 +238,7 @@ impl<L> Checker<L> {
         }
     }
 
-    // A write waits.
+    // A write is held.
     fn hold(&mut self, write: HeldWrite) -> Result<Answer, Stop>
         requires fits { write.at + length write.bytes < 2 ^ 64 }
         ensures answer { IfOk result (λ answer. answer ≡ Answer.Held) }
@@ -253,7 +253,7 @@ impl<L> Checker<L> {
         }
     }
 
-    // All that waits is judged.
+    // The pending writes are judged.
     fn settle<D: Disk>(
         &mut self,
         alloc: Global,
@@ -304,7 +304,7 @@ impl<L> Checker<L> {
         }
     }
 
-    // A write that meets the superblock place is judged with all that waits, its own bytes last.
+    // A write that meets the superblock place is judged with the pending ones, its own bytes last.
     #[tactic(auto, unfolding(crate::specs::Order::HasSentBy, crate::specs::Order::HasSentPart))]
     fn commit<D: Disk>(
         &mut self,
@@ -353,7 +353,7 @@ impl<L> Checker<L> {
         self.settle(alloc, disk, steps)
     }
 
-    // The bytes of a range with all that waits over them.
+    // The bytes of a range with the pending writes over them.
     fn fetch<D: Disk>(
         &mut self,
         alloc: Global,

@@ -1,4 +1,4 @@
-//! What reads through what waits.
+//! A read with the pending writes over it.
 
 ghost use Rattle.std.specs.Prelude.{◌≡◌, length, ◌+◌, ◌^◌, ◌<◌, ◌≤◌, IfOk, IfSome, OnOk};
 ghost use Rattle.verdict.specs.Image.{range};
@@ -12,7 +12,7 @@ use std::alloc::Global;
 use verdict::Bytes;
 use write_cache::WriteCache;
 
-/// The bytes of a range of the disk, with what waits over them. Its memory is taken before the disk is read.
+/// The bytes of a range of the disk, with the pending writes over them. Its memory is taken before the disk is read.
 pub fn fetch<D: Disk>(
     alloc: Global,
     disk: &mut D,

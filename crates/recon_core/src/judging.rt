@@ -1,4 +1,4 @@
-//! What is done with all that waits.
+//! What is done with the pending writes.
 
 ghost use Rattle.std.specs.Prelude.{◌≡◌, IfOk, OnOk, OnErr, IsErrOf};
 ghost use Rattle.std.specs.FinMap as map;
@@ -19,10 +19,10 @@ use std::alloc::Global;
 use verdict::Answer;
 use write_cache::WriteCache;
 
-/// Judges the image that all that waits would make, over a disk of `length` bytes, by what an index says of the disk's image. Where the
-/// full check accepts, it goes out to the disk; then nothing waits any more, and the index stands for that image. After a fault all waits
-/// as before, and the index is spent. All memory is taken before the first write. Where some of what waits may touch, as before `join`,
-/// the answer is that of missing memory.
+/// Judges the image that the pending writes would make, over a disk of `length` bytes, by what an index says of the disk's image. Where the
+/// full check accepts, they go out to the disk; then none is pending any more, and the index stands for that image. After a fault all are
+/// pending as before, and the index is spent. All memory is taken before the first write. Where some pending writes may touch, as before
+/// `join`, the answer is out of memory.
 #[tactic(auto, unfolding(crate::specs::Order::HasSentBy, crate::specs::Order::HasSentPart))]
 pub fn judge_waiting<D: Disk, L>(
     alloc: Global,

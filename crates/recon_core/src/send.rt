@@ -1,4 +1,4 @@
-//! How what waits goes out to the disk once it is let through.
+//! How the pending writes go out to the disk once they are let through.
 
 ghost use Rattle.std.specs.Prelude.{ℕ, ◌≡◌, ◌+◌, ◌^◌, ◌<◌, ◌≤◌, [], ◌∷◌, List, length, IfSome, OnOk, OnErr};
 ghost use Rattle.recon_disk.specs.Calls.{Flushed, HasSentFront, and_sent};
@@ -42,7 +42,7 @@ fn send_piece<D: Disk>(disk: &mut D, at: u64, bytes: &[u8]) -> Result<(), Failed
     write_all_at(disk, at + behind, &bytes[behind as usize..])
 }
 
-// Writes the bytes of all that waits outside the superblock place, in rising order.
+// Writes the bytes of the pending writes outside the superblock place, in rising order.
 fn send_pieces<D: Disk>(disk: &mut D, cache: &WriteCache, pieces: Pieces<'_>) -> Result<(), Failed>
     requires pieces { ArePiecesOf cache.now (pieces_left pieces) }
     requires place { 69632 ≤ D.len disk.old }
@@ -77,10 +77,10 @@ fn settle_disk<D: Disk>(disk: &mut D) -> Result<(), Failed>
     disk.flush()
 }
 
-/// Sends out what waits: first all bytes outside the superblock place in rising order, which are then
-/// flushed, and where what waits meets the superblock place, then the whole place in one call, flushed too.
-/// `pieces` are those of what waits, and `superblock` has the bytes of the place. It takes no memory and reads nothing. Where a call fails, what waits
-/// is on the disk whole, or in part outside the place.
+/// Sends out the pending writes: first all bytes outside the superblock place in rising order, which are then
+/// flushed, and where the pending writes meet the superblock place, then the whole place in one call, flushed too.
+/// `pieces` are those of the pending writes, and `superblock` has the bytes of the place. It takes no memory and reads nothing. Where a call
+/// fails, the pending writes are on the disk whole, or in part outside the place.
 #[tactic(auto, unfolding(crate::specs::Order::HasSentPart))]
 pub fn let_through<D: Disk>(
     disk: &mut D,
