@@ -1,9 +1,10 @@
 #!/usr/bin/env bash
 # Measures what a commit costs beside the size of the volume, and what the index costs, by processor time, user and system (the least of
-# three runs each; where the system counts by ticks, their sum is right and their parts are not).
+# nine runs of each in turns; where the system counts by ticks, their sum is right and their parts are not).
 # - A settle that rewrites one leaf of the file tree with its own bytes, on a volume of 2,000 small files and on one of 200,000: microseconds
 #   each, and the ratio.
-# - The start of a replay beside `recon check`: seconds, peak memory, and the ratio; the bytes of the index beside those of the metadata.
+# - The start of a replay beside `recon check`: seconds, peak memory, their ratio, and the median of the ratios of a start and the check before
+#   it; the bytes of the index beside those of the metadata.
 # - Ten made workloads of 200 commits each, replayed, beside a program in C that reads their traces, writes their bytes and flushes as often:
 #   the time that passes, which has the waits for flushes in it, and the processor time; the sums of the least of five runs of each in turns.
 # Usage: bench/commits.sh [FOLDER]    FOLDER has, or gets, the two volumes few.img and many.img; PROGRAM names a built program that is
@@ -56,6 +57,7 @@ C
 gcc -O2 -o "$scratch/plain" "$scratch/plain.c"
 python3 - "$program" "$folder" "$scratch" <<'PYTHON'
 import os
+import statistics
 import struct
 import subprocess
 import sys
@@ -64,20 +66,21 @@ import time
 program, folder, scratch = sys.argv[1:]
 HEADER = b'RECONTRC' + struct.pack('<II', 1, 0)
 BLOCK = 16384
+ROUNDS = 9
 
 
-def run(words, trace=None):
-    """The least processor seconds of three runs, the peak memory in bytes, and the lines."""
-    least = peak = lines = None
-    for _ in range(3):
-        with open(trace or os.devnull, 'rb') as given:
-            child = subprocess.Popen([program, *words], stdin=given, stdout=subprocess.PIPE)
-            lines = child.stdout.read().decode().splitlines()
-            used = os.wait4(child.pid, 0)[2]
-        spent = used.ru_utime + used.ru_stime
-        least = spent if least is None else min(least, spent)
-        peak = max(peak or 0, used.ru_maxrss * 1024)
-    return least, peak, lines
+def turns(commands):
+    """Runs some commands, each with its standard input, in turns. Of each: processor seconds of each run, peak memory in bytes, the lines."""
+    runs = [([], [], []) for _ in commands]
+    for _ in range(ROUNDS):
+        for (words, trace), (spent, peaks, lines) in zip(commands, runs):
+            with open(trace, 'rb') as given:
+                child = subprocess.Popen([program, *words], stdin=given, stdout=subprocess.PIPE)
+                lines[:] = child.stdout.read().decode().splitlines()
+                used = os.wait4(child.pid, 0)[2]
+            spent.append(used.ru_utime + used.ru_stime)
+            peaks.append(used.ru_maxrss * 1024)
+    return [(spent, max(peaks), lines) for spent, peaks, lines in runs]
 
 
 def write(at, data):
@@ -105,30 +108,32 @@ def leaves(path):
             at += BLOCK
 
 
-def settles(path, leaf, count):
-    trace = f'{scratch}/trace'
+def settles(leaf, count):
+    """A trace of so many settles, each of which rewrites the leaf with its own bytes."""
+    trace = f'{scratch}/settles-{count}'
     with open(trace, 'wb') as out:
         out.write(HEADER)
         for _ in range(count):
             out.write(write(*leaf) + b'\x02')
         out.write(b'\xff')
-    return run(['replay', path], trace)
+    return trace
 
 
 each = {}
 for name in ('few', 'many'):
     path = f'{folder}/{name}.img'
     found, blocks = leaves(path)
-    check, check_peak, _ = run(['check', path])
     with open(path, 'rb') as image:
         image.seek(found[len(found) // 2])
         leaf = found[len(found) // 2], image.read(BLOCK)
-    start, peak, lines = settles(path, leaf, 0)
     many = 4000
-    some, _, lines = settles(path, leaf, many)
-    each[name] = (some - start) / many * 1e6
-    print(f'{name}: settle of one leaf {each[name]:.1f} us ({lines[1]}); start {start:.2f} s beside check {check:.2f} s: '
-          f'{start / max(check, 0.01):.2f} times; index {(peak - check_peak) / 2**20:.1f} MiB more than the check, metadata {blocks * BLOCK / 2**20:.1f} MiB', flush=True)
+    (check, check_peak, _), (start, peak, _), (some, _, lines) = turns(
+        [(['check', path], os.devnull), (['replay', path], settles(leaf, 0)), (['replay', path], settles(leaf, many))])
+    each[name] = (min(some) - min(start)) / many * 1e6
+    middle = statistics.median(two / max(one, 0.001) for one, two in zip(check, start))
+    print(f'{name}: settle of one leaf {each[name]:.1f} us ({lines[1]}); start {min(start):.3f} s beside check {min(check):.3f} s: '
+          f'{min(start) / max(min(check), 0.001):.2f} times, the median of the pairs {middle:.2f}; '
+          f'index {(peak - check_peak) / 2**20:.1f} MiB more than the check, metadata {blocks * BLOCK / 2**20:.1f} MiB', flush=True)
 print(f"a settle of one leaf: {each['many'] / each['few']:.2f} times on the larger volume")
 image, trace = f'{scratch}/made.img', f'{scratch}/made.trace'
 total, size = {}, 0
