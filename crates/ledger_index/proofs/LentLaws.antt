@@ -15,6 +15,9 @@ use Rattle.ledger_index.specs.declared.name.Side.TheVariants.{Entry}
 use Rattle.ledger_index.specs.Name.{behind, link_of, name_at, name_of}
 use Rattle.ledger_index.specs.Seat.{seat_of}
 
+ap2 : {A B C : Type 0} (f : A → B → C) {a b : A} {c d : B} → a ≡ b → c ≡ d → f a c ≡ f b d
+ap2 f p q = λ i. f (p i) (q i)
+
 -- how long the name before two bytes is
 length_but_two : (name : List ℕ) (x y : ℕ) → length (name ++ x ∷ y ∷ []) - 2 ≡ length name
 length_but_two name x y = omega (arith, length-append name (x ∷ y ∷ []))
@@ -35,9 +38,6 @@ module _ (tree dir hash : ℕ) (location : Key) (name : List ℕ) (sort : ℕ) w
   unfolding name_of
   entry_is = ap2 (λ (bytes front : List ℕ). cond (pointwise nat_eq bytes behind && nat_lt hash (2 ^ 32)) (name_at (Entry hash) (link_of 0 tree location.objectid dir front)) None)
       (behind_front name sort location.kind) (front_only name sort location.kind)
-    where
-      ap2 : {A B C : Type 0} (f : A → B → C) {a b : A} {c d : B} → a ≡ b → c ≡ d → f a c ≡ f b d
-      ap2 f p q = λ i. f (p i) (q i)
 
   -- it says nothing where it is of another type, or of what is no inode
   pub entry_said : (not (sort == 1) ≡ true) ⊎ (not (location.kind == 1) ≡ true) → None ≡ name_of (name_entry tree dir hash location name sort)
@@ -54,9 +54,6 @@ module _ (tree dir hash : ℕ) (location : Key) (name : List ℕ) (sort : ℕ) w
       → name_at (Entry hash) (link_of 0 tree location.objectid dir name) ≡ name_of (name_entry tree dir hash location name sort)
   entry_regular regular inode small = sym (entry_is ∙ ap (λ b. cond b (name_at (Entry hash) (link_of 0 tree location.objectid dir name)) None)
       (ap2 (λ (x y : ℕ). pointwise nat_eq (x ∷ y ∷ []) behind && nat_lt hash (2 ^ 32)) regular inode ∙ lt-ltb hash (2 ^ 32) small))
-    where
-      ap2 : {A B C : Type 0} (f : A → B → C) {a b : A} {c d : B} → a ≡ b → c ≡ d → f a c ≡ f b d
-      ap2 f p q = λ i. f (p i) (q i)
 
 -- no account of a name has a seat in a page
 pub no_seat : (name : NameAccount) → seat_of (account_lent name) ≡ None

@@ -66,7 +66,8 @@ fn least_of_part<K: Exact, J: Judge<K>, L>(
     steps: &mut Steps<L>,
 ) -> Result<Option<Account>, NoMemory>
     requires { Within (by_key K.eq part.now) (J.entry judge.now) }
-    ensures least { (rest : List (K × AKept)) → J.IsLeast judge.now (part.now.entries ++ rest) first →
+    ensures least { (rest : List (K × AKept)) →
+        J.IsLeast judge.now (part.now.entries ++ rest) first →
         IfOk result (J.IsLeast judge.now rest) }
     ensures looks { steps.new ≤ steps.old + index_map_len part.now }
 {
