@@ -1,7 +1,7 @@
 #!/usr/bin/env python3
-"""Times the difference of two images beside the size of the volume, by user time of the program `changes`.
+"""Times the difference of two images beside the size of the volume, by user time of the program `image_diff`.
 
-Usage: bench/difference.py [PROGRAM]    by default crates/changes/out/changes
+Usage: bench/difference.py [PROGRAM]    by default crates/image_diff/out/image_diff
 
 Each volume is of nodes of 4096 bytes with one file tree of three levels. Three commits are made over each: the superblock with
 its own bytes; one leaf, copied with its path; and half of the leaves, rewritten in place. The program finds the difference many
@@ -14,26 +14,26 @@ import tempfile
 
 ROOT = os.path.join(os.path.dirname(os.path.abspath(__file__)), '..')
 sys.path[:0] = [os.path.join(ROOT, 'tests'), os.path.join(ROOT, 'examples')]
-import changes  # noqa: E402
+import image_diff  # noqa: E402
 
 WIDTH, ITEMS = 100, 4
 
 
-class Big(changes.Volume):
+class Big(image_diff.Volume):
     """A volume with so many leaves in tree 5. Blocks are taken one behind the other."""
 
     def take(self, tree):
         at = self.next[tree == 3]
-        self.next[tree == 3] += changes.NODESIZE
+        self.next[tree == 3] += image_diff.NODESIZE
         self.fresh.add(at)
         return at
 
 
 def volume_of(leaves):
-    room = (leaves * 21 // 20 + 200) * changes.NODESIZE
+    room = (leaves * 21 // 20 + 200) * image_diff.NODESIZE
     system, metadata = 0x100000, 0x1000000
-    chunks = [changes.Chunk(system, 0x10000, 2, (0x100000,)), changes.Chunk(metadata, room, 4, (0x200000,))]
-    changes.LENGTH = 0x200000 + room
+    chunks = [image_diff.Chunk(system, 0x10000, 2, (0x100000,)), image_diff.Chunk(metadata, room, 4, (0x200000,))]
+    image_diff.LENGTH = 0x200000 + room
     Big.next = [metadata, system]
     tops = [[ITEMS] * min(WIDTH, leaves - at) for at in range(0, leaves, WIDTH)]
     return Big({5: [tops[at:at + WIDTH] for at in range(0, len(tops), WIDTH)]}, chunks)
@@ -66,11 +66,11 @@ def main(words):
             volume.generation, volume.fresh = 2, set()
             leaf = volume.roots[5].leaves()[leaves // 2]
             volume.copy(leaf)
-            changes.rewrite(volume, leaf)
+            image_diff.rewrite(volume, leaf)
             rows.append(('one leaf', one(program, folder, old, volume.image(old), 2000)))
             volume = volume_of(leaves)
             for leaf in volume.roots[5].leaves()[::2]:
-                changes.rewrite(volume, leaf)
+                image_diff.rewrite(volume, leaf)
             rows.append(('half', one(program, folder, old, volume.image(old), 4)))
             for name, (micro, said) in rows:
                 print(f'{leaves} leaves, {name}: {micro:.1f} us; {said}', flush=True)

@@ -9,7 +9,7 @@ import os
 import sys
 
 # The crates that decide verdicts may have twelve edits, each other six.
-DECIDE = {'recon_core', 'plain_check', 'write_cache', 'account_sums', 'records', 'recon_cli', 'chunk_map', 'node_reader',
+DECIDE = {'recon_core', 'plain_check', 'write_cache', 'account_tally', 'records', 'recon_cli', 'chunk_map', 'node_reader',
           'span_index', 'ledger_index', 'tree_change', 'commit_judge'}
 
 

@@ -15,10 +15,10 @@ use Rattle.records.specs.Part.{Located, Part}
 use Rattle.records.specs.declared.owned.ItemAt.{ItemAt}
 use Rattle.super_reader.specs.declared.Super.{Super}
 use Rattle.tree_change.specs.Gathered.{located_item}
-use Rattle.change_laws.specs.Kept.{placed_postings}
-use Rattle.change_laws.specs.Paired.{came_items, came_of, gone_items, gone_of}
-use Rattle.change_laws.specs.Same.{live_record}
-use Rattle.change_laws.specs.Steps.{all_posts, change_records, posts_of, step_posts}
+use Rattle.commit_laws.specs.Kept.{placed_postings}
+use Rattle.commit_laws.specs.Paired.{came_items, came_of, gone_items, gone_of}
+use Rattle.commit_laws.specs.Same.{live_record}
+use Rattle.commit_laws.specs.Steps.{all_posts, change_records, posts_of, step_posts}
 use Rattle.commit_judge.specs.Posting.{posts_at}
 
 -- what a list posts, and another behind it

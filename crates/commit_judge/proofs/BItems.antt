@@ -15,10 +15,10 @@ use Rattle.super_reader.specs.declared.Super.{Super}
 use Rattle.tree_change.specs.Gathered.{located_item}
 use Rattle.change_records.specs.Spans.{IsLawfulIn, span_of}
 use Rattle.change_records.specs.declared.changes.ItemChange.{ItemChange}
-use Rattle.change_laws.specs.Paired.{came_items, came_of, gone_items, gone_of}
-use Rattle.change_laws.specs.Same.{live_record}
-use Rattle.change_laws.specs.Sectors.{AreSound}
-use Rattle.change_laws.specs.Steps.{change_records, spans_of}
+use Rattle.commit_laws.specs.Paired.{came_items, came_of, gone_items, gone_of}
+use Rattle.commit_laws.specs.Same.{live_record}
+use Rattle.commit_laws.specs.Sectors.{AreSound}
+use Rattle.commit_laws.specs.Steps.{change_records, spans_of}
 
 -- a record keeps what its row asks
 abbrev Sound : ℕ → Located → Type 0

@@ -12,8 +12,8 @@ use Rattle.accounts.specs.Context.{Context}
 use Rattle.span_index.specs.Sectors.{AreRunsFrom, IsRun, counts, has_sector, is_inside}
 use Rattle.span_index.specs.declared.span.Run.{Run}
 use Rattle.span_index.specs.declared.span.Span.{Span}
-use Rattle.change_laws.specs.Sectors.{AreInside, CountedInside}
-use Rattle.change_laws.specs.Sound.{IsWhole}
+use Rattle.commit_laws.specs.Sectors.{AreInside, CountedInside}
+use Rattle.commit_laws.specs.Sound.{IsWhole}
 use Rattle.commit_judge.specs.Moves.{AreOfChanged, any_counted}
 
 -- ---- addresses inside runs

@@ -11,13 +11,13 @@ use Rattle.std.specs.declared.cmp.Ordering.TheVariants.{Less, Equal, Greater}
 use Rattle.std.proofs.Math.Path.{fun_ext}
 use Rattle.std.proofs.lemmas.List.Sums.{sum_by-cons}
 use Rattle.verdict.specs.declared.place.Chunk.{Chunk}
-use Rattle.account_sums.specs.Sums.{Frees, none_free, or_free}
-use Rattle.account_sums.proofs.Taken.{or_all}
+use Rattle.account_tally.specs.Sums.{Frees, none_free, or_free}
+use Rattle.account_tally.proofs.Taken.{or_all}
 use Rattle.accounts.specs.Sums.{total_of}
 use Rattle.accounts.specs.Tally.{Sums, no_sums}
 use Rattle.accounts.specs.declared.postings.Posting.{Posting}
 use Rattle.accounts.proofs.Kept.{total_joined}
-use Rattle.change_laws.specs.Steps.{all_posts, posts_of, spans_of}
+use Rattle.commit_laws.specs.Steps.{all_posts, posts_of, spans_of}
 use Rattle.change_records.specs.Affected.{context_with}
 use Rattle.change_records.specs.Listed.{inode_cmp}
 use Rattle.change_records.specs.Spans.{span_of}

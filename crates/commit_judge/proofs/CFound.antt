@@ -15,11 +15,11 @@ use Rattle.accounts.specs.Sums.{total_of}
 use Rattle.accounts.specs.Tally.{Sums}
 use Rattle.accounts.specs.declared.account.Account.{Account}
 use Rattle.accounts.proofs.First.{unposted}
-use Rattle.change_laws.specs.Judged.{IsLeastBad, JudgedLaw}
-use Rattle.change_laws.specs.Sectors.{AreSound}
-use Rattle.change_laws.specs.Sound.{IsWhole}
-use Rattle.change_laws.specs.Steps.{all_posts, spans_of}
-use Rattle.change_laws.proofs.WSpans.{same_bad}
+use Rattle.commit_laws.specs.Judged.{IsLeastBad, JudgedLaw}
+use Rattle.commit_laws.specs.Sectors.{AreSound}
+use Rattle.commit_laws.specs.Sound.{IsWhole}
+use Rattle.commit_laws.specs.Steps.{all_posts, spans_of}
+use Rattle.commit_laws.proofs.WSpans.{same_bad}
 use Rattle.records.specs.Part.{Located}
 use Rattle.records.specs.Postings.{account_fault}
 use Rattle.span_index.specs.Sectors.{IsFirstBad, adds, adds_to, counts, has_sector, is_bad, is_inside, sector_sum, times_of_span}

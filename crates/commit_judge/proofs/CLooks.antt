@@ -4,13 +4,13 @@ use Rattle.std.specs.FinMap.{FinMap, empty}
 use Rattle.std.specs.List.{filter, filter_map, sum_by}
 use Rattle.std.specs.Ordering.{nat_cmp}
 use Rattle.std.proofs.lemmas.List.Sums.{count_by-le-length, length-filter, sum_by-cons}
-use Rattle.account_sums.specs.Sums.{none_free}
+use Rattle.account_tally.specs.Sums.{none_free}
 use Rattle.accounts.specs.Context.{Context}
-use Rattle.change_laws.specs.Items.{items_of}
-use Rattle.change_laws.specs.Same.{records_of}
-use Rattle.change_laws.specs.Steps.{all_posts, posts_of, spans_of}
-use Rattle.change_laws.proofs.WNamed.{spans_are}
-use Rattle.change_laws.proofs.WSpans.{same_sums}
+use Rattle.commit_laws.specs.Items.{items_of}
+use Rattle.commit_laws.specs.Same.{records_of}
+use Rattle.commit_laws.specs.Steps.{all_posts, posts_of, spans_of}
+use Rattle.commit_laws.proofs.WNamed.{spans_are}
+use Rattle.commit_laws.proofs.WSpans.{same_sums}
 use Rattle.change_records.specs.Affected.{context_with}
 use Rattle.ledger_index.specs.Ledger as ledger
 use Rattle.plain_check.specs.Opened.{Opened, opened}
@@ -35,7 +35,7 @@ use Rattle.touched_accounts.specs.Looks.{HaveLooks}
 use Rattle.tree_change.specs.LooksLaw.{entries_of}
 use Rattle.tree_change.specs.OneTree.{side_of}
 use Rattle.write_cache.specs.Cache.{overlaid}
-use Rattle.work_laws.specs.Work.{by_walk, context_in, spans_in, starting_work, starting_work_of}
+use Rattle.lookup_bounds.specs.Work.{by_walk, context_in, spans_in, starting_work, starting_work_of}
 use Rattle.commit_judge.specs.Filling.{AreFewToMake, AreTablesOf, AreTablesWith, FewToMake, FewToSearch}
 use Rattle.commit_judge.specs.declared.filling.Tables.{Tables}
 use Rattle.commit_judge.proofs.COpened.{walked_with, walks_are}

@@ -8,22 +8,22 @@ use Rattle.verdict.specs.Rules.{and_then, finding_or}
 use Rattle.verdict.specs.declared.finding.Finding.{Finding}
 use Rattle.verdict.specs.declared.finding.Verdict.TheVariants.{Accept, Found as Refusal}
 use Rattle.verdict.specs.declared.place.Chunk.{Chunk}
-use Rattle.account_sums.specs.Sums.{Frees, none_free}
+use Rattle.account_tally.specs.Sums.{Frees, none_free}
 use Rattle.accounts.specs.Sums.{total_of}
 use Rattle.accounts.specs.Tally.{Sums, no_sums}
 use Rattle.accounts.specs.declared.account.Account.{Account}
 use Rattle.accounts.specs.declared.postings.Posting.{Posting}
-use Rattle.change_laws.specs.Commit.{context_by}
-use Rattle.change_laws.specs.Same.{records_of}
-use Rattle.change_laws.specs.Sectors.{AreSound}
-use Rattle.change_laws.specs.Steps.{all_posts, posts_of, spans_of}
+use Rattle.commit_laws.specs.Commit.{context_by}
+use Rattle.commit_laws.specs.Same.{records_of}
+use Rattle.commit_laws.specs.Sectors.{AreSound}
+use Rattle.commit_laws.specs.Steps.{all_posts, posts_of, spans_of}
 use Rattle.block_source.specs.Gives.{Gives}
 use Rattle.block_source.specs.declared.halt.Halt.{Halt}
 use Rattle.block_source.specs.declared.halt.Halt.TheVariants.{Found, Disk, NoMemory}
-use Rattle.change_laws.proofs.EJudged.{judged}
-use Rattle.change_laws.proofs.IItems.{items_stand}
-use Rattle.change_laws.proofs.WNamed.{sound_of}
-use Rattle.change_laws.proofs.XAscend.{ascend}
+use Rattle.commit_laws.proofs.EJudged.{judged}
+use Rattle.commit_laws.proofs.IItems.{items_stand}
+use Rattle.commit_laws.proofs.WNamed.{sound_of}
+use Rattle.commit_laws.proofs.XAscend.{ascend}
 use Rattle.change_records.specs.Affected.{context_with}
 use Rattle.change_records.specs.declared.kept.Inode.{Inode}
 use Rattle.chunk_map.specs.Roots.{KeysAscend}

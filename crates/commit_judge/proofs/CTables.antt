@@ -5,8 +5,8 @@ use Rattle.std.specs.FinMap.{FinMap}
 use Rattle.std.specs.List.{filter_map, fold}
 use Rattle.verdict.specs.Rules.{and_then}
 use Rattle.verdict.specs.declared.finding.Finding.{Finding}
-use Rattle.account_sums.specs.Sums.{none_free}
-use Rattle.account_sums.proofs.Taken.{first_free}
+use Rattle.account_tally.specs.Sums.{none_free}
+use Rattle.account_tally.proofs.Taken.{first_free}
 use Rattle.block_source.specs.Gives.{Gives}
 use Rattle.block_source.specs.declared.halt.Halt.{Halt}
 use Rattle.block_source.specs.declared.halt.Halt.TheVariants.{Found, Disk, NoMemory}

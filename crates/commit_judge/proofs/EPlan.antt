@@ -13,7 +13,7 @@ use Rattle.block_source.specs.declared.halt.Halt.TheVariants.{Found as Halted}
 use Rattle.records.specs.Contents.{contents, superblock_in}
 use Rattle.records.proofs.Accepted.{accepted_superblock}
 use Rattle.shared_trees.specs.Shared.{are_read_alike}
-use Rattle.touched_pairs.specs.Touched.{written_in}
+use Rattle.touched_blocks.specs.Touched.{written_in}
 use Rattle.tree_change.specs.Change.{BasesStand, IsDifference, ReadsFew}
 use Rattle.tree_change.specs.FewLooks.{LooksFew, MovesFew}
 use Rattle.tree_change.specs.declared.change.Change.{Change}
@@ -29,9 +29,9 @@ use Rattle.change_records.specs.SumFree.{flags_after}
 use Rattle.change_records.specs.declared.changes.ItemChange.{ItemChange}
 use Rattle.change_records.specs.declared.changes.ItemChange.TheVariants.{Added, Removed}
 use Rattle.change_records.specs.declared.item_ref.ItemRef.{ItemRef}
-use Rattle.change_laws.specs.Commit.{AreTheAffected, Known, context_by}
-use Rattle.change_laws.specs.Paired.{SayChanges, added_from, removed_from}
-use Rattle.change_laws.proofs.SStep.{ascend_items}
+use Rattle.commit_laws.specs.Commit.{AreTheAffected, Known, context_by}
+use Rattle.commit_laws.specs.Paired.{SayChanges, added_from, removed_from}
+use Rattle.commit_laws.proofs.SStep.{ascend_items}
 use Rattle.commit_judge.specs.Flags.{free_in}
 use Rattle.commit_judge.specs.Fresh.{IsFresh}
 use Rattle.commit_judge.specs.Index.{IndexStands, known}

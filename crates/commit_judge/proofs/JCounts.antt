@@ -8,12 +8,12 @@ use Rattle.records.specs.Contents.{Contents, contents}
 use Rattle.shared_trees.specs.LivePairs.{Walked, live_in, walked}
 use Rattle.shared_trees.specs.Shared.{unshared_in}
 use Rattle.super_reader.specs.declared.Super.{Super}
-use Rattle.touched_pairs.specs.Touched.{Written, stays_in_place, touches_block, written_in}
+use Rattle.touched_blocks.specs.Touched.{Written, stays_in_place, touches_block, written_in}
 use Rattle.verdict.specs.declared.place.Chunk.{Chunk}
 use Rattle.write_cache.specs.Cache.{overlaid}
-use Rattle.change_laws.specs.Commit.{IsKnown, Known}
-use Rattle.change_laws.specs.Flags.{HotLaw, hot_of, is_hot}
-use Rattle.change_laws.specs.Same.{HeldLaw}
+use Rattle.commit_laws.specs.Commit.{IsKnown, Known}
+use Rattle.commit_laws.specs.Flags.{HotLaw, hot_of, is_hot}
+use Rattle.commit_laws.specs.Same.{HeldLaw}
 use Rattle.commit_judge.specs.Counts.{blocks_between, hot_between, may_be_harmed, over_walks}
 use Rattle.commit_judge.specs.Judging.{CountsLaw, is_hot_by}
 

@@ -14,7 +14,7 @@ use Rattle.records.specs.Contents.{contents}
 use Rattle.records.specs.FullCheck.{checked, full_check}
 use Rattle.span_index.specs.Spans.{Table}
 use Rattle.write_cache.specs.Cache.{overlaid}
-use Rattle.change_laws.specs.Commit.{Commit, Known}
+use Rattle.commit_laws.specs.Commit.{Commit, Known}
 use Rattle.commit_judge.specs.Decided.{IsDecided}
 use Rattle.commit_judge.specs.Index.{IndexStands, known}
 use Rattle.commit_judge.specs.Judged.{IsRejected}

@@ -13,10 +13,10 @@ use Rattle.span_index.specs.Spans.{Table, end_of}
 use Rattle.span_index.specs.declared.span.Run.{Run}
 use Rattle.span_index.specs.declared.span.Span.{Span}
 use Rattle.span_index.proofs.TableLaws.{same_is}
-use Rattle.change_laws.proofs.WSpans.{there}
-use Rattle.change_laws.specs.Commit.{Commit, Known, came_by, context_by, gone_by}
-use Rattle.change_laws.specs.Sound.{IsSound, IsWhole, SpansStand}
-use Rattle.change_laws.specs.Steps.{spans_of, step_posts}
+use Rattle.commit_laws.proofs.WSpans.{there}
+use Rattle.commit_laws.specs.Commit.{Commit, Known, came_by, context_by, gone_by}
+use Rattle.commit_laws.specs.Sound.{IsSound, IsWhole, SpansStand}
+use Rattle.commit_laws.specs.Steps.{spans_of, step_posts}
 use Rattle.commit_judge.specs.Looks.{AreFewLooks, FewLooksLaw, FewToJudge, have_common, meets_changed, table_after}
 use Rattle.commit_judge.specs.Moves.{AreSpansMoved, any_changed, any_counted, context_after}
 use Rattle.commit_judge.specs.Tables.{with_spans, without_spans}

@@ -16,12 +16,12 @@ use Rattle.records.specs.declared.owned.ItemAt.{ItemAt}
 use Rattle.span_index.specs.declared.span.Run.{Run}
 use Rattle.span_index.specs.declared.span.Span.{Span}
 use Rattle.super_reader.specs.declared.Super.{Super}
-use Rattle.change_laws.specs.Commit.{Commit, Known, came_by, context_by, gone_by}
-use Rattle.change_laws.specs.Sectors.{AreInside, AreSound, CountedInside}
-use Rattle.change_laws.specs.Sound.{IsSound, IsWhole, SpansStand}
-use Rattle.change_laws.specs.Steps.{change_records, spans_of, step_posts}
-use Rattle.change_laws.proofs.WNamed.{each_of}
-use Rattle.change_laws.proofs.XWhole.{span_whole}
+use Rattle.commit_laws.specs.Commit.{Commit, Known, came_by, context_by, gone_by}
+use Rattle.commit_laws.specs.Sectors.{AreInside, AreSound, CountedInside}
+use Rattle.commit_laws.specs.Sound.{IsSound, IsWhole, SpansStand}
+use Rattle.commit_laws.specs.Steps.{change_records, spans_of, step_posts}
+use Rattle.commit_laws.proofs.WNamed.{each_of}
+use Rattle.commit_laws.proofs.XWhole.{span_whole}
 use Rattle.commit_judge.specs.Moves.{AreOfChanged, AreSpansMoved, HaveNames, NameSpans, context_after}
 
 -- the spans of sound records are whole

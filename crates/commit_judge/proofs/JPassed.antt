@@ -8,7 +8,7 @@ use Rattle.live_index.specs.declared.live.Live.{Live}
 use Rattle.live_maker.specs.Tables.{with_pairs, without_pairs}
 use Rattle.span_index.specs.Spans.{Table}
 use Rattle.volume_items.specs.declared.root_at.RootAt.{RootAt}
-use Rattle.change_laws.specs.Commit.{Commit, Known}
+use Rattle.commit_laws.specs.Commit.{Commit, Known}
 use Rattle.commit_judge.specs.Judging.{next_of}
 
 -- a table without some pairs, with others, and with those that moved

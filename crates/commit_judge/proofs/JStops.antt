@@ -16,10 +16,10 @@ use Rattle.records.specs.FullCheck.{checked, full_check, verdict_of}
 use Rattle.records.specs.Seen.{Seen}
 use Rattle.shared_trees.specs.LivePairs.{Walked, live_in, walked}
 use Rattle.shared_trees.proofs.Rooted.{step_ok}
-use Rattle.touched_pairs.specs.Touched.{written_in}
+use Rattle.touched_blocks.specs.Touched.{written_in}
 use Rattle.write_cache.specs.Cache.{overlaid}
-use Rattle.change_laws.specs.Flags.{hot_of, is_hot}
-use Rattle.change_laws.specs.Stops.{StopLaw}
+use Rattle.commit_laws.specs.Flags.{hot_of, is_hot}
+use Rattle.commit_laws.specs.Stops.{StopLaw}
 use Rattle.commit_judge.specs.Counts.{hot_between, may_be_harmed, over_walks}
 use Rattle.commit_judge.specs.Stops.{SafeStops}
 

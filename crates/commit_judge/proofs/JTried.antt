@@ -21,12 +21,12 @@ use Rattle.tree_change.specs.Gathered.{located_item}
 use Rattle.tree_change.specs.Merging.{IsSortedOf, named_before, root_at, roots_left}
 use Rattle.volume_items.specs.declared.root_at.RootAt.{RootAt}
 use Rattle.write_cache.specs.Cache.{overlaid}
-use Rattle.change_laws.specs.Commit.{Commit, CommitLaw, Decides, IsCommit, IsJudged, IsKnown, IsMoved, Known, came_by, context_by, gone_by}
-use Rattle.account_sums.specs.Kept.{chosen}
-use Rattle.change_laws.specs.Same.{HeldLaw}
-use Rattle.change_laws.specs.Sectors.{CountedInside}
-use Rattle.change_laws.specs.Sound.{AscendLaw, IsSound, KnownSpansLaw, SoundLaw}
-use Rattle.change_laws.specs.Steps.{spans_of, step_posts}
+use Rattle.commit_laws.specs.Commit.{Commit, CommitLaw, Decides, IsCommit, IsJudged, IsKnown, IsMoved, Known, came_by, context_by, gone_by}
+use Rattle.account_tally.specs.Kept.{chosen}
+use Rattle.commit_laws.specs.Same.{HeldLaw}
+use Rattle.commit_laws.specs.Sectors.{CountedInside}
+use Rattle.commit_laws.specs.Sound.{AscendLaw, IsSound, KnownSpansLaw, SoundLaw}
+use Rattle.commit_laws.specs.Steps.{spans_of, step_posts}
 use Rattle.commit_judge.specs.Judging.{IsTried, TriedLaw, TriedSays, next_of}
 use Rattle.commit_judge.specs.Moves.{AreSpansMoved}
 use Rattle.commit_judge.specs.Tables.{with_spans, without_spans}

@@ -26,20 +26,20 @@ use Rattle.span_index.specs.declared.span.Span.{Span}
 use Rattle.tree_change.specs.FewLooks.{few_looks}
 use Rattle.tree_change.specs.LooksLaw.{entries_of}
 use Rattle.tree_change.specs.OneTree.{side_of}
-use Rattle.change_laws.specs.Commit.{Commit, IsCommit, IsKnown, IsMoved, Known, came_by, context_by, gone_by}
-use Rattle.change_laws.specs.Items.{items_of}
-use Rattle.change_laws.specs.Same.{HeldLaw, records_of}
-use Rattle.change_laws.specs.Sound.{IsSound, IsWhole, KnownSpansLaw, SoundLaw, SpansStand}
-use Rattle.change_laws.specs.Steps.{spans_of, step_posts}
-use Rattle.change_laws.proofs.WNamed.{spans_are}
-use Rattle.change_laws.proofs.WSpans.{same_sums, there}
-use Rattle.work_laws.specs.Blocks.{AreBlocksCounted, BlocksCountedLaw}
-use Rattle.work_laws.specs.Housed.{AreSpansHoused, HousedLaw}
-use Rattle.work_laws.specs.Named.{AreSectorsNamed, NamedLaw, is_named_sector, names_sector}
-use Rattle.work_laws.specs.Pieces.{HasPieces, PiecesLaw}
-use Rattle.work_laws.specs.Postings.{ArePostingsFew, IsPassage, PostingsLaw}
+use Rattle.commit_laws.specs.Commit.{Commit, IsCommit, IsKnown, IsMoved, Known, came_by, context_by, gone_by}
+use Rattle.commit_laws.specs.Items.{items_of}
+use Rattle.commit_laws.specs.Same.{HeldLaw, records_of}
+use Rattle.commit_laws.specs.Sound.{IsSound, IsWhole, KnownSpansLaw, SoundLaw, SpansStand}
+use Rattle.commit_laws.specs.Steps.{spans_of, step_posts}
+use Rattle.commit_laws.proofs.WNamed.{spans_are}
+use Rattle.commit_laws.proofs.WSpans.{same_sums, there}
+use Rattle.lookup_bounds.specs.Blocks.{AreBlocksCounted, BlocksCountedLaw}
+use Rattle.lookup_bounds.specs.Housed.{AreSpansHoused, HousedLaw}
+use Rattle.lookup_bounds.specs.Named.{AreSectorsNamed, NamedLaw, is_named_sector, names_sector}
+use Rattle.lookup_bounds.specs.Pieces.{HasPieces, PiecesLaw}
+use Rattle.lookup_bounds.specs.Postings.{ArePostingsFew, IsPassage, PostingsLaw}
 use Rattle.tree_change.specs.Accepted.{unshared_old}
-use Rattle.work_laws.specs.Work.{by_walk, has_named, is_flagged, is_met, new_postings, old_postings, runs_in, spans_in, spans_where, unshared_blocks, unshared_entries, unshared_new, work_between, work_of}
+use Rattle.lookup_bounds.specs.Work.{by_walk, has_named, is_flagged, is_met, new_postings, old_postings, runs_in, spans_in, spans_where, unshared_blocks, unshared_entries, unshared_new, work_between, work_of}
 use Rattle.commit_judge.specs.Looks.{AreFewLooks, FewLooksLaw, FewToJudge, changed_posts, changed_spans, have_common, meets_changed, table_after}
 use Rattle.commit_judge.specs.Moves.{any_counted, context_after}
 use Rattle.commit_judge.specs.Tables.{with_spans, without_spans}

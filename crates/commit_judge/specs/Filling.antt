@@ -4,7 +4,7 @@ use Rattle.verdict.specs.Rules.{and_then}
 use Rattle.verdict.specs.declared.finding.Finding.{Finding}
 use Rattle.verdict.specs.declared.finding.Verdict.TheVariants.{Found as Refusal}
 use Rattle.verdict.specs.declared.place.Chunk.{Chunk}
-use Rattle.account_sums.specs.Sums.{Frees, none_free, or_free}
+use Rattle.account_tally.specs.Sums.{Frees, none_free, or_free}
 use Rattle.accounts.specs.Broken.{broken_finding, is_broken}
 use Rattle.accounts.specs.Context.{Context}
 use Rattle.accounts.specs.Least.{IsLeastBroken}
@@ -12,8 +12,8 @@ use Rattle.accounts.specs.Tally.{Sums, no_sums}
 use Rattle.accounts.specs.declared.account.Account.{Account}
 use Rattle.block_source.specs.declared.halt.Halt.{Halt}
 use Rattle.block_source.specs.declared.halt.Halt.TheVariants.{Found, Disk, NoMemory}
-use Rattle.account_sums.specs.Kept.{chosen}
-use Rattle.change_laws.specs.Steps.{all_posts, posts_of, spans_of}
+use Rattle.account_tally.specs.Kept.{chosen}
+use Rattle.commit_laws.specs.Steps.{all_posts, posts_of, spans_of}
 use Rattle.change_records.specs.Affected.{context_with}
 use Rattle.change_records.specs.Spans.{span_of}
 use Rattle.ledger_index.specs.Ledger.{entries_of, sums_of}
@@ -32,7 +32,7 @@ use Rattle.span_index.specs.declared.span.Run.{Run}
 use Rattle.span_index.specs.declared.span.Span.{Span}
 use Rattle.touched_accounts.specs.Looks.{HaveLooks, counted_times}
 use Rattle.touched_accounts.specs.Sums.{with_all}
-use Rattle.work_laws.specs.Work.{starting_work}
+use Rattle.lookup_bounds.specs.Work.{starting_work}
 use Rattle.commit_judge.specs.Flags.{free_in}
 use Rattle.commit_judge.specs.Start.{IsReady}
 use Rattle.commit_judge.specs.declared.filler.Filling.{Filling}

@@ -4,7 +4,7 @@ use Rattle.verdict.specs.Image.{range}
 use Rattle.live_index.specs.Table.{pairs_of}
 use Rattle.ledger_index.specs.Ledger.{IsTidy, sums_of}
 use Rattle.span_index.specs.Table.{times_of}
-use Rattle.change_laws.specs.Commit.{IsKnown, Known}
+use Rattle.commit_laws.specs.Commit.{IsKnown, Known}
 use Rattle.commit_judge.specs.Flags.{free_in}
 use Rattle.commit_judge.specs.declared.index.Index.{Index}
 

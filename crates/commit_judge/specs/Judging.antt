@@ -19,13 +19,13 @@ use Rattle.span_index.specs.Spans.{Table}
 use Rattle.span_index.specs.declared.span.Span.{Span}
 use Rattle.touched_accounts.specs.Least.{IsLeastTouched}
 use Rattle.touched_accounts.specs.Sums.{less_all, with_all}
-use Rattle.touched_pairs.specs.Touched.{stays_in_place, touches_block, written_in}
+use Rattle.touched_blocks.specs.Touched.{stays_in_place, touches_block, written_in}
 use Rattle.tree_change.specs.Gathered.{located_item}
 use Rattle.tree_change.specs.Merging.{IsSortedOf, named_before, roots_left}
 use Rattle.volume_items.specs.declared.root_at.RootAt.{RootAt}
 use Rattle.write_cache.specs.Cache.{overlaid}
-use Rattle.change_laws.specs.Commit.{Commit, IsCommit, IsKnown, IsMoved, Known}
-use Rattle.account_sums.specs.Kept.{chosen}
+use Rattle.commit_laws.specs.Commit.{Commit, IsCommit, IsKnown, IsMoved, Known}
+use Rattle.account_tally.specs.Kept.{chosen}
 use Rattle.commit_judge.specs.Counts.{blocks_between, hot_between}
 use Rattle.commit_judge.specs.Moves.{AreMovesOf, context_after}
 use Rattle.commit_judge.specs.Tables.{with_spans, without_spans}

@@ -5,9 +5,9 @@ use Rattle.span_index.specs.Sectors.{meets, times_of_span}
 use Rattle.span_index.specs.Spans.{Table, end_of}
 use Rattle.span_index.specs.declared.span.Span.{Span}
 use Rattle.tree_change.specs.declared.change.Change.{Change}
-use Rattle.change_laws.specs.Commit.{Commit, Known, came_by, context_by, gone_by}
-use Rattle.change_laws.specs.Sound.{IsSound, SpansStand}
-use Rattle.change_laws.specs.Steps.{spans_of, step_posts}
+use Rattle.commit_laws.specs.Commit.{Commit, Known, came_by, context_by, gone_by}
+use Rattle.commit_laws.specs.Sound.{IsSound, SpansStand}
+use Rattle.commit_laws.specs.Steps.{spans_of, step_posts}
 use Rattle.commit_judge.specs.Moves.{AreMovesOf, HaveNames, NameSpans, any_changed, context_after}
 use Rattle.commit_judge.specs.Tables.{with_spans, without_spans}
 use Rattle.commit_judge.specs.declared.judge.Judged.{Judged}

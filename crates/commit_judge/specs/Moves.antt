@@ -11,10 +11,10 @@ use Rattle.span_index.specs.Sectors.{AreRunsFrom, counts, has_sector, is_inside}
 use Rattle.span_index.specs.Spans.{Table}
 use Rattle.span_index.specs.declared.span.Run.{Run}
 use Rattle.span_index.specs.declared.span.Span.{Span}
-use Rattle.change_laws.specs.Commit.{AreNamedInside, Commit, Known, came_by, context_by, gone_by}
-use Rattle.change_laws.specs.Sectors.{CountedInside}
-use Rattle.change_laws.specs.Sound.{IsSound, SpansStand}
-use Rattle.change_laws.specs.Steps.{spans_of, step_posts}
+use Rattle.commit_laws.specs.Commit.{AreNamedInside, Commit, Known, came_by, context_by, gone_by}
+use Rattle.commit_laws.specs.Sectors.{CountedInside}
+use Rattle.commit_laws.specs.Sound.{IsSound, SpansStand}
+use Rattle.commit_laws.specs.Steps.{spans_of, step_posts}
 use Rattle.commit_judge.specs.declared.moves.Moves.{Moves}
 
 -- the context of the judged image

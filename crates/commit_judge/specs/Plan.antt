@@ -7,7 +7,7 @@ use Rattle.write_cache.specs.Cache.{overlaid}
 use Rattle.records.specs.Contents.{contents}
 use Rattle.block_source.specs.declared.halt.Halt.{Halt}
 use Rattle.block_source.specs.declared.halt.Halt.TheVariants.{Found, Disk, NoMemory}
-use Rattle.change_laws.specs.Commit.{Commit, IsCommit, Known}
+use Rattle.commit_laws.specs.Commit.{Commit, IsCommit, Known}
 use Rattle.change_records.specs.Made.{IsMade}
 use Rattle.change_records.specs.declared.kept.Made.{Made}
 use Rattle.commit_judge.specs.declared.plan.Plan.{Plan}

@@ -4,7 +4,7 @@ use Rattle.verdict.specs.declared.finding.Verdict.TheVariants.{Accept, Found}
 use Rattle.records.specs.FullCheck.{full_check}
 use Rattle.shared_trees.specs.LivePairs.{Walked, live_in, walked}
 use Rattle.std.specs.Prelude.{Ok}
-use Rattle.work_laws.specs.Work.{starting_work}
+use Rattle.lookup_bounds.specs.Work.{starting_work}
 use Rattle.commit_judge.specs.Index.{IndexStands}
 use Rattle.commit_judge.specs.declared.index.Index.{Index}
 use Rattle.commit_judge.specs.declared.build.Built.{Built}

@@ -5,9 +5,9 @@ use Rattle.std.specs.FinMap.{FinMap}
 use Rattle.verdict.specs.declared.finding.Verdict.TheVariants.{Accept}
 use Rattle.write_cache.specs.Cache.{overlaid}
 use Rattle.records.specs.FullCheck.{full_check}
-use Rattle.touched_pairs.specs.Touched.{written_in}
-use Rattle.change_laws.specs.Commit.{IsKnown, Known}
-use Rattle.change_laws.specs.Stops.{KeepsUnwritten}
+use Rattle.touched_blocks.specs.Touched.{written_in}
+use Rattle.commit_laws.specs.Commit.{IsKnown, Known}
+use Rattle.commit_laws.specs.Stops.{KeepsUnwritten}
 use Rattle.commit_judge.specs.Counts.{hot_between}
 
 -- Where the next image is accepted and no live block is hot, what a stop may leave, with the superblock place as it was and each byte at

@@ -17,8 +17,8 @@ use Rattle.tree_change.specs.FewLooks.{few_looks}
 use Rattle.tree_change.specs.LooksLaw.{entries_of}
 use Rattle.tree_change.specs.OneTree.{side_of}
 use Rattle.tree_change.specs.declared.change.Change.{Change}
-use Rattle.change_laws.specs.Commit.{Commit, IsCommit, IsKnown, IsMoved, Known}
-use Rattle.work_laws.specs.Work.{work_between}
+use Rattle.commit_laws.specs.Commit.{Commit, IsCommit, IsKnown, IsMoved, Known}
+use Rattle.lookup_bounds.specs.Work.{work_between}
 use Rattle.commit_judge.specs.Looks.{FewToJudge}
 use Rattle.commit_judge.specs.Plan.{commit_in}
 use Rattle.commit_judge.specs.declared.judge.Judged.{Judged}

@@ -9,7 +9,7 @@ ghost use Rattle.records.specs.Takes.{with_accounted};
 ghost use Rattle.block_source.specs.Gives.{Gives, is_disk_halt};
 ghost use Rattle.block_source.specs.Takes.{handing};
 ghost use Rattle.plain_check.specs.Opened.{ReadsOnce, known, named_records};
-ghost use Rattle.change_laws.specs.Steps.{posts_of};
+ghost use Rattle.commit_laws.specs.Steps.{posts_of};
 ghost use Rattle.change_records.specs.Spans.{span_of as span_of_record};
 ghost use Rattle.ledger_index.specs.Ledger.{entries_of, sums_of};
 ghost use Rattle.live_index.specs.Table.{pairs_of};
@@ -18,7 +18,7 @@ ghost use Rattle.records.specs.Context.{sum_free_inode};
 ghost use Rattle.shared_trees.specs.LivePairs.{table_of};
 ghost use Rattle.span_index.specs.Table.{times_of};
 ghost use Rattle.touched_accounts.specs.Looks.{HaveLooks, counted_times};
-ghost use Rattle.account_sums.specs.Sums.{or_free};
+ghost use Rattle.account_tally.specs.Sums.{or_free};
 ghost use Rattle.commit_judge.specs.Filling.{AreTablesOf, FewToMake, filled_in, looks_of, named_walk, of_none, with_located, with_option};
 ghost use Rattle.commit_judge.specs.Flags.{free_in};
 

@@ -9,7 +9,7 @@ ghost use Rattle.commit_judge.specs.Flags.{free_in};
 
 use crate::context::Before;
 use crate::filling::Tables;
-use account_sums::least_finding;
+use account_tally::least_finding;
 use chunk_map::ChunkMap;
 use recon_disk::Steps;
 use span_index::Run;

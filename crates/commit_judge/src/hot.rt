@@ -3,11 +3,11 @@
 ghost use Rattle.std.specs.Prelude.{◌≡◌, ◌||◌, not};
 ghost use Rattle.std.specs.List.{count_by};
 ghost use Rattle.live_index.specs.declared.live.Live.{Live as ALive};
-ghost use Rattle.touched_pairs.specs.Touched.{same_place, stays_in_place, touches_block, written_in};
+ghost use Rattle.touched_blocks.specs.Touched.{same_place, stays_in_place, touches_block, written_in};
 
 use chunk_map::ChunkMap;
 use live_index::Live;
-use touched_pairs::touches_place;
+use touched_blocks::touches_place;
 use verdict::Place;
 use write_cache::WriteCache;
 

@@ -27,7 +27,7 @@ use crate::laws::{counts_law, tried_law, work_law};
 use crate::moves::{Moves, after, moves_of};
 use crate::plan::{Plan, plan_of};
 use crate::roots::ascending;
-use account_sums::least_finding;
+use account_tally::least_finding;
 use block_source::{Fault, Halt, told};
 use change_records::Made;
 use live_maker::{put_pairs, take_pairs};

@@ -1,13 +1,13 @@
 //! Laws of the judge. Each stands on a function that does nothing.
 
-ghost use Rattle.change_laws.specs.Frame.{FrameLaw};
+ghost use Rattle.commit_laws.specs.Frame.{FrameLaw};
 ghost use Rattle.commit_judge.specs.Judging.{CountsLaw, TriedLaw};
 ghost use Rattle.commit_judge.specs.Looks.{FewLooksLaw};
 ghost use Rattle.commit_judge.specs.Stops.{SafeStops};
 ghost use Rattle.commit_judge.specs.Work.{WorkLaw};
 
-use change_laws::{ascend_law, commit_law, held_law, hot_law, known_spans_law, sound_law};
-use work_laws::{blocks_counted_law, housed_law, named_law, pieces_law, postings_law};
+use commit_laws::{ascend_law, commit_law, held_law, hot_law, known_spans_law, sound_law};
+use lookup_bounds::{blocks_counted_law, housed_law, named_law, pieces_law, postings_law};
 
 /// A commit that is tried is decided.
 pub(crate) fn tried_law()
@@ -34,7 +34,7 @@ pub(crate) fn counts_law()
 pub fn frame_law()
     ensures { FrameLaw }
 {
-    change_laws::frame_law();
+    commit_laws::frame_law();
 }
 
 /// The stop law. Where no live block is hot, what a stop may leave of a disk on which pending
@@ -43,7 +43,7 @@ pub fn frame_law()
 pub fn stop_law()
     ensures { SafeStops }
 {
-    change_laws::stop_law();
+    commit_laws::stop_law();
 }
 
 /// The law of looks. To judge a plan that passes costs a number of looks that what the commit changes

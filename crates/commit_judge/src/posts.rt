@@ -6,10 +6,10 @@ ghost use Rattle.records.specs.Contents.{super_record};
 ghost use Rattle.records.specs.Part.{part_of};
 ghost use Rattle.records.specs.Part.Part.{ExtentPart};
 ghost use Rattle.tree_change.specs.Gathered.{located_item};
-ghost use Rattle.change_laws.specs.Kept.{extent_at, placed_postings};
-ghost use Rattle.change_laws.specs.Paired.{came_items, came_of, gone_items, gone_of};
-ghost use Rattle.change_laws.specs.Same.{live_record};
-ghost use Rattle.change_laws.specs.Steps.{all_posts, change_records, step_posts};
+ghost use Rattle.commit_laws.specs.Kept.{extent_at, placed_postings};
+ghost use Rattle.commit_laws.specs.Paired.{came_items, came_of, gone_items, gone_of};
+ghost use Rattle.commit_laws.specs.Same.{live_record};
+ghost use Rattle.commit_laws.specs.Steps.{all_posts, change_records, step_posts};
 ghost use Rattle.commit_judge.specs.Posting.{posts_at};
 
 use accounts::{Ctx, Poster, Postings};

@@ -6,8 +6,8 @@ ghost use Rattle.std.specs.List.Sorted.{IsNonDecreasingBy, IsPermutation};
 ghost use Rattle.span_index.specs.Sectors.{AreRunsFrom, IsRun, counts, has_sector, is_inside};
 ghost use Rattle.span_index.specs.declared.span.Run.{Run as ARun};
 ghost use Rattle.span_index.specs.declared.span.Span.{Span as ASpan};
-ghost use Rattle.change_laws.specs.Sectors.{AreInside, CountedInside};
-ghost use Rattle.change_laws.specs.Sound.{IsWhole};
+ghost use Rattle.commit_laws.specs.Sectors.{AreInside, CountedInside};
+ghost use Rattle.commit_laws.specs.Sound.{IsWhole};
 ghost use Rattle.commit_judge.specs.Moves.{AreOfChanged, any_counted};
 
 use crate::spans::{SECTOR, push_some};

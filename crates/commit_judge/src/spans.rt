@@ -16,9 +16,9 @@ ghost use Rattle.span_index.specs.declared.span.SpanSort.TheVariants.{Owned as O
 ghost use Rattle.change_records.specs.Search.{AreAlone, AreLawful, IsShownAt, SpanNames};
 ghost use Rattle.change_records.specs.Spans.{extent_span, span_in, span_of};
 ghost use Rattle.change_records.specs.declared.item_ref.ItemRef.{ItemRef as ARef};
-ghost use Rattle.change_laws.specs.Paired.{came_items, came_of, gone_items, gone_of};
-ghost use Rattle.change_laws.specs.Sectors.{AreSound};
-ghost use Rattle.change_laws.specs.Steps.{change_records, spans_of};
+ghost use Rattle.commit_laws.specs.Paired.{came_items, came_of, gone_items, gone_of};
+ghost use Rattle.commit_laws.specs.Sectors.{AreSound};
+ghost use Rattle.commit_laws.specs.Steps.{change_records, spans_of};
 ghost use Rattle.tree_change.specs.Gathered.{located_item};
 ghost use Rattle.commit_judge.specs.Moves.{HaveNames, NameSpans};
 ghost use Rattle.commit_judge.specs.Tables.{with_spans, without_spans};

@@ -48,7 +48,7 @@ mod span_judge_rows;
 #[cfg(test)]
 mod super_reader_rows;
 #[cfg(test)]
-mod touched_pairs_rows;
+mod touched_blocks_rows;
 #[cfg(test)]
 mod trace_reader_rows;
 #[cfg(test)]

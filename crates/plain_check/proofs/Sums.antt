@@ -15,7 +15,7 @@ use Rattle.records.specs.Seen.{Seen, accounted}
 use Rattle.records.specs.Seen.Seen.{BlockSeen, PointerSeen, ItemSeen}
 use Rattle.records.specs.Takes.{held_after, with_accounted}
 use Rattle.records.specs.Walk.{Records, behind}
-use Rattle.account_sums.specs.Sums.{Summed, context_with, of_none, with_record}
+use Rattle.account_tally.specs.Sums.{Summed, context_with, of_none, with_record}
 use Rattle.plain_check.specs.Accounts.{accounts_in, accounts_of}
 use Rattle.plain_check.specs.Opened.{Opened, named_records, volume_records}
 use Rattle.plain_check.specs.OpeningLaw.{contents_with}

@@ -9,7 +9,7 @@ ghost use Rattle.plain_check.specs.Opened.{known};
 ghost use Rattle.block_source.specs.Gives.{Gives, is_disk_halt};
 
 use crate::volume::Volume;
-use account_sums::Accounts;
+use account_tally::Accounts;
 use block_source::Halt;
 use recon_disk::Disk;
 use std::alloc::Global;

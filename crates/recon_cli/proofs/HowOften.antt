@@ -8,7 +8,7 @@ use Rattle.verdict.specs.declared.machine.Answer.TheVariants.{Held, Fetched, Pas
 use Rattle.shared_trees.specs.LivePairs.{Walked, live_in}
 use Rattle.recon_core.specs.declared.checker.Checker.{Checker}
 use Rattle.recon_core.specs.Machine.{MachineState, first_state, machine_step}
-use Rattle.work_laws.specs.Work.{starting_work}
+use Rattle.lookup_bounds.specs.Work.{starting_work}
 use Rattle.recon_core.specs.Looks.{BeginsByWork, HasLooks, work_at}
 use Rattle.recon_core.specs.Reads.{HasBegun, HasReadTrees, HasReads, reads_of}
 use Rattle.recon_core.specs.Standing.{StandsFor}

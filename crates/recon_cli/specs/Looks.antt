@@ -1,7 +1,7 @@
 -- How often a replay looks into the index.
 use Rattle.std.specs.Prelude.{ℕ, ◌+◌, ◌*◌, ◌≤◌, List, [], ◌∷◌}
 use Rattle.verdict.specs.declared.machine.Event.{Event}
-use Rattle.work_laws.specs.Work.{starting_work}
+use Rattle.lookup_bounds.specs.Work.{starting_work}
 use Rattle.recon_core.specs.Looks.{work_at}
 use Rattle.recon_core.specs.Machine.{MachineState, first_state, machine_step}
 use Rattle.trace_reader.specs.Trace.{Ending, IsTrace}

@@ -13,9 +13,9 @@ use Rattle.write_cache.specs.Cache.{AllInside, cache_of, overlaid}
 use Rattle.write_cache.proofs.CacheLaws.{AllInside-push, get-range, length-range, overlaid-applied}
 use Rattle.records.specs.FullCheck.{full_check}
 use Rattle.recon_disk.proofs.Sending.{same_bytes}
-use Rattle.touched_pairs.specs.Touched.{written_in}
-use Rattle.change_laws.specs.Commit.{IsKnown, Known}
-use Rattle.change_laws.specs.Stops.{KeepsUnwritten}
+use Rattle.touched_blocks.specs.Touched.{written_in}
+use Rattle.commit_laws.specs.Commit.{IsKnown, Known}
+use Rattle.commit_laws.specs.Stops.{KeepsUnwritten}
 use Rattle.commit_judge.specs.Counts.{hot_between}
 use Rattle.commit_judge.specs.Stops.{SafeStops}
 use Rattle.recon_core.specs.Machine.{MachineState, judged_image, with_pending}

@@ -24,7 +24,7 @@ use Rattle.recon_core.specs.Judged.{IsLeftOf, IsSettled, Judges}
 use Rattle.recon_core.specs.Machine.{answer_to, image_by}
 use Rattle.recon_core.specs.Order.{HasSentBy, HasSentOut, HasSentPart}
 use Rattle.commit_judge.specs.Work.{LooksByWork}
-use Rattle.work_laws.specs.Work.{work_between}
+use Rattle.lookup_bounds.specs.Work.{work_between}
 use Rattle.recon_core.specs.Looks.{HasLooks}
 use Rattle.recon_core.specs.Reads.{HasReads}
 use Rattle.recon_core.specs.Moments.{IsFlushedAs, LeavesAfter}

@@ -29,7 +29,7 @@ use Rattle.commit_judge.specs.Start.{IsBuilt, IsReady, LooksToBuild}
 use Rattle.commit_judge.specs.declared.build.Built.{Built}
 use Rattle.commit_judge.specs.declared.build.Built.TheVariants.{Ready, Refused}
 use Rattle.commit_judge.specs.declared.index.Index.{Index}
-use Rattle.work_laws.specs.Work.{starting_work, work_between}
+use Rattle.lookup_bounds.specs.Work.{starting_work, work_between}
 use Rattle.recon_core.specs.Looks.{HasLooks, work_at}
 use Rattle.recon_core.specs.Reads.{HasReadTrees, HasReads}
 use Rattle.recon_core.specs.Machine.{MachineState, answer_to, image_by, judged_image, settle_step, machine_step, with_pending}

@@ -9,7 +9,7 @@ use Rattle.verdict.specs.declared.machine.Answer.TheVariants.{Held, Fetched, Pas
 use Rattle.verdict.specs.declared.machine.Event.{Event}
 use Rattle.verdict.specs.declared.machine.Event.TheVariants.{Write, Settle, Fetch}
 use Rattle.write_cache.specs.Cache.{cache_of}
-use Rattle.work_laws.specs.Work.{starting_work, work_between}
+use Rattle.lookup_bounds.specs.Work.{starting_work, work_between}
 use Rattle.commit_judge.specs.Index.{IndexStands}
 use Rattle.commit_judge.specs.declared.index.Index.{Index}
 use Rattle.recon_core.specs.Machine.{MachineState, with_pending}

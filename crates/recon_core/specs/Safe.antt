@@ -4,7 +4,7 @@ use Rattle.verdict.specs.Events.{end_of}
 use Rattle.verdict.specs.declared.machine.Event.{Event}
 use Rattle.verdict.specs.declared.machine.Event.TheVariants.{Write, Settle, Fetch}
 use Rattle.write_cache.specs.Cache.{cache_of}
-use Rattle.change_laws.specs.Commit.{IsKnown, Known}
+use Rattle.commit_laws.specs.Commit.{IsKnown, Known}
 use Rattle.commit_judge.specs.Counts.{hot_between}
 use Rattle.recon_core.specs.Machine.{MachineState, with_pending}
 use Rattle.recon_core.specs.Standing.{IsAccepted, IsMachineState}

@@ -9,7 +9,7 @@ use Rattle.verdict.specs.declared.place.Chunk.{Chunk}
 use Rattle.verdict.proofs.Tables.{joined_none}
 use Rattle.volume_items.specs.ChunkOrder.{by_start}
 use Rattle.volume_items.specs.MapRules.{array_rows, rows_by_start, same_chunk}
-use Rattle.touched_pairs.specs.Moves.{AreApart, LieApart, same_second}
+use Rattle.touched_blocks.specs.Moves.{AreApart, LieApart, same_second}
 use Rattle.shared_trees.specs.ArrayMoves.{ArrayApartLaw, LieApartOrSame}
 use Rattle.shared_trees.proofs.ArrayPlaces.{array_is}
 use Rattle.shared_trees.proofs.ArrayTree.{array_has}

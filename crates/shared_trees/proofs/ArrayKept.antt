@@ -15,8 +15,8 @@ use Rattle.node_reader.specs.Stored.{Stored, stored_in}
 use Rattle.node_reader.specs.declared.expect.Expect.{Expect}
 use Rattle.records.specs.Contents.{chunk_tree_root, named_root, root_tree_root}
 use Rattle.records.specs.WalkLaw.{visited}
-use Rattle.touched_pairs.specs.Moves.{is_moved}
-use Rattle.touched_pairs.specs.Touched.{written_in}
+use Rattle.touched_blocks.specs.Moves.{is_moved}
+use Rattle.touched_blocks.specs.Touched.{written_in}
 use Rattle.shared_trees.specs.ArrayLaw.{AreBoth, ArrayKeptLaw, EachByArray, IsAsByAll, IsKeptByArray, chunk_tree_by, moves_by}
 use Rattle.shared_trees.specs.Keeping.{AreUntouched, Comes, Marks, Under, kept_of, last_if_same, live_at}
 use Rattle.shared_trees.specs.LivePairs.{Walked, live_in, table_of}

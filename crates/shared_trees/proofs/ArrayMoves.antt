@@ -11,8 +11,8 @@ use Rattle.node_reader.specs.declared.expect.Expect.{Expect}
 use Rattle.records.specs.Contents.{chunk_tree_root}
 use Rattle.records.specs.Walk.{walk_of}
 use Rattle.records.specs.WalkLaw.{visited}
-use Rattle.touched_pairs.specs.Moves.{held_and_moved, is_moved}
-use Rattle.touched_pairs.specs.OneTree.{in_tree}
+use Rattle.touched_blocks.specs.Moves.{held_and_moved, is_moved}
+use Rattle.touched_blocks.specs.OneTree.{in_tree}
 use Rattle.shared_trees.specs.ArrayLaw.{IsAsByAll, chunk_tree_by, moves_by}
 use Rattle.shared_trees.specs.ArrayMoves.{ArrayMovesLaw}
 use Rattle.shared_trees.specs.Keeping.{AreMarked, IsKnown, Marks, OneOf, Stands, comes_to}

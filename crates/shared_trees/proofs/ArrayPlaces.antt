@@ -16,7 +16,7 @@ use Rattle.records.specs.Contents.{chunk_tree_root, named_root, root_tree_root}
 use Rattle.records.specs.Seen.{Seen}
 use Rattle.records.specs.Walk.{walk_of}
 use Rattle.records.specs.WalkLaw.{visited}
-use Rattle.touched_pairs.specs.Touched.{copy_written, same_place}
+use Rattle.touched_blocks.specs.Touched.{copy_written, same_place}
 use Rattle.shared_trees.specs.ArrayLaw.{ArrayLaw, EachByArray, HasArray, IsAsByAll}
 use Rattle.shared_trees.specs.Keeping.{live_at}
 use Rattle.shared_trees.specs.LivePairs.{Walked}

@@ -15,7 +15,7 @@ use Rattle.node_reader.specs.declared.expect.Expect.{Expect}
 use Rattle.records.specs.Contents.{chunk_tree_root}
 use Rattle.records.specs.Walk.{Records}
 use Rattle.records.specs.WalkLaw.{visited}
-use Rattle.touched_pairs.specs.Touched.{written_in}
+use Rattle.touched_blocks.specs.Touched.{written_in}
 use Rattle.shared_trees.specs.ArrayLaw.{AreBoth, chunk_tree_by, moves_by}
 use Rattle.shared_trees.specs.ArrayShifts.{ArrayShiftedLaw, ArraySoundLaw, ArrayWalksLaw, IsKnownByArray, IsOneTree, MovesListedBy, kept_by}
 use Rattle.shared_trees.specs.Keeping.{AreUntouched, Marks, Stands, Under, anew_of, kept_of, live_at}

@@ -13,9 +13,9 @@ use Rattle.node_reader.specs.declared.expect.Pointer.{Pointer}
 use Rattle.records.specs.Walk.{child_of, children_of, high_of}
 use Rattle.records.specs.WalkLaw.{visited}
 use Rattle.shared_trees.specs.Keeping.{IsKnown, Marks, OneOf, comes_to, live_at}
-use Rattle.touched_pairs.specs.Marking as marking
-use Rattle.touched_pairs.specs.Marking.ClimbsTo.{Here as IsHere, Up as OneUp}
-use Rattle.touched_pairs.specs.Marks.{no_mark}
+use Rattle.touched_blocks.specs.Marking as marking
+use Rattle.touched_blocks.specs.Marking.ClimbsTo.{Here as IsHere, Up as OneUp}
+use Rattle.touched_blocks.specs.Marks.{no_mark}
 use Rattle.shared_trees.specs.Marking.{MarkingLaw}
 use Rattle.shared_trees.proofs.Accepted.{Accepts, accepts, visit_of, walk_accepted}
 use Rattle.shared_trees.proofs.Trails.{Trail, Visit, after, then_trail, trail_and, trail_below, trail_of, trails}

@@ -24,7 +24,7 @@ use Rattle.records.specs.Walk.{Records, each, own_records}
 use Rattle.records.specs.WalkLaw.{children_in, visited_from}
 use Rattle.shared_trees.specs.ImageLaw.{ReadAlikeLaw, StoredAlikeLaw}
 use Rattle.shared_trees.specs.Skips.{own_of}
-use Rattle.touched_pairs.specs.Touched.{any_written, copy_written, same_place, stays_in_place, written_in}
+use Rattle.touched_blocks.specs.Touched.{any_written, copy_written, same_place, stays_in_place, written_in}
 use Rattle.shared_trees.proofs.Bounds.{and_parts}
 use Rattle.shared_trees.proofs.Trails.{walk_is_own}
 

@@ -11,7 +11,7 @@ use Rattle.volume_items.specs.declared.root.RootItem.{RootItem}
 use Rattle.live_index.specs.Pairs.{Pairs}
 use Rattle.node_reader.specs.Stored.{stored_in}
 use Rattle.records.specs.Contents.{named_root}
-use Rattle.touched_pairs.specs.Touched.{written_in}
+use Rattle.touched_blocks.specs.Touched.{written_in}
 use Rattle.shared_trees.specs.Keeping.{AreUntouched, Marks, Stands, Under}
 use Rattle.shared_trees.specs.LivePairs.{Walked, live_in, table_of}
 use Rattle.shared_trees.specs.Shared.{are_read_alike}

@@ -11,9 +11,9 @@ use Rattle.live_index.specs.declared.live.Live.{Live}
 use Rattle.node_reader.specs.Stored.{Stored, block_in}
 use Rattle.node_reader.specs.declared.expect.Expect.{Expect}
 use Rattle.records.specs.WalkLaw.{children_in}
-use Rattle.touched_pairs.specs.Marking.{ClimbsTo, if_above, parent_of}
-use Rattle.touched_pairs.specs.Marking.ClimbsTo.{Here, Up}
-use Rattle.touched_pairs.specs.Marks.{no_mark}
+use Rattle.touched_blocks.specs.Marking.{ClimbsTo, if_above, parent_of}
+use Rattle.touched_blocks.specs.Marking.ClimbsTo.{Here, Up}
+use Rattle.touched_blocks.specs.Marks.{no_mark}
 use Rattle.shared_trees.specs.declared.starts.Start.{Start}
 use Rattle.shared_trees.specs.Keeping.{Marks, Under, anew_of, bound_of, is_first, is_same, kept_of, last_if_same, start_of, starts_of}
 use Rattle.shared_trees.specs.Listed.{IsChild, is_at}

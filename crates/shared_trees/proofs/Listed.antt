@@ -8,10 +8,10 @@ use Rattle.std.proofs.lemmas.List.Folds.{list_any-append}
 use Rattle.std.proofs.Math.Seq.{take-length}
 use Rattle.live_index.specs.Pairs.{Pairs}
 use Rattle.live_index.specs.declared.live.Live.{Live}
-use Rattle.touched_pairs.specs.Marking.{parent_of}
-use Rattle.touched_pairs.specs.declared.marks.PairPlace.{PairPlace}
-use Rattle.touched_pairs.specs.Marks.{by_pair, is_pair, marked_in, pair_place, with_mark}
-use Rattle.touched_pairs.proofs.MarkLaws.{tied}
+use Rattle.touched_blocks.specs.Marking.{parent_of}
+use Rattle.touched_blocks.specs.declared.marks.PairPlace.{PairPlace}
+use Rattle.touched_blocks.specs.Marks.{by_pair, is_pair, marked_in, pair_place, with_mark}
+use Rattle.touched_blocks.proofs.MarkLaws.{tied}
 use Rattle.std.specs.BTreeMap as map
 use Rattle.shared_trees.specs.declared.starts.Listed.{Listed}
 use Rattle.shared_trees.specs.declared.starts.Start.{Start}

@@ -16,7 +16,7 @@ use Rattle.node_reader.specs.declared.expect.Expect.{Expect}
 use Rattle.node_reader.specs.declared.expect.Pointer.{Pointer}
 use Rattle.records.specs.Walk.{child_of, children_of, high_of, walk_of}
 use Rattle.records.specs.WalkLaw.{visited}
-use Rattle.touched_pairs.specs.Marking.{if_above, parent_of}
+use Rattle.touched_blocks.specs.Marking.{if_above, parent_of}
 use Rattle.walk_laws.specs.WalkOrder.{AllAbove, Ascend as KeysAscend}
 use Rattle.walk_laws.proofs.Blocks.{block_keys}
 use Rattle.shared_trees.specs.declared.starts.Start.{Start}

@@ -12,10 +12,10 @@ use Rattle.node_reader.specs.Stored.{Stored, bytes_at, stored_in}
 use Rattle.node_reader.specs.Stored.CopyFault.{NoPlace}
 use Rattle.node_reader.specs.declared.expect.Expect.{Expect}
 use Rattle.records.specs.WalkLaw.{visited}
-use Rattle.touched_pairs.specs.Marking.{AreMarkedFrom}
-use Rattle.touched_pairs.specs.Marks.{no_mark}
-use Rattle.touched_pairs.specs.Moves.{held_and_moved, is_moved}
-use Rattle.touched_pairs.specs.Spots.{at_address}
+use Rattle.touched_blocks.specs.Marking.{AreMarkedFrom}
+use Rattle.touched_blocks.specs.Marks.{no_mark}
+use Rattle.touched_blocks.specs.Moves.{held_and_moved, is_moved}
+use Rattle.touched_blocks.specs.Spots.{at_address}
 use Rattle.shared_trees.specs.Keeping.{AreMarked, Marks, Stands, live_at}
 use Rattle.shared_trees.specs.LivePairs.{Walked, live_in, table_of}
 use Rattle.shared_trees.specs.MarksLaw.{MarksLaw, MovesLaw}

@@ -10,8 +10,8 @@ use Rattle.node_reader.specs.Stored.{Stored}
 use Rattle.node_reader.specs.declared.expect.Expect.{Expect}
 use Rattle.node_reader.specs.declared.expect.Pointer.{Pointer}
 use Rattle.records.specs.Walk.{child_of, children_of, high_of}
-use Rattle.touched_pairs.specs.Marking.{ClimbsTo, if_above, parent_of}
-use Rattle.touched_pairs.specs.Marking.ClimbsTo.{Here as IsHere, Up as OneUp}
+use Rattle.touched_blocks.specs.Marking.{ClimbsTo, if_above, parent_of}
+use Rattle.touched_blocks.specs.Marking.ClimbsTo.{Here as IsHere, Up as OneUp}
 use Rattle.shared_trees.specs.Keeping.{Marks, live_at}
 use Rattle.shared_trees.proofs.Accepted.{accepts, visit_of, walk_accepted}
 use Rattle.shared_trees.proofs.Climbing.{some_live}

@@ -25,7 +25,7 @@ use Rattle.shared_trees.proofs.Tables.{copied_same}
 use Rattle.shared_trees.proofs.Trails.{Trail, after, then_trail, trail_and, trail_below, trail_of, trails}
 use Rattle.shared_trees.proofs.Visiting.{Visits, visits_after, visits_both, visits_map, visits_then, visits_then_first, visits_then_later}
 use Rattle.shared_trees.proofs.Within.{here_of, rest_of}
-use Rattle.touched_pairs.specs.Marking.ClimbsTo.{Here as IsHere}
+use Rattle.touched_blocks.specs.Marking.ClimbsTo.{Here as IsHere}
 
 pub all_append : (P : Expect → Type 0) (es fs : List Expect) → AllByRecursion P es → AllByRecursion P fs → AllByRecursion P (es ++ fs)
 all_append P [] fs all more = more

@@ -17,7 +17,7 @@ use Rattle.node_reader.specs.declared.expect.Expect.{Expect}
 use Rattle.records.specs.Contents.{named_root}
 use Rattle.records.specs.Walk.{Records, each, then_records, walk_of}
 use Rattle.records.specs.WalkLaw.{visited}
-use Rattle.touched_pairs.specs.Touched.{written_in}
+use Rattle.touched_blocks.specs.Touched.{written_in}
 use Rattle.shared_trees.specs.Keeping.{Comes, Marks, Stands, Under, anew_of, kept_of, live_at}
 use Rattle.shared_trees.specs.LivePairs.{Walked, live_in, table_of}
 use Rattle.shared_trees.specs.OldSide.{IsRoot, TellsShared, kept_at, kept_where}

@@ -9,11 +9,11 @@ use Rattle.verdict.proofs.Tables.{joined_none}
 use Rattle.volume_items.specs.ChunkOrder.{all_by_start, by_start, put_by_start}
 use Rattle.volume_items.specs.MapRules.{array_rows, map_finding, rows_by_start}
 use Rattle.live_index.specs.Pairs.{AreNarrow, Pairs}
-use Rattle.touched_pairs.specs.Marking.{AreMarkedFrom}
-use Rattle.touched_pairs.specs.Marks.{no_mark}
-use Rattle.touched_pairs.specs.Moves.{AreApart, LieApart, held_and_moved, is_moved}
-use Rattle.touched_pairs.specs.Spots.{at_address}
-use Rattle.touched_pairs.specs.Touched.{written_in}
+use Rattle.touched_blocks.specs.Marking.{AreMarkedFrom}
+use Rattle.touched_blocks.specs.Marks.{no_mark}
+use Rattle.touched_blocks.specs.Moves.{AreApart, LieApart, held_and_moved, is_moved}
+use Rattle.touched_blocks.specs.Spots.{at_address}
+use Rattle.touched_blocks.specs.Touched.{written_in}
 use Rattle.shared_trees.specs.Keeping.{AreMarked, Marks, Stands, Under}
 use Rattle.shared_trees.specs.LivePairs.{Walked, live_in, table_of, walked}
 use Rattle.shared_trees.specs.Listed.{AreListedBy}

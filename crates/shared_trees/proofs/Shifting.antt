@@ -16,7 +16,7 @@ use Rattle.node_reader.specs.declared.expect.Expect.{Expect}
 use Rattle.records.specs.Seen.{Seen}
 use Rattle.records.specs.Seen.Seen.{BlockSeen, PointerSeen, ItemSeen}
 use Rattle.records.specs.WalkLaw.{visited}
-use Rattle.touched_pairs.specs.Touched.{Written, stays_in_place, written_in}
+use Rattle.touched_blocks.specs.Touched.{Written, stays_in_place, written_in}
 use Rattle.shared_trees.specs.Keeping.{Marks, Stands, Under, anew_of, kept_of, last_if_same, live_at}
 use Rattle.shared_trees.specs.LivePairs.{Walked, live_in, live_of, table_of}
 use Rattle.shared_trees.specs.MovedLaw.{is_other_than, kept_in, shifted_by}

@@ -15,8 +15,8 @@ use Rattle.node_reader.specs.Stored.{stored_in}
 use Rattle.node_reader.specs.declared.expect.Expect.{Expect}
 use Rattle.records.specs.Contents.{chunk_tree_root}
 use Rattle.records.specs.WalkLaw.{visited}
-use Rattle.touched_pairs.specs.Moves.{is_moved}
-use Rattle.touched_pairs.specs.Touched.{Written, touches_block, written_in}
+use Rattle.touched_blocks.specs.Moves.{is_moved}
+use Rattle.touched_blocks.specs.Touched.{Written, touches_block, written_in}
 use Rattle.shared_trees.specs.Keeping.{AreUntouched, Marks, Under, kept_of, live_at}
 use Rattle.shared_trees.specs.LivePairs.{Walked, live_in, table_of, walked}
 use Rattle.shared_trees.specs.OldSide.{TellsShared}

@@ -5,10 +5,10 @@ use Rattle.verdict.specs.declared.place.Chunk.{Chunk}
 use Rattle.live_index.specs.Pairs.{AreNarrow, Pairs}
 use Rattle.node_reader.specs.Stored.{stored_in}
 use Rattle.records.specs.Contents.{chunk_tree_root}
-use Rattle.touched_pairs.specs.Marking.{AreMarkedFrom}
-use Rattle.touched_pairs.specs.Marks.{no_mark}
-use Rattle.touched_pairs.specs.Moves.{LieApart, held_and_moved, is_moved, same_chunk}
-use Rattle.touched_pairs.specs.OneTree.{in_tree}
+use Rattle.touched_blocks.specs.Marking.{AreMarkedFrom}
+use Rattle.touched_blocks.specs.Marks.{no_mark}
+use Rattle.touched_blocks.specs.Moves.{LieApart, held_and_moved, is_moved, same_chunk}
+use Rattle.touched_blocks.specs.OneTree.{in_tree}
 use Rattle.shared_trees.specs.ArrayLaw.{HasArray, moves_by}
 use Rattle.shared_trees.specs.Keeping.{AreMarked, Marks}
 use Rattle.shared_trees.specs.LivePairs.{Walked, live_in, table_of}

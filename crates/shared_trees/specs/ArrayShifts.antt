@@ -8,7 +8,7 @@ use Rattle.write_cache.specs.Cache.{overlaid}
 use Rattle.super_reader.specs.declared.Super.{Super}
 use Rattle.live_index.specs.Pairs.{Pairs}
 use Rattle.node_reader.specs.Stored.{stored_in}
-use Rattle.touched_pairs.specs.Touched.{written_in}
+use Rattle.touched_blocks.specs.Touched.{written_in}
 use Rattle.shared_trees.specs.ArrayLaw.{AreBoth, chunk_tree_by, moves_by}
 use Rattle.shared_trees.specs.Keeping.{AreListed, AreMarked, AreUntouched, Marks, Stands, Under, anew_of, kept_of}
 use Rattle.shared_trees.specs.LivePairs.{Walked, live_in, table_of, walked}

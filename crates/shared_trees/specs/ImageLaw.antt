@@ -10,7 +10,7 @@ use Rattle.node_reader.specs.declared.expect.Expect.{Expect}
 use Rattle.records.specs.Walk.{walk_of}
 use Rattle.shared_trees.specs.Keeping.{AreUntouched}
 use Rattle.shared_trees.specs.Shared.{are_read_alike}
-use Rattle.touched_pairs.specs.Touched.{stays_in_place, touches_block, written_in}
+use Rattle.touched_blocks.specs.Touched.{stays_in_place, touches_block, written_in}
 
 -- superblocks by which blocks are read alike give the same walks
 abbrev pub ReadAlikeLaw : Type 0

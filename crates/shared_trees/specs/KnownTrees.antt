@@ -3,8 +3,8 @@ use Rattle.std.specs.Prelude.{ℕ, Bool, Some}
 use Rattle.std.specs.Borrow.{GName}
 use Rattle.live_index.specs.Pairs.{Pairs}
 use Rattle.live_index.specs.Table.{pairs_of}
-use Rattle.touched_pairs.specs.Marks.{marked_by}
-use Rattle.touched_pairs.specs.Moves.{move_passes}
+use Rattle.touched_blocks.specs.Marks.{marked_by}
+use Rattle.touched_blocks.specs.Moves.{move_passes}
 use Rattle.node_reader.specs.declared.expect.Expect.{Expect}
 use Rattle.shared_trees.specs.declared.known.KnownTree.{KnownTree}
 use Rattle.shared_trees.specs.Ending.{Held, Lasts}

@@ -5,7 +5,7 @@ use Rattle.verdict.specs.OnDisk.{key_below, key_same}
 use Rattle.verdict.specs.declared.key.Key.{Key}
 use Rattle.live_index.specs.Pairs.{IsNextFirst, Pairs}
 use Rattle.live_index.specs.declared.live.Live.{Live}
-use Rattle.touched_pairs.specs.Marking.{parent_of}
+use Rattle.touched_blocks.specs.Marking.{parent_of}
 use Rattle.shared_trees.specs.declared.starts.Start.{Start}
 use Rattle.super_reader.specs.declared.Super.{Super}
 use Rattle.node_reader.specs.Stored.{Stored}

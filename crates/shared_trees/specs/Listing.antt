@@ -2,8 +2,8 @@
 use Rattle.std.specs.Prelude.{ℕ, suc, ◌≡◌, true, List, [], ◌∷◌, Option, Some, None, if◌then◌else◌}
 use Rattle.live_index.specs.Pairs.{Pairs}
 use Rattle.live_index.specs.declared.live.Live.{Live}
-use Rattle.touched_pairs.specs.Marking.{parent_of}
-use Rattle.touched_pairs.specs.Marks.{is_pair}
+use Rattle.touched_blocks.specs.Marking.{parent_of}
+use Rattle.touched_blocks.specs.Marks.{is_pair}
 use Rattle.shared_trees.specs.declared.starts.Start.{Start}
 use Rattle.shared_trees.specs.Keeping.{Marks, Under}
 use Rattle.shared_trees.specs.Listed.{IsChild, is_before}

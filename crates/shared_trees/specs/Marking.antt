@@ -4,8 +4,8 @@ use Rattle.super_reader.specs.declared.Super.{Super}
 use Rattle.live_index.specs.Pairs.{AreNarrow, Pairs}
 use Rattle.node_reader.specs.Stored.{Stored}
 use Rattle.node_reader.specs.declared.expect.Expect.{Expect}
-use Rattle.touched_pairs.specs.Marking.{AreMarkedFrom}
-use Rattle.touched_pairs.specs.Marks.{no_mark}
+use Rattle.touched_blocks.specs.Marking.{AreMarkedFrom}
+use Rattle.touched_blocks.specs.Marks.{no_mark}
 use Rattle.shared_trees.specs.Keeping.{AreMarked, Marks, Stands}
 
 -- Where a table stands for a tree, the blocks that are marked with all above them are just those of which, or of a block below which, the

@@ -8,7 +8,7 @@ use Rattle.records.specs.Seen.{Seen}
 use Rattle.records.specs.Seen.Seen.{BlockSeen}
 use Rattle.records.specs.declared.rec.BlockAt.{BlockAt}
 use Rattle.shared_trees.specs.LivePairs.{Walked, live_in, live_of, records_in}
-use Rattle.touched_pairs.specs.Touched.{Written, stays_in_place, touches_block}
+use Rattle.touched_blocks.specs.Touched.{Written, stays_in_place, touches_block}
 
 -- whether two superblocks agree in what the reading of each block rests on: the id of the file system, the size of a tree block, the
 -- two words of features and the id of the device; the size of a sector is 4096 bytes in all

@@ -7,7 +7,7 @@ use Rattle.verdict.specs.OnDisk.{key_same}
 use Rattle.write_cache.specs.Cache.{overlaid}
 use Rattle.live_index.specs.Pairs.{Pairs}
 use Rattle.live_index.specs.declared.live.Live.{Live}
-use Rattle.touched_pairs.specs.Touched.{Written, written_in}
+use Rattle.touched_blocks.specs.Touched.{Written, written_in}
 use Rattle.shared_trees.specs.Keeping.{AreListed, AreMarked, Marks, Under, anew_of, kept_of}
 use Rattle.shared_trees.specs.LivePairs.{Walked, live_in, table_of}
 use Rattle.shared_trees.specs.MovedLaw.{shifted_by}

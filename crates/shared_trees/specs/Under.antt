@@ -1,7 +1,7 @@
 -- The children that are walked below blocks, as a table has them.
 use Rattle.std.specs.Prelude.{ℕ, List, [], Option, Some, None}
 use Rattle.std.specs.BTreeMap as map
-use Rattle.touched_pairs.specs.Marks.{by_pair, pair_place}
+use Rattle.touched_blocks.specs.Marks.{by_pair, pair_place}
 use Rattle.shared_trees.specs.declared.starts.Listed.{Listed}
 use Rattle.shared_trees.specs.declared.starts.Start.{Start}
 use Rattle.shared_trees.specs.declared.starts.Starts.{Starts}

@@ -9,8 +9,8 @@ use Rattle.node_reader.specs.Stored.{CopyFault, Stored}
 use Rattle.node_reader.specs.declared.expect.Expect.{Expect}
 use Rattle.records.specs.Seen.{Seen}
 use Rattle.records.specs.Seen.Seen.{BlockSeen}
-use Rattle.touched_pairs.specs.Marking.{AreMarkedFrom}
-use Rattle.touched_pairs.specs.Marks.{no_mark}
+use Rattle.touched_blocks.specs.Marking.{AreMarkedFrom}
+use Rattle.touched_blocks.specs.Marks.{no_mark}
 use Rattle.shared_trees.specs.Keeping.{Marks, Under, anew_of, kept_of}
 use Rattle.shared_trees.specs.Listed.{AreListedBy}
 use Rattle.shared_trees.specs.OldSide.{kept_at}

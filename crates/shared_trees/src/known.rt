@@ -4,8 +4,8 @@ ghost use Rattle.std.specs.Prelude.{◌≡◌, ◌+◌, ◌-◌, ◌∷◌, ◌<
 ghost use Rattle.std.specs.Option.{option_copied};
 ghost use Rattle.std.proofs.Props.{props};
 ghost use Rattle.live_index.specs.Table.{pairs_of};
-ghost use Rattle.touched_pairs.specs.Marks.{marked_by};
-ghost use Rattle.touched_pairs.specs.Moves.{move_passes};
+ghost use Rattle.touched_blocks.specs.Marks.{marked_by};
+ghost use Rattle.touched_blocks.specs.Moves.{move_passes};
 ghost use Rattle.shared_trees.specs.Keeping.{anew_of, bound_of, is_first, is_same, last_if_same, or_high, start_of, starts_of};
 ghost use Rattle.shared_trees.specs.Known.{AreMetBy, is_last_walked};
 ghost use Rattle.shared_trees.specs.Under.{under_of};
@@ -16,7 +16,7 @@ use crate::starts::{Start, Starts};
 use live_index::{InKeyOrder, Live, LiveIndex};
 use node_reader::Expect;
 use recon_disk::Steps;
-use touched_pairs::{AddressTest, Marks, Move};
+use touched_blocks::{AddressTest, Marks, Move};
 use verdict::{Key, NoMemory};
 
 /// What is known of a tree as it was: its live pairs, marks on those that are not kept, which blocks stand at another place now, and the

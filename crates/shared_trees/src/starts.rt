@@ -2,7 +2,7 @@
 
 ghost use Rattle.std.specs.Prelude.{◌≡◌, ℕ, ◌+◌, ◌*◌, ◌≤◌, IfOk, OnOk};
 ghost use Rattle.live_index.specs.Table.{pairs_of};
-ghost use Rattle.touched_pairs.specs.Marks.{count_of, marked_by, with_mark};
+ghost use Rattle.touched_blocks.specs.Marks.{count_of, marked_by, with_mark};
 ghost use Rattle.shared_trees.specs.Keeping.{Marks as IsMarked};
 ghost use Rattle.shared_trees.specs.Listed.{AreListedBy, is_before, up_to};
 ghost use Rattle.shared_trees.specs.Listing.{IsChildAt, rank_of, with_child, with_start};
@@ -13,7 +13,7 @@ use node_reader::Pointer;
 use recon_disk::Steps;
 use std::alloc::Global;
 use std::collections::BTreeMap;
-use touched_pairs::{Marks, PairPlace, parent_of};
+use touched_blocks::{Marks, PairPlace, parent_of};
 use verdict::{Key, NoMemory};
 
 /// A child that is walked below a block that is not read.

@@ -20,13 +20,13 @@ use Rattle.node_reader.specs.Stored.CopyFault.{NoPlace}
 use Rattle.node_reader.specs.declared.expect.Expect.{Expect}
 use Rattle.records.specs.Contents.{chunk_tree_root}
 use Rattle.records.specs.WalkLaw.{visited}
-use Rattle.touched_pairs.specs.Looks.{ArePlaced, has_place}
-use Rattle.touched_pairs.specs.Marking.{AreLow, ClimbsTo, HaveEach, if_above}
-use Rattle.touched_pairs.specs.Marking.ClimbsTo.{Here, Up}
-use Rattle.touched_pairs.specs.Marks.{AreAmong, Marked, in_lives}
-use Rattle.touched_pairs.specs.Moves.{is_moved}
-use Rattle.touched_pairs.specs.Spots.{at_address}
-use Rattle.touched_pairs.specs.Touched.{stays_in_place, written_in}
+use Rattle.touched_blocks.specs.Looks.{ArePlaced, has_place}
+use Rattle.touched_blocks.specs.Marking.{AreLow, ClimbsTo, HaveEach, if_above}
+use Rattle.touched_blocks.specs.Marking.ClimbsTo.{Here, Up}
+use Rattle.touched_blocks.specs.Marks.{AreAmong, Marked, in_lives}
+use Rattle.touched_blocks.specs.Moves.{is_moved}
+use Rattle.touched_blocks.specs.Spots.{at_address}
+use Rattle.touched_blocks.specs.Touched.{stays_in_place, written_in}
 use Rattle.shared_trees.specs.ArrayLaw.{EachByArray, HasArray, IsAsByAll, moves_by}
 use Rattle.shared_trees.specs.Keeping.{IsKnown, OneOf, Stands, comes_to, live_at}
 use Rattle.shared_trees.specs.LivePairs.{Walked, live_in, table_of, walked}

@@ -11,9 +11,9 @@ use Rattle.live_index.specs.declared.live.Live.{Live}
 use Rattle.super_reader.specs.Superblock.{array_place}
 use Rattle.volume_items.specs.SystemArray.{array_chunks}
 use Rattle.records.specs.Contents.{chunk_map_in, contents}
-use Rattle.touched_pairs.specs.Marks.{marked_by}
-use Rattle.touched_pairs.specs.Touched.{written_in}
-use Rattle.touched_pairs.specs.declared.marks.PairPlace.{PairPlace}
+use Rattle.touched_blocks.specs.Marks.{marked_by}
+use Rattle.touched_blocks.specs.Touched.{written_in}
+use Rattle.touched_blocks.specs.declared.marks.PairPlace.{PairPlace}
 use Rattle.shared_trees.specs.LivePairs.{Walked, walked}
 use Rattle.shared_trees.specs.Shared.{unshared_in}
 use Rattle.shared_trees.specs.SharedLaw.{HasTrees}

@@ -23,13 +23,13 @@ use Rattle.records.specs.Contents.{all_records, chunk_map_in, chunk_tree_root, r
 use Rattle.records.specs.Seen.{Seen}
 use Rattle.records.specs.Walk.{walk_in}
 use Rattle.records.specs.WalkLaw.{visited}
-use Rattle.touched_pairs.specs.Looks.{ArePlaced, NoneMeet, copies_of, has_place}
-use Rattle.touched_pairs.specs.Marking.{AreLow, AreMarked, ClimbsTo, HaveEach, marks_for}
-use Rattle.touched_pairs.specs.Marks.{AreAmong, count_of, in_lives, marked_by, no_mark}
-use Rattle.touched_pairs.specs.Moves.{AreApart, is_moved}
-use Rattle.touched_pairs.specs.OneTree.{in_tree, of_tree}
-use Rattle.touched_pairs.specs.Spots.{at_address}
-use Rattle.touched_pairs.specs.Touched.{same_place, touches_block, written_in}
+use Rattle.touched_blocks.specs.Looks.{ArePlaced, NoneMeet, copies_of, has_place}
+use Rattle.touched_blocks.specs.Marking.{AreLow, AreMarked, ClimbsTo, HaveEach, marks_for}
+use Rattle.touched_blocks.specs.Marks.{AreAmong, count_of, in_lives, marked_by, no_mark}
+use Rattle.touched_blocks.specs.Moves.{AreApart, is_moved}
+use Rattle.touched_blocks.specs.OneTree.{in_tree, of_tree}
+use Rattle.touched_blocks.specs.Spots.{at_address}
+use Rattle.touched_blocks.specs.Touched.{same_place, touches_block, written_in}
 use Rattle.shared_trees.specs.ArrayLaw.{HasArray, IsAsByAll}
 use Rattle.shared_trees.specs.Keeping.{live_at}
 use Rattle.shared_trees.specs.LivePairs.{Walked, live_in, walked}

@@ -19,7 +19,7 @@ use Rattle.records.specs.Contents.{chunk_tree_root}
 use Rattle.records.specs.Seen.{Seen}
 use Rattle.records.specs.Walk.{walk_of}
 use Rattle.records.specs.WalkLaw.{visited}
-use Rattle.touched_pairs.specs.Touched.{Written, same_place, touches_block, written_in}
+use Rattle.touched_blocks.specs.Touched.{Written, same_place, touches_block, written_in}
 use Rattle.shared_trees.specs.ArrayLaw.{HasArray, IsAsByAll}
 use Rattle.shared_trees.specs.Keeping.{live_at}
 use Rattle.shared_trees.specs.LivePairs.{Walked, live_in}

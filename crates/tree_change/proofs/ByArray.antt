@@ -22,13 +22,13 @@ use Rattle.records.specs.Contents.{chunk_map_in, chunk_tree_root}
 use Rattle.block_source.specs.Gives.{Gives}
 use Rattle.block_source.specs.declared.halt.Halt.{Halt}
 use Rattle.block_source.specs.declared.halt.Halt.TheVariants.{Found, Disk, NoMemory}
-use Rattle.touched_pairs.specs.Marking.{AreMarkedFrom}
-use Rattle.touched_pairs.specs.Marks.{marked_by, no_mark}
-use Rattle.touched_pairs.specs.Moves.{held_and_moved, is_moved, move_passes}
-use Rattle.touched_pairs.specs.declared.moved.Move.{Move}
-use Rattle.touched_pairs.specs.OneTree.{in_tree}
-use Rattle.touched_pairs.specs.Spots.{at_address}
-use Rattle.touched_pairs.specs.Touched.{touches_block, written_in}
+use Rattle.touched_blocks.specs.Marking.{AreMarkedFrom}
+use Rattle.touched_blocks.specs.Marks.{marked_by, no_mark}
+use Rattle.touched_blocks.specs.Moves.{held_and_moved, is_moved, move_passes}
+use Rattle.touched_blocks.specs.declared.moved.Move.{Move}
+use Rattle.touched_blocks.specs.OneTree.{in_tree}
+use Rattle.touched_blocks.specs.Spots.{at_address}
+use Rattle.touched_blocks.specs.Touched.{touches_block, written_in}
 use Rattle.shared_trees.specs.ArrayLaw.{HasArray}
 use Rattle.shared_trees.specs.ArrayMoves.{LieApartOrSame}
 use Rattle.shared_trees.specs.Keeping.{Marks, Under}

@@ -17,13 +17,13 @@ use Rattle.node_reader.specs.Stored.{stored_in}
 use Rattle.records.specs.Contents.{root_items_in, root_tree_root}
 use Rattle.block_source.specs.declared.halt.Halt.{Halt}
 use Rattle.block_source.specs.declared.halt.Halt.TheVariants.{Found, Disk, NoMemory}
-use Rattle.touched_pairs.specs.Marking.{AreMarked, AreMarkedFrom}
-use Rattle.touched_pairs.specs.Marks.{Marked, marked_by, no_mark}
-use Rattle.touched_pairs.specs.Moves.{AreApart, held_and_moved, is_moved, move_passes}
-use Rattle.touched_pairs.specs.Spots.{at_address}
-use Rattle.touched_pairs.specs.Touched.{touches_block, written_in}
-use Rattle.touched_pairs.specs.declared.marks.Marks.{Marks}
-use Rattle.touched_pairs.specs.declared.moved.Move.{Move}
+use Rattle.touched_blocks.specs.Marking.{AreMarked, AreMarkedFrom}
+use Rattle.touched_blocks.specs.Marks.{Marked, marked_by, no_mark}
+use Rattle.touched_blocks.specs.Moves.{AreApart, held_and_moved, is_moved, move_passes}
+use Rattle.touched_blocks.specs.Spots.{at_address}
+use Rattle.touched_blocks.specs.Touched.{touches_block, written_in}
+use Rattle.touched_blocks.specs.declared.marks.Marks.{Marks}
+use Rattle.touched_blocks.specs.declared.moved.Move.{Move}
 use Rattle.shared_trees.specs.Keeping.{Under}
 use Rattle.shared_trees.specs.Listed.{AreListedBy}
 use Rattle.shared_trees.specs.LivePairs.{Walked, live_in, table_of}

@@ -8,11 +8,11 @@ use Rattle.live_index.specs.Pairs.{AreNarrow, Pairs}
 use Rattle.node_reader.specs.Stored.{Stored}
 use Rattle.node_reader.specs.declared.expect.Expect.{Expect}
 use Rattle.records.specs.WalkLaw.{visited}
-use Rattle.touched_pairs.specs.Marking.{AreMarkedFrom}
-use Rattle.touched_pairs.specs.Marks.{Marked, no_mark}
-use Rattle.touched_pairs.specs.Moves.{is_moved}
-use Rattle.touched_pairs.specs.Spots.{at_address}
-use Rattle.touched_pairs.specs.Touched.{Written, stays_in_place, touches_block}
+use Rattle.touched_blocks.specs.Marking.{AreMarkedFrom}
+use Rattle.touched_blocks.specs.Marks.{Marked, no_mark}
+use Rattle.touched_blocks.specs.Moves.{is_moved}
+use Rattle.touched_blocks.specs.Spots.{at_address}
+use Rattle.touched_blocks.specs.Touched.{Written, stays_in_place, touches_block}
 use Rattle.shared_trees.specs.Keeping.{AreMarked, Marks, Stands, Under, comes_to}
 use Rattle.shared_trees.specs.Listed.{AreListedBy}
 use Rattle.shared_trees.specs.LivePairs.{Walked}

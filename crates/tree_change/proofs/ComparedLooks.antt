@@ -17,12 +17,12 @@ use Rattle.super_reader.specs.declared.Super.{Super}
 use Rattle.super_reader.specs.Superblock.{array_place}
 use Rattle.volume_items.specs.declared.root_at.RootAt.{RootAt}
 use Rattle.volume_items.specs.SystemArray.{array_chunks}
-use Rattle.touched_pairs.specs.Looks.{ArePlaced, NoneMeet, copies_of}
-use Rattle.touched_pairs.specs.Marks.{AreAmong, count_of, marked_by}
-use Rattle.touched_pairs.specs.Moves.{AreApart, is_moved, move_passes}
-use Rattle.touched_pairs.specs.OneTree.{of_tree}
-use Rattle.touched_pairs.specs.declared.marks.Marks.{Marks}
-use Rattle.touched_pairs.specs.declared.moved.Move.{Move}
+use Rattle.touched_blocks.specs.Looks.{ArePlaced, NoneMeet, copies_of}
+use Rattle.touched_blocks.specs.Marks.{AreAmong, count_of, marked_by}
+use Rattle.touched_blocks.specs.Moves.{AreApart, is_moved, move_passes}
+use Rattle.touched_blocks.specs.OneTree.{of_tree}
+use Rattle.touched_blocks.specs.declared.marks.Marks.{Marks}
+use Rattle.touched_blocks.specs.declared.moved.Move.{Move}
 use Rattle.shared_trees.specs.Shared.{are_read_alike}
 use Rattle.shared_trees.specs.Under.{under_of}
 use Rattle.shared_trees.specs.declared.starts.Starts.{Starts}

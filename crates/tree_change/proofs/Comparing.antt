@@ -8,9 +8,9 @@ use Rattle.super_reader.specs.Superblock.{array_place}
 use Rattle.volume_items.specs.SystemArray.{array_chunks}
 use Rattle.records.specs.Contents.{chunk_map_in, contents}
 use Rattle.live_index.specs.Table.{pairs_of}
-use Rattle.touched_pairs.specs.Marks.{marked_by}
-use Rattle.touched_pairs.specs.Touched.{written_in}
-use Rattle.touched_pairs.specs.declared.marks.PairPlace.{PairPlace}
+use Rattle.touched_blocks.specs.Marks.{marked_by}
+use Rattle.touched_blocks.specs.Touched.{written_in}
+use Rattle.touched_blocks.specs.declared.marks.PairPlace.{PairPlace}
 use Rattle.block_source.specs.Gives.{IsOutcome}
 use Rattle.block_source.specs.declared.halt.Halt.{Halt}
 use Rattle.block_source.specs.declared.halt.Halt.TheVariants.{Found, Disk, NoMemory}

@@ -25,7 +25,7 @@ use Rattle.records.specs.Item.{chunk_tree_record, item_record, record_in, unlist
 use Rattle.records.specs.Part.{Located, Part}
 use Rattle.records.specs.Part.Part.{ChunkPart, DevicePart}
 use Rattle.records.specs.Walk.{walk_in}
-use Rattle.touched_pairs.specs.Looks.{EndsBefore, NoneMeet, copies_of, copy_at, with_second}
+use Rattle.touched_blocks.specs.Looks.{EndsBefore, NoneMeet, copies_of, copy_at, with_second}
 use Rattle.shared_trees.specs.LivePairs.{Walked, walked}
 use Rattle.shared_trees.specs.MergedLaw.{chunk_in, chunks_seen, items}
 use Rattle.shared_trees.proofs.ArrayTree.{put_each}

@@ -11,7 +11,7 @@ use Rattle.live_index.specs.Pairs.{Pairs}
 use Rattle.super_reader.specs.declared.Super.{Super}
 use Rattle.volume_items.specs.declared.root_at.RootAt.{RootAt}
 use Rattle.records.specs.Contents.{contents, superblock_in}
-use Rattle.touched_pairs.specs.Touched.{written_in}
+use Rattle.touched_blocks.specs.Touched.{written_in}
 use Rattle.block_source.specs.Gives.{told}
 use Rattle.block_source.specs.declared.halt.Halt.{Halt}
 use Rattle.block_source.specs.declared.halt.Halt.TheVariants.{Found, Disk, NoMemory}

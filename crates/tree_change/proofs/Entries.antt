@@ -15,8 +15,8 @@ use Rattle.node_reader.specs.declared.expect.Expect.{Expect}
 use Rattle.node_reader.specs.declared.expect.Pointer.{Pointer}
 use Rattle.records.specs.Walk.{children_of}
 use Rattle.records.specs.WalkLaw.{children_in, visited, visited_from}
-use Rattle.touched_pairs.specs.Marking.{marks_at, marks_by, marks_for, parent_of}
-use Rattle.touched_pairs.proofs.Marking.{above_is}
+use Rattle.touched_blocks.specs.Marking.{marks_at, marks_by, marks_for, parent_of}
+use Rattle.touched_blocks.proofs.Marking.{above_is}
 use Rattle.shared_trees.specs.Keeping.{IsKnown, OneOf, Stands, live_at}
 use Rattle.shared_trees.specs.LivePairs.{Walked, live_in, table_of, walked}
 use Rattle.shared_trees.specs.SharedLaw.{HasTrees}

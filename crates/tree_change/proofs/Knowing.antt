@@ -8,12 +8,12 @@ use Rattle.verdict.specs.declared.place.Chunk.{Chunk}
 use Rattle.volume_items.specs.declared.root.RootItem.{RootItem}
 use Rattle.live_index.specs.Pairs.{AreNarrow, Pairs}
 use Rattle.records.specs.Contents.{chunk_tree_root}
-use Rattle.touched_pairs.specs.Marking.{AreMarkedFrom, ClimbsTo}
-use Rattle.touched_pairs.specs.Marks.{Marked, no_mark}
-use Rattle.touched_pairs.specs.Moves.{held_and_moved, is_moved}
-use Rattle.touched_pairs.specs.OneTree.{in_tree}
-use Rattle.touched_pairs.specs.Spots.{at_address}
-use Rattle.touched_pairs.specs.Touched.{same_place, written_in}
+use Rattle.touched_blocks.specs.Marking.{AreMarkedFrom, ClimbsTo}
+use Rattle.touched_blocks.specs.Marks.{Marked, no_mark}
+use Rattle.touched_blocks.specs.Moves.{held_and_moved, is_moved}
+use Rattle.touched_blocks.specs.OneTree.{in_tree}
+use Rattle.touched_blocks.specs.Spots.{at_address}
+use Rattle.touched_blocks.specs.Touched.{same_place, written_in}
 use Rattle.shared_trees.specs.ArrayLaw.{HasArray}
 use Rattle.shared_trees.specs.Keeping.{AreMarked, Marks, Stands, Under}
 use Rattle.shared_trees.specs.Listed.{AreListedBy}

@@ -5,10 +5,10 @@ use Rattle.verdict.specs.declared.place.Chunk.{Chunk}
 use Rattle.super_reader.specs.declared.Super.{Super}
 use Rattle.live_index.specs.Pairs.{Pairs}
 use Rattle.live_index.specs.Table.{pairs_of}
-use Rattle.touched_pairs.specs.Marking.{AreMarked, ClimbsTo}
-use Rattle.touched_pairs.specs.Marks.{Marked, marked_by, no_mark}
-use Rattle.touched_pairs.specs.Spots.{at_address}
-use Rattle.touched_pairs.specs.Touched.{touches_block, written_in}
+use Rattle.touched_blocks.specs.Marking.{AreMarked, ClimbsTo}
+use Rattle.touched_blocks.specs.Marks.{Marked, marked_by, no_mark}
+use Rattle.touched_blocks.specs.Spots.{at_address}
+use Rattle.touched_blocks.specs.Touched.{touches_block, written_in}
 use Rattle.shared_trees.specs.LivePairs.{Walked}
 use Rattle.shared_trees.specs.Shared.{are_read_alike}
 use Rattle.shared_trees.specs.TableLaw.{Tree, trees_in}

@@ -6,12 +6,12 @@ use Rattle.verdict.specs.Chunks.{home, place, place_in}
 use Rattle.verdict.specs.declared.place.Chunk.{Chunk}
 use Rattle.live_index.specs.Pairs.{AreNarrow, Pairs}
 use Rattle.live_index.specs.declared.live.Live.{Live}
-use Rattle.touched_pairs.specs.Looks.{ArePlaced, has_place}
-use Rattle.touched_pairs.specs.Marking.{AreMarkedFrom, HaveEach, marks_at, marks_by, marks_for, parent_of}
-use Rattle.touched_pairs.specs.Marks.{AreAmong, Marked, left_of, no_mark}
-use Rattle.touched_pairs.specs.Moves.{held_and_moved, is_moved}
-use Rattle.touched_pairs.specs.OneTree.{in_tree, of_tree}
-use Rattle.touched_pairs.specs.Spots.{at_address}
+use Rattle.touched_blocks.specs.Looks.{ArePlaced, has_place}
+use Rattle.touched_blocks.specs.Marking.{AreMarkedFrom, HaveEach, marks_at, marks_by, marks_for, parent_of}
+use Rattle.touched_blocks.specs.Marks.{AreAmong, Marked, left_of, no_mark}
+use Rattle.touched_blocks.specs.Moves.{held_and_moved, is_moved}
+use Rattle.touched_blocks.specs.OneTree.{in_tree, of_tree}
+use Rattle.touched_blocks.specs.Spots.{at_address}
 use Rattle.tree_change.proofs.Accepting.{in_left}
 
 -- a place is that of a chunk

@@ -18,8 +18,8 @@ use Rattle.records.specs.Contents.{chunk_tree_root, named_root, root_tree_root, 
 use Rattle.records.specs.Seen.{Seen}
 use Rattle.records.specs.Walk.{Records, behind, then_records, walk_in, walk_of}
 use Rattle.records.specs.WalkLaw.{visited}
-use Rattle.touched_pairs.specs.Marks.{no_mark}
-use Rattle.touched_pairs.specs.Touched.{written_in}
+use Rattle.touched_blocks.specs.Marks.{no_mark}
+use Rattle.touched_blocks.specs.Touched.{written_in}
 use Rattle.shared_trees.specs.Ending.{ends_in}
 use Rattle.shared_trees.specs.Keeping.{Stands, anew_of}
 use Rattle.shared_trees.specs.KeepingWalk.{skip_in}

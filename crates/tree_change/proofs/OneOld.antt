@@ -19,8 +19,8 @@ use Rattle.records.specs.Contents.{named_root}
 use Rattle.records.specs.Seen.{Seen}
 use Rattle.records.specs.Walk.{Records, behind, each, then_records, walk_in, walk_of}
 use Rattle.records.specs.WalkLaw.{visited}
-use Rattle.touched_pairs.specs.Marks.{no_mark}
-use Rattle.touched_pairs.specs.Touched.{stays_in_place, written_in}
+use Rattle.touched_blocks.specs.Marks.{no_mark}
+use Rattle.touched_blocks.specs.Touched.{stays_in_place, written_in}
 use Rattle.shared_trees.specs.Ending.{Ends}
 use Rattle.shared_trees.specs.KeepingWalk.{skip_in}
 use Rattle.shared_trees.specs.Keeping.{AreListed, AreMarked, AreUntouched, Marks, Stands, Under, anew_of, kept_of, live_at, starts_of}

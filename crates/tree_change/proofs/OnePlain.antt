@@ -14,8 +14,8 @@ use Rattle.node_reader.specs.Stored.{Stored}
 use Rattle.node_reader.specs.declared.expect.Expect.{Expect}
 use Rattle.records.specs.Walk.{walk_of}
 use Rattle.records.specs.WalkLaw.{visited}
-use Rattle.touched_pairs.specs.Marks.{no_mark}
-use Rattle.touched_pairs.specs.Touched.{stays_in_place, written_in}
+use Rattle.touched_blocks.specs.Marks.{no_mark}
+use Rattle.touched_blocks.specs.Touched.{stays_in_place, written_in}
 use Rattle.shared_trees.specs.Ending.{ends_in}
 use Rattle.shared_trees.specs.Keeping.{AreMarked, AreUntouched, Marks, Under, kept_of, last_if_same}
 use Rattle.shared_trees.specs.KeepingWalk.{skip_in}

@@ -10,7 +10,7 @@ use Rattle.live_index.specs.declared.live.Live.{Live}
 use Rattle.node_reader.specs.declared.expect.Expect.{Expect}
 use Rattle.records.specs.Part.{Located}
 use Rattle.records.specs.Seen.{Seen}
-use Rattle.touched_pairs.specs.Touched.{Written, written_in}
+use Rattle.touched_blocks.specs.Touched.{Written, written_in}
 use Rattle.shared_trees.specs.LivePairs.{Walked, live_in}
 use Rattle.shared_trees.specs.MergedLaw.{items}
 use Rattle.shared_trees.specs.ShiftedLaw.{is_shifted}

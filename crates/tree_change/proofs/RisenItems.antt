@@ -25,8 +25,8 @@ use Rattle.records.specs.Seen.{Seen}
 use Rattle.records.specs.Seen.Seen.{BlockSeen, ItemSeen, PointerSeen}
 use Rattle.records.specs.Walk.{each, entry_records, just, leaf_record, leaf_records, pointer_records, walk_of}
 use Rattle.records.specs.WalkLaw.{visited, visited_from}
-use Rattle.touched_pairs.specs.Marks.{Marked}
-use Rattle.touched_pairs.specs.Touched.{written_in}
+use Rattle.touched_blocks.specs.Marks.{Marked}
+use Rattle.touched_blocks.specs.Touched.{written_in}
 use Rattle.shared_trees.specs.Keeping.{Stands, comes_to, live_at}
 use Rattle.shared_trees.specs.LivePairs.{Walked, live_in, table_of}
 use Rattle.shared_trees.specs.MergedLaw.{items}

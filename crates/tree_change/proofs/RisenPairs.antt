@@ -12,9 +12,9 @@ use Rattle.write_cache.specs.Cache.{overlaid}
 use Rattle.live_index.specs.Pairs.{Pairs}
 use Rattle.live_index.specs.declared.live.Live.{Live}
 use Rattle.node_reader.specs.Stored.{stored_in}
-use Rattle.touched_pairs.specs.Marks.{Marked, by_pair, marked_in}
-use Rattle.touched_pairs.specs.declared.marks.PairPlace.{PairPlace}
-use Rattle.touched_pairs.specs.Touched.{stays_in_place, touches_block, written_in}
+use Rattle.touched_blocks.specs.Marks.{Marked, by_pair, marked_in}
+use Rattle.touched_blocks.specs.declared.marks.PairPlace.{PairPlace}
+use Rattle.touched_blocks.specs.Touched.{stays_in_place, touches_block, written_in}
 use Rattle.shared_trees.specs.Keeping.{owner_in}
 use Rattle.shared_trees.specs.LivePairs.{Walked, live_in, table_of}
 use Rattle.shared_trees.specs.Shared.{are_alike, are_read_alike}

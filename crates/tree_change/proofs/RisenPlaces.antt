@@ -13,8 +13,8 @@ use Rattle.live_index.specs.declared.live.Live.{Live}
 use Rattle.node_reader.specs.Stored.{Stored, stored_in}
 use Rattle.node_reader.specs.declared.expect.Expect.{Expect}
 use Rattle.records.specs.WalkLaw.{visited}
-use Rattle.touched_pairs.specs.Marks.{Marked, by_pair, in_lives, marked_in}
-use Rattle.touched_pairs.specs.declared.marks.PairPlace.{PairPlace}
+use Rattle.touched_blocks.specs.Marks.{Marked, by_pair, in_lives, marked_in}
+use Rattle.touched_blocks.specs.declared.marks.PairPlace.{PairPlace}
 use Rattle.shared_trees.specs.Keeping.{live_at, owner_in}
 use Rattle.shared_trees.specs.LivePairs.{Walked, live_in, table_of}
 use Rattle.shared_trees.specs.Shared.{are_alike}

@@ -13,7 +13,7 @@ use Rattle.node_reader.specs.Stored.{Stored}
 use Rattle.node_reader.specs.declared.expect.Expect.{Expect}
 use Rattle.records.specs.Seen.{Seen}
 use Rattle.records.specs.WalkLaw.{visited, visited_from}
-use Rattle.touched_pairs.specs.Touched.{stays_in_place, written_in}
+use Rattle.touched_blocks.specs.Touched.{stays_in_place, written_in}
 use Rattle.shared_trees.specs.Keeping.{AreMarked, Marks, Stands, comes_to, first_in, live_at}
 use Rattle.shared_trees.specs.LivePairs.{Walked, live_in, table_of}
 use Rattle.shared_trees.specs.Shared.{are_alike, are_read_alike, is_shared, is_shared_by, stands_untouched}

@@ -7,8 +7,8 @@ use Rattle.std.proofs.lemmas.List.Elements.{filter-append}
 use Rattle.std.proofs.lemmas.List.Folds.{list_any-append}
 use Rattle.live_index.specs.Pairs.{Pairs}
 use Rattle.live_index.specs.declared.live.Live.{Live}
-use Rattle.touched_pairs.specs.Marks.{Marked, in_lives, is_pair, marked_in, with_mark}
-use Rattle.touched_pairs.specs.declared.marks.PairPlace.{PairPlace}
+use Rattle.touched_blocks.specs.Marks.{Marked, in_lives, is_pair, marked_in, with_mark}
+use Rattle.touched_blocks.specs.declared.marks.PairPlace.{PairPlace}
 use Rattle.tree_change.specs.Rising.{is_free, is_left, is_marked, risen_at, risen_by, unmoved_at, unmoved_by, with_risen}
 use Rattle.tree_change.specs.Walks.{Parts}
 

@@ -7,12 +7,12 @@ use Rattle.verdict.specs.declared.place.Chunk.{Chunk}
 use Rattle.write_cache.specs.Cache.{overlaid}
 use Rattle.live_index.specs.Pairs.{AreNarrow, Pairs}
 use Rattle.live_index.specs.declared.live.Live.{Live}
-use Rattle.touched_pairs.specs.Looks.{ArePlaced, NoneMeet, copies_of}
-use Rattle.touched_pairs.specs.Marking.{AreLow, AreMarked, HaveEach}
-use Rattle.touched_pairs.specs.Marks.{AreAmong, Marked, in_lives, no_mark}
-use Rattle.touched_pairs.specs.Moves.{AreApart, is_moved}
-use Rattle.touched_pairs.specs.Spots.{at_address}
-use Rattle.touched_pairs.specs.Touched.{touches_block, written_in}
+use Rattle.touched_blocks.specs.Looks.{ArePlaced, NoneMeet, copies_of}
+use Rattle.touched_blocks.specs.Marking.{AreLow, AreMarked, HaveEach}
+use Rattle.touched_blocks.specs.Marks.{AreAmong, Marked, in_lives, no_mark}
+use Rattle.touched_blocks.specs.Moves.{AreApart, is_moved}
+use Rattle.touched_blocks.specs.Spots.{at_address}
+use Rattle.touched_blocks.specs.Touched.{touches_block, written_in}
 use Rattle.shared_trees.specs.ArrayLaw.{HasArray}
 use Rattle.shared_trees.specs.LivePairs.{Walked, live_in, table_of, walked}
 use Rattle.shared_trees.specs.Shared.{unshared_in}

@@ -16,13 +16,13 @@ use Rattle.volume_items.specs.SystemArray.{array_chunks}
 use Rattle.volume_items.specs.declared.root_at.RootAt.{RootAt}
 use Rattle.records.specs.Contents.{chunk_map_in, chunk_tree_root, root_tree_root}
 use Rattle.block_source.specs.declared.read.BlockSource.{BlockSource}
-use Rattle.touched_pairs.specs.Looks.{ArePlaced, NoneMeet, copies_of}
-use Rattle.touched_pairs.specs.Marking.{AreLow, AreMarkedFrom, HaveEach, marks_for}
-use Rattle.touched_pairs.specs.Marks.{AreAmong, count_of, left_of, marked_by, no_mark}
-use Rattle.touched_pairs.specs.Moves.{AreApart, held_and_moved, is_moved}
-use Rattle.touched_pairs.specs.OneTree.{in_tree, of_tree}
-use Rattle.touched_pairs.specs.Spots.{at_address}
-use Rattle.touched_pairs.specs.Touched.{written_in}
+use Rattle.touched_blocks.specs.Looks.{ArePlaced, NoneMeet, copies_of}
+use Rattle.touched_blocks.specs.Marking.{AreLow, AreMarkedFrom, HaveEach, marks_for}
+use Rattle.touched_blocks.specs.Marks.{AreAmong, count_of, left_of, marked_by, no_mark}
+use Rattle.touched_blocks.specs.Moves.{AreApart, held_and_moved, is_moved}
+use Rattle.touched_blocks.specs.OneTree.{in_tree, of_tree}
+use Rattle.touched_blocks.specs.Spots.{at_address}
+use Rattle.touched_blocks.specs.Touched.{written_in}
 use Rattle.shared_trees.specs.ArrayMoves.{LieApartOrSame}
 use Rattle.shared_trees.specs.Keeping.{Marks, Under}
 use Rattle.shared_trees.specs.Listed.{AreListedBy}

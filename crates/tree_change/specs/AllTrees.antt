@@ -14,8 +14,8 @@ use Rattle.node_reader.specs.declared.expect.Expect.{Expect}
 use Rattle.records.specs.Contents.{chunk_tree_root, root_expected, root_tree_root, tree_records}
 use Rattle.records.specs.Part.{Located}
 use Rattle.records.specs.Seen.{Seen}
-use Rattle.touched_pairs.specs.Moves.{is_moved}
-use Rattle.touched_pairs.specs.Touched.{written_in}
+use Rattle.touched_blocks.specs.Moves.{is_moved}
+use Rattle.touched_blocks.specs.Touched.{written_in}
 use Rattle.volume_items.specs.declared.root.RootItem.{RootItem}
 use Rattle.volume_items.specs.declared.root_at.RootAt.{RootAt}
 use Rattle.shared_trees.specs.ArrayLaw.{HasArray}

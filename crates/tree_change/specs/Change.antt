@@ -18,7 +18,7 @@ use Rattle.records.specs.FullCheck.{full_check}
 use Rattle.records.specs.Part.{Located}
 use Rattle.shared_trees.specs.LivePairs.{Walked, live_in, table_of, walked}
 use Rattle.shared_trees.specs.Shared.{unshared_in}
-use Rattle.touched_pairs.specs.Touched.{Written, written_in}
+use Rattle.touched_blocks.specs.Touched.{Written, written_in}
 use Rattle.shared_trees.specs.MergedLaw.{IsInOrder}
 use Rattle.shared_trees.specs.ShiftedLaw.{shifted_in}
 use Rattle.shared_trees.specs.Unshared.{items_in}

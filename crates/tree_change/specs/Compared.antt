@@ -18,10 +18,10 @@ use Rattle.records.specs.Contents.{chunk_map_in, chunk_tree_root, contents, root
 use Rattle.records.specs.Seen.{Seen}
 use Rattle.block_source.specs.declared.halt.Halt.{Halt}
 use Rattle.block_source.specs.declared.halt.Halt.TheVariants.{Found}
-use Rattle.touched_pairs.specs.Marking.{AreMarked}
-use Rattle.touched_pairs.specs.Marks.{marked_by, no_mark}
-use Rattle.touched_pairs.specs.Spots.{at_address}
-use Rattle.touched_pairs.specs.Touched.{touches_block, written_in}
+use Rattle.touched_blocks.specs.Marking.{AreMarked}
+use Rattle.touched_blocks.specs.Marks.{marked_by, no_mark}
+use Rattle.touched_blocks.specs.Spots.{at_address}
+use Rattle.touched_blocks.specs.Touched.{touches_block, written_in}
 use Rattle.shared_trees.specs.LivePairs.{Walked, live_in, table_of, walked}
 use Rattle.shared_trees.specs.Shared.{are_read_alike}
 use Rattle.shared_trees.specs.SharedLaw.{HasTrees}

@@ -11,8 +11,8 @@ use Rattle.node_reader.specs.Stored.{stored_in}
 use Rattle.node_reader.specs.declared.expect.Expect.{Expect}
 use Rattle.records.specs.Seen.{Seen}
 use Rattle.records.specs.Walk.{walk_in}
-use Rattle.touched_pairs.specs.Moves.{is_moved}
-use Rattle.touched_pairs.specs.Touched.{written_in}
+use Rattle.touched_blocks.specs.Moves.{is_moved}
+use Rattle.touched_blocks.specs.Touched.{written_in}
 use Rattle.shared_trees.specs.Keeping.{Marks}
 use Rattle.shared_trees.specs.LivePairs.{Walked, live_in, table_of}
 use Rattle.shared_trees.specs.MergedLaw.{IsInOrder, begins_before, chunks_seen, roots_seen}

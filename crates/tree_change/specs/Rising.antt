@@ -7,10 +7,10 @@ use Rattle.std.specs.FinMap.{FinMap}
 use Rattle.write_cache.specs.Cache.{overlaid}
 use Rattle.live_index.specs.Pairs.{Pairs}
 use Rattle.live_index.specs.declared.live.Live.{Live}
-use Rattle.touched_pairs.specs.Marks.{Marked, by_pair, in_lives, marked_in}
-use Rattle.touched_pairs.specs.declared.marks.PairPlace.{PairPlace}
+use Rattle.touched_blocks.specs.Marks.{Marked, by_pair, in_lives, marked_in}
+use Rattle.touched_blocks.specs.declared.marks.PairPlace.{PairPlace}
 use Rattle.records.specs.Part.{Located}
-use Rattle.touched_pairs.specs.Touched.{written_in}
+use Rattle.touched_blocks.specs.Touched.{written_in}
 use Rattle.shared_trees.specs.LivePairs.{Walked, live_in, table_of}
 use Rattle.shared_trees.specs.MergedLaw.{IsInOrder}
 use Rattle.shared_trees.specs.Shared.{are_read_alike, unshared_in}

@@ -1,8 +1,8 @@
 -- What walks of trees are told, and what they give, as private functions say it.
 use Rattle.std.specs.Prelude.{ℕ, List}
 use Rattle.live_index.specs.Table.{pairs_of}
-use Rattle.touched_pairs.specs.Marks.{marked_by}
-use Rattle.touched_pairs.specs.Moves.{move_passes}
+use Rattle.touched_blocks.specs.Marks.{marked_by}
+use Rattle.touched_blocks.specs.Moves.{move_passes}
 use Rattle.block_source.specs.declared.read.BlockSource.{BlockSource}
 use Rattle.shared_trees.specs.Known.{blocks_met}
 use Rattle.shared_trees.specs.Under.{under_of}

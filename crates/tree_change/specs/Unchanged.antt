@@ -3,7 +3,7 @@ use Rattle.std.specs.Prelude.{ℕ, Bool, false, not, ◌&&◌, ◌||◌, List}
 use Rattle.std.specs.List.{filter}
 use Rattle.verdict.specs.declared.place.Chunk.{Chunk}
 use Rattle.live_index.specs.declared.live.Live.{Live}
-use Rattle.touched_pairs.specs.Touched.{Written, stays_in_place, touches_block}
+use Rattle.touched_blocks.specs.Touched.{Written, stays_in_place, touches_block}
 use Rattle.shared_trees.specs.Keeping.{AreListed, AreMarked, Marks, Under}
 use Rattle.shared_trees.specs.LivePairs.{Walked, live_in}
 use Rattle.shared_trees.specs.Shared.{is_shared_by}

@@ -17,7 +17,7 @@ use chunk_map::ChunkMap;
 use recon_disk::{Disk, Steps};
 use shared_trees::Starts;
 use std::alloc::Global;
-use touched_pairs::{Move, moved_pairs, moved_pairs_of};
+use touched_blocks::{Move, moved_pairs, moved_pairs_of};
 
 /// The new chunks, by what changes in the chunk tree, which is put behind other parts. The new chunk tree is read by these chunks of
 /// the new system array.

@@ -25,7 +25,7 @@ use live_index::LiveIndex;
 use recon_disk::{Disk, Steps};
 use std::alloc::Global;
 use super_reader::Super;
-use touched_pairs::{touched_of, touched_pairs};
+use touched_blocks::{touched_blocks, touched_of};
 use verdict::{Family, Finding, NoMemory, is_node_size};
 use volume_items::RootAt;
 use write_cache::WriteCache;
@@ -108,7 +108,7 @@ fn change_from<D: Disk, L>(
     let nothing = LiveIndex::new(alloc);
     let is_same = are_read_alike(was.sup, fresh);
     let kept = if is_same { table } else { &nothing };
-    let marks = touched_pairs(
+    let marks = touched_blocks(
         alloc,
         kept,
         cache,

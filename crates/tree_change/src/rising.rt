@@ -3,8 +3,8 @@
 ghost use Rattle.std.specs.Prelude.{◌≡◌, ℕ, ◌+◌, ◌≤◌, ◌++◌, List, length, not, Some, None, if◌then◌else◌, IfOk, OnOk};
 ghost use Rattle.std.specs.List.{filter, filter_map};
 ghost use Rattle.live_index.specs.Table.{pairs_of};
-ghost use Rattle.touched_pairs.specs.Marks.{in_lives, marked_by};
-ghost use Rattle.touched_pairs.specs.declared.marks.PairPlace.{PairPlace as APlace};
+ghost use Rattle.touched_blocks.specs.Marks.{in_lives, marked_by};
+ghost use Rattle.touched_blocks.specs.declared.marks.PairPlace.{PairPlace as APlace};
 ghost use Rattle.tree_change.specs.Making.{parts_by};
 ghost use Rattle.tree_change.specs.Rising.{IsRisen, is_free, is_marked, risen_by, unmoved_by};
 
@@ -13,7 +13,7 @@ use crate::trees::TreeParts;
 use live_index::{Live, LiveIndex};
 use recon_disk::Steps;
 use std::alloc::Global;
-use touched_pairs::{Marks, PairPlace};
+use touched_blocks::{Marks, PairPlace};
 use verdict::NoMemory;
 
 /// Puts those marked pairs behind the ones that changed which are not among them: as the table has them behind the old ones, and as they are

@@ -8,7 +8,7 @@ use block_source::BlockSource;
 use chunk_map::ChunkMap;
 use live_index::LiveIndex;
 use super_reader::Super;
-use touched_pairs::Marks;
+use touched_blocks::Marks;
 use volume_items::RootAt;
 use write_cache::WriteCache;
 

@@ -27,7 +27,7 @@ use recon_disk::{Disk, Steps};
 use records::ItemAt;
 use shared_trees::Met;
 use std::alloc::{AllocError, Global};
-use touched_pairs::AddressTest;
+use touched_blocks::AddressTest;
 use volume_items::RootAt;
 
 /// What changes in trees: the pairs that changed, the other ones that are shifted, and the items of the first.

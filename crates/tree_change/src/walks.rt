@@ -22,7 +22,7 @@ use node_reader::Expect;
 use recon_disk::{Disk, Steps};
 use shared_trees::{Ended, KnownTree, Met, OldTree, Starts, Stops, walk_changed};
 use std::alloc::Global;
-use touched_pairs::{Marks, Move};
+use touched_blocks::{Marks, Move};
 
 // For how many blocks there is room at first in the lists of those that a walk comes to. Nothing rests on it.
 const CHILDREN: usize = 256;

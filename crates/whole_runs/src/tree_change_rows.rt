@@ -5,7 +5,7 @@ use node_reader::{Expect, Pointer};
 use recon_disk::Steps;
 use shared_trees::{Keeps, OldTree, Start, Starts, Stops};
 use std::alloc::Global;
-use touched_pairs::{Marks, Move};
+use touched_blocks::{Marks, Move};
 use tree_change::{Path, PathStep};
 use verdict::{Key, NoMemory};
 

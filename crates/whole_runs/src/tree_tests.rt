@@ -15,7 +15,7 @@ use std::alloc::Global;
 use std::process::Abort;
 use std::test::Fail;
 use super_reader::read_super;
-use touched_pairs::{Marks, Move, touched_pairs};
+use touched_blocks::{Marks, Move, touched_blocks};
 use verdict::kinds::{INODE_ITEM, INODE_REF};
 use verdict::{Chunk, Family, Key, NoMemory};
 use write_cache::WriteCache;
@@ -109,7 +109,7 @@ fn walked(
     let mut table = LiveIndex::new(alloc);
     table.insert(known_root(), &mut steps)?;
     let end = image.len() as u64;
-    let marks = touched_pairs(alloc, &table, &cache, &map, sup.nodesize, end, &mut steps)?;
+    let marks = touched_blocks(alloc, &table, &cache, &map, sup.nodesize, end, &mut steps)?;
     let moves = Move::new(&map, &map, sup.nodesize, end);
     let starts = Starts::new(alloc);
     let mut known = known_by(alloc, &table, &marks, &moves, &starts, &mut steps);

@@ -1,5 +1,5 @@
 use Rattle.std.proofs.Common.{ap, sym, ◌∙◌}
-use Rattle.account_sums.specs.Sums.{or_free}
+use Rattle.account_tally.specs.Sums.{or_free}
 use Rattle.commit_judge.specs.Flags.{free_in}
 use Rattle.commit_judge.proofs.CFilling.{inode_put}
 use Rattle.commit_judge.proofs.filling.put_inode.Goals as goal

@@ -1,7 +1,7 @@
 use Rattle.std.proofs.Common.{◌≡◌, not, ◌||◌, take}
 use Rattle.std.specs.List.{count_by}
 use Rattle.live_index.specs.declared.live.Live.{Live}
-use Rattle.touched_pairs.specs.Touched.{stays_in_place, touches_block, written_in}
+use Rattle.touched_blocks.specs.Touched.{stays_in_place, touches_block, written_in}
 use Rattle.commit_judge.proofs.hot.count_hot.Given as goal
 
 -- those among the pairs so far are counted

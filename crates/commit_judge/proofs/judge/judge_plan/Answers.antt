@@ -5,7 +5,7 @@ use Rattle.ledger_index.specs.Ledger.{IsTidy, sums_of}
 use Rattle.span_index.specs.Table.{times_of}
 use Rattle.volume_items.specs.declared.root_at.RootAt.{RootAt}
 use Rattle.write_cache.specs.Cache.{overlaid}
-use Rattle.change_laws.specs.Commit.{IsKnown}
+use Rattle.commit_laws.specs.Commit.{IsKnown}
 use Rattle.commit_judge.specs.Index.{known}
 use Rattle.commit_judge.specs.Judging.{next_of}
 use Rattle.commit_judge.specs.Plan.{commit_in}

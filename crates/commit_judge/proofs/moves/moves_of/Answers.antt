@@ -1,9 +1,9 @@
 use Rattle.std.proofs.Common.{◌≤◌, List, length, refl, sym, ◌∙◌, subst}
 use Rattle.std.specs.List.{Contains}
 use Rattle.change_records.specs.declared.item_ref.ItemRef.{ItemRef as ARef}
-use Rattle.change_laws.specs.Commit.{context_by}
-use Rattle.change_laws.specs.Paired.{came_items, gone_items}
-use Rattle.change_laws.specs.Steps.{change_records, step_posts}
+use Rattle.commit_laws.specs.Commit.{context_by}
+use Rattle.commit_laws.specs.Paired.{came_items, gone_items}
+use Rattle.commit_laws.specs.Steps.{change_records, step_posts}
 use Rattle.commit_judge.specs.Index.{known}
 use Rattle.commit_judge.specs.Moves.{HaveNames, NameSpans, context_after}
 use Rattle.commit_judge.specs.Plan.{commit_in}

@@ -1,5 +1,5 @@
 use Rattle.std.proofs.Common.{◌≡◌, ◌-◌, ◌++◌}
-use Rattle.change_laws.specs.Paired.{removed_from}
+use Rattle.commit_laws.specs.Paired.{removed_from}
 use Rattle.commit_judge.proofs.plan.remove_all.Given as goal
 
 -- with what is left, all are put

@@ -1,6 +1,6 @@
 use Rattle.std.proofs.Common.{◌++◌, ap, sym, ◌∙◌}
 use Rattle.records.specs.Contents.{super_record}
-use Rattle.change_laws.specs.Steps.{posts_of}
+use Rattle.commit_laws.specs.Steps.{posts_of}
 use Rattle.commit_judge.proofs.APosts.{blocks_more, posts_one}
 use Rattle.commit_judge.proofs.posts.post_blocks.Goals as goal
 

@@ -1,7 +1,7 @@
 use Rattle.std.proofs.Common.{◌≡◌, ◌∷◌, map, take}
 use Rattle.records.specs.Contents.{super_record}
-use Rattle.change_laws.specs.Same.{live_record}
-use Rattle.change_laws.specs.Steps.{all_posts}
+use Rattle.commit_laws.specs.Same.{live_record}
+use Rattle.commit_laws.specs.Steps.{all_posts}
 use Rattle.commit_judge.proofs.posts.post_blocks.Given as goal
 
 -- the superblock and the blocks so far have posted

@@ -1,6 +1,6 @@
 use Rattle.std.proofs.Common.{◌≡◌, take}
-use Rattle.change_laws.specs.Paired.{came_items}
-use Rattle.change_laws.specs.Steps.{all_posts, change_records}
+use Rattle.commit_laws.specs.Paired.{came_items}
+use Rattle.commit_laws.specs.Steps.{all_posts, change_records}
 use Rattle.commit_judge.proofs.posts.post_came.Given as goal
 
 -- the superblock, the blocks and what the changes so far bring have posted

@@ -1,6 +1,6 @@
 use Rattle.std.proofs.Common.{◌≡◌, take}
-use Rattle.change_laws.specs.Paired.{gone_items}
-use Rattle.change_laws.specs.Steps.{all_posts, change_records}
+use Rattle.commit_laws.specs.Paired.{gone_items}
+use Rattle.commit_laws.specs.Steps.{all_posts, change_records}
 use Rattle.commit_judge.proofs.posts.post_gone.Given as goal
 
 -- the superblock, the blocks and what the changes so far take away have posted

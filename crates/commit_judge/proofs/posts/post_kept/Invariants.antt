@@ -1,5 +1,5 @@
 use Rattle.std.proofs.Common.{◌≡◌, ◌++◌, flat_map, take}
-use Rattle.change_laws.specs.Kept.{placed_postings}
+use Rattle.commit_laws.specs.Kept.{placed_postings}
 use Rattle.commit_judge.proofs.posts.post_kept.Given as goal
 
 -- those so far have posted

@@ -1,8 +1,8 @@
 use Rattle.std.proofs.Common.{◌+◌, ◌≤◌, length, take}
 use Rattle.std.specs.List.{All}
 use Rattle.span_index.specs.Sectors.{IsRun, has_sector}
-use Rattle.change_laws.specs.Sectors.{CountedInside}
-use Rattle.change_laws.specs.Sound.{IsWhole}
+use Rattle.commit_laws.specs.Sectors.{CountedInside}
+use Rattle.commit_laws.specs.Sound.{IsWhole}
 use Rattle.commit_judge.specs.Moves.{any_counted}
 use Rattle.commit_judge.proofs.BRuns.{AddOnly, StayInside}
 use Rattle.commit_judge.proofs.runs.add_counted.Given as goal

@@ -2,7 +2,7 @@ use Rattle.std.proofs.Common.{◌≡◌, ◌||◌, true, subst, take_all}
 use Rattle.std.specs.List.{list_any}
 use Rattle.span_index.specs.Sectors.{has_sector, is_inside}
 use Rattle.span_index.specs.declared.span.Span.{Span}
-use Rattle.change_laws.specs.Sectors.{AreInside}
+use Rattle.commit_laws.specs.Sectors.{AreInside}
 use Rattle.commit_judge.proofs.BRuns.{few_more, inside_more, only_more, runs_more, stay_more}
 use Rattle.commit_judge.proofs.runs.add_runs.Goals as goal
 

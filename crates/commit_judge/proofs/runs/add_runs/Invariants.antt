@@ -2,8 +2,8 @@ use Rattle.std.proofs.Common.{◌+◌, ◌≤◌, length, take}
 use Rattle.std.specs.List.{All, list_any}
 use Rattle.span_index.specs.Sectors.{IsRun, has_sector}
 use Rattle.span_index.specs.declared.span.Span.{Span}
-use Rattle.change_laws.specs.Sectors.{AreInside}
-use Rattle.change_laws.specs.Sound.{IsWhole}
+use Rattle.commit_laws.specs.Sectors.{AreInside}
+use Rattle.commit_laws.specs.Sound.{IsWhole}
 use Rattle.commit_judge.proofs.BRuns.{AddOnly, StayInside}
 use Rattle.commit_judge.proofs.runs.add_runs.Given as goal
 

@@ -1,5 +1,5 @@
 use Rattle.std.specs.Prelude.{option_map}
-use Rattle.change_laws.specs.Paired.{came_of}
+use Rattle.commit_laws.specs.Paired.{came_of}
 use Rattle.commit_judge.proofs.BItems.{came_done, spans_more}
 use Rattle.commit_judge.proofs.spans.came_spans.Goals as goal
 

@@ -1,4 +1,4 @@
-use Rattle.change_laws.specs.Paired.{came_of}
+use Rattle.commit_laws.specs.Paired.{came_of}
 use Rattle.commit_judge.proofs.BItems.{AreSpansOf}
 use Rattle.commit_judge.proofs.spans.came_spans.Given as goal
 

@@ -1,5 +1,5 @@
 use Rattle.std.specs.Prelude.{option_map}
-use Rattle.change_laws.specs.Paired.{gone_of}
+use Rattle.commit_laws.specs.Paired.{gone_of}
 use Rattle.commit_judge.proofs.BItems.{gone_done, spans_more}
 use Rattle.commit_judge.proofs.spans.gone_spans.Goals as goal
 

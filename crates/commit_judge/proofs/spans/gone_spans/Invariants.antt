@@ -1,4 +1,4 @@
-use Rattle.change_laws.specs.Paired.{gone_of}
+use Rattle.commit_laws.specs.Paired.{gone_of}
 use Rattle.commit_judge.proofs.BItems.{AreSpansOf}
 use Rattle.commit_judge.proofs.spans.gone_spans.Given as goal
 

@@ -1,6 +1,6 @@
 use Rattle.std.proofs.Common.{refl, rules}
 use Rattle.live_index.specs.Table.{pairs_of}
-use Rattle.touched_pairs.specs.Marks.{marked_by}
+use Rattle.touched_blocks.specs.Marks.{marked_by}
 use Rattle.shared_trees.specs.Under.{under_of}
 use Rattle.tree_change.proofs.ByArray.{array_known, known_array, known_as, map_told, refused, size_some}
 use Rattle.tree_change.proofs.Changing.{listed_either}

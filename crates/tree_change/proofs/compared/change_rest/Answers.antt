@@ -1,5 +1,5 @@
 use Rattle.live_index.specs.Table.{pairs_of}
-use Rattle.touched_pairs.specs.Marks.{marked_by}
+use Rattle.touched_blocks.specs.Marks.{marked_by}
 use Rattle.shared_trees.specs.Under.{under_of}
 use Rattle.tree_change.proofs.ByMap.{rest_told}
 use Rattle.tree_change.proofs.Changing.{listed_either}

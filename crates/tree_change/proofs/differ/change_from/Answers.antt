@@ -23,5 +23,5 @@ returns-clause-tells g c =
 pub returns-clause-looks : goal.returns-clause-looks
 returns-clause-looks g c =
     old_few _ _ (g.D.Disk.bytes c.args.disk.now) c.compare.result c.args.was.now c.args.cache.now c.args.fresh.now c.args.roots.now
-    c.args.table.now c.args.steps.now c.touched_pairs.new.steps c.compare.new.steps refl refl refl refl refl (search rules) (search rules)
+    c.args.table.now c.args.steps.now c.touched_blocks.new.steps c.compare.new.steps refl refl refl refl refl (search rules) (search rules)
     c.narrow_law.ensures c.count_law.ensures c.in_ok-marks.ensures.few c.compare.ensures.looks

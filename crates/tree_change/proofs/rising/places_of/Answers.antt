@@ -1,4 +1,4 @@
-use Rattle.touched_pairs.specs.Marks.{marked_by}
+use Rattle.touched_blocks.specs.Marks.{marked_by}
 use Rattle.tree_change.proofs.RisingLoops.{lives_more}
 use Rattle.tree_change.proofs.rising.places_of.Goals as goal
 

@@ -1,5 +1,5 @@
 use Rattle.std.proofs.Common.{◌≡◌, ℕ, take}
-use Rattle.touched_pairs.specs.Marks.{in_lives, marked_by}
+use Rattle.touched_blocks.specs.Marks.{in_lives, marked_by}
 use Rattle.tree_change.proofs.rising.places_of.Given as goal
 
 -- those so far are marked

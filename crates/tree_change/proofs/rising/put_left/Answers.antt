@@ -1,5 +1,5 @@
 use Rattle.live_index.specs.Table.{pairs_of}
-use Rattle.touched_pairs.specs.Marks.{marked_by}
+use Rattle.touched_blocks.specs.Marks.{marked_by}
 use Rattle.tree_change.specs.Rising.{risen_by, unmoved_by}
 use Rattle.tree_change.proofs.Leaving.{some_more}
 use Rattle.tree_change.proofs.RisingLoops.{looks_more, where_same}

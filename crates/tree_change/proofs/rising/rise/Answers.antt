@@ -4,8 +4,8 @@ use Rattle.std.specs.Prelude.{vec_len}
 use Rattle.std.specs.List.{filter, filter_map}
 use Rattle.live_index.specs.Table.{pairs_of}
 use Rattle.live_index.specs.declared.live.Live.{Live}
-use Rattle.touched_pairs.specs.Marks.{Marked, in_lives, marked_by}
-use Rattle.touched_pairs.specs.declared.marks.PairPlace.{PairPlace}
+use Rattle.touched_blocks.specs.Marks.{Marked, in_lives, marked_by}
+use Rattle.touched_blocks.specs.declared.marks.PairPlace.{PairPlace}
 use Rattle.tree_change.specs.Making.{parts_by}
 use Rattle.tree_change.specs.Rising.{is_free, is_marked, risen_by, unmoved_by}
 use Rattle.tree_change.proofs.RisingLoops.{left_looks, none_risen, risen_parts, same_looks}

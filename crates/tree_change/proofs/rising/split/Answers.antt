@@ -3,7 +3,7 @@ use Rattle.std.specs.Prelude.{Some, None, if◌then◌else◌}
 use Rattle.std.specs.List.{filter_map}
 use Rattle.std.proofs.lemmas.List.{take_all}
 use Rattle.live_index.specs.declared.live.Live.{Live}
-use Rattle.touched_pairs.specs.Marks.{marked_by}
+use Rattle.touched_blocks.specs.Marks.{marked_by}
 use Rattle.tree_change.specs.Rising.{is_marked}
 use Rattle.tree_change.proofs.Leaving.{some_more}
 use Rattle.tree_change.proofs.RisingLoops.{by_other, by_test, filtered}

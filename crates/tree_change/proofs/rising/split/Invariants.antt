@@ -2,7 +2,7 @@ use Rattle.std.proofs.Common.{◌≡◌, ◌++◌, not, take, if◌then◌else�
 use Rattle.std.specs.Prelude.{Some, None}
 use Rattle.std.specs.List.{filter_map}
 use Rattle.live_index.specs.declared.live.Live.{Live}
-use Rattle.touched_pairs.specs.Marks.{marked_by}
+use Rattle.touched_blocks.specs.Marks.{marked_by}
 use Rattle.tree_change.specs.Rising.{is_marked}
 use Rattle.tree_change.proofs.rising.split.Given as goal
 

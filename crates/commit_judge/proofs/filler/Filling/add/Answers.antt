@@ -1,5 +1,5 @@
 use Rattle.std.proofs.Common.{ap, sym, ◌∙◌, subst}
-use Rattle.account_sums.proofs.ShownSums.{on_ok}
+use Rattle.account_tally.proofs.ShownSums.{on_ok}
 use Rattle.ledger_index.specs.Ledger.{entries_of, sums_of}
 use Rattle.records.specs.Part.{located}
 use Rattle.span_index.specs.Table.{times_of}

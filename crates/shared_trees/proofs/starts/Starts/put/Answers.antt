@@ -1,6 +1,6 @@
 use Rattle.std.proofs.Common.{◌≡◌, ◌∙◌, ap, sym}
 use Rattle.std.specs.BTreeMap as map
-use Rattle.touched_pairs.specs.Marks.{by_pair, pair_place}
+use Rattle.touched_blocks.specs.Marks.{by_pair, pair_place}
 use Rattle.shared_trees.specs.declared.starts.Listed.{Listed}
 use Rattle.shared_trees.specs.Listing.{with_start}
 use Rattle.shared_trees.specs.Under.{starts_or, under_of}

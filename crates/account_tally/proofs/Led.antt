@@ -1,0 +1,50 @@
+-- What a record says of its own inode, and what its entries say of the inodes that they lead to.
+use Rattle.std.proofs.Common.{◌≡◌, ℕ, ◌+◌, List, [], ◌∷◌, arith}
+use Rattle.std.specs.Prelude.{flat_map}
+use Rattle.accounts.specs.declared.account.Account.{Account}
+use Rattle.accounts.specs.Sums.{total_of}
+use Rattle.accounts.proofs.Kept.{total_joined}
+use Rattle.fs_items.specs.DirRow.{EntryFields}
+use Rattle.records.specs.InodePostings.{inode_entry_postings, inode_postings, target_postings}
+use Rattle.records.specs.Part.{Part}
+use Rattle.records.specs.Part.Part.{RootPart, LinkPart, DevicePart, ChunkPart, DevExtentPart, ExtentPart, KeyedPart, GroupPart, InodePart, NamesPart, XattrPart, OrphanPart, EntriesPart, FileExtentPart, SumsPart, UnreadPart, SuperPart, BlockPart}
+use Rattle.name_tally.specs.Names.{led_postings}
+use Rattle.account_tally.specs.Own.{own_entry_postings, own_postings}
+
+entries_total : (tree dir : ℕ) (entries : List EntryFields) (a : Account) (n : ℕ)
+    → total_of (flat_map (own_entry_postings tree dir) entries) a n + total_of (flat_map (target_postings tree) entries) a n
+    ≡ total_of (flat_map (inode_entry_postings tree dir) entries) a n
+unfolding total_of
+entries_total tree dir [] a n = omega arith
+entries_total tree dir (e ∷ es) a n =
+    let own = total_joined (own_entry_postings tree dir e) (flat_map (own_entry_postings tree dir) es) a n in
+    let led = total_joined (target_postings tree e) (flat_map (target_postings tree) es) a n in
+    let all = total_joined (inode_entry_postings tree dir e) (flat_map (inode_entry_postings tree dir) es) a n in
+    let here = total_joined (own_entry_postings tree dir e) (target_postings tree e) a n in
+    let later = entries_total tree dir es a n in
+    omega (arith, own, led, all, here, later)
+
+none_led : (x : ℕ) → x + 0 ≡ x
+none_led x = omega arith
+
+pub both_total : (tree : ℕ) (part : Part) (a : Account) (n : ℕ)
+    → total_of (own_postings tree part) a n + total_of (led_postings tree part) a n ≡ total_of (inode_postings tree part) a n
+unfolding own_postings inode_postings led_postings total_of
+both_total tree (EntriesPart item) a n = entries_total tree item.key.objectid item.entries a n
+both_total tree (SuperPart used) a n = none_led _
+both_total tree (ChunkPart item) a n = none_led _
+both_total tree (DevicePart item) a n = none_led _
+both_total tree (DevExtentPart item) a n = none_led _
+both_total tree (GroupPart item) a n = none_led _
+both_total tree (ExtentPart item) a n = none_led _
+both_total tree (SumsPart item) a n = none_led _
+both_total tree (BlockPart address level) a n = none_led _
+both_total tree (KeyedPart item) a n = none_led _
+both_total tree (RootPart item) a n = none_led _
+both_total tree (LinkPart item) a n = none_led _
+both_total tree (InodePart item) a n = none_led _
+both_total tree (NamesPart item) a n = none_led _
+both_total tree (XattrPart item) a n = none_led _
+both_total tree (OrphanPart item) a n = none_led _
+both_total tree (FileExtentPart range) a n = none_led _
+both_total tree (UnreadPart bytes) a n = none_led _

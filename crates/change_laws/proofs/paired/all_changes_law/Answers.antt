@@ -1,5 +1,0 @@
-use Rattle.change_laws.proofs.PAll.{all_change}
-use Rattle.change_laws.proofs.paired.all_changes_law.Goals as goal
-
-pub returns : goal.returns
-returns c = all_change

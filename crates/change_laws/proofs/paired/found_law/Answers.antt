@@ -1,5 +1,0 @@
-use Rattle.change_laws.proofs.PFound.{found_of}
-use Rattle.change_laws.proofs.paired.found_law.Goals as goal
-
-pub returns : goal.returns
-returns c = found_of

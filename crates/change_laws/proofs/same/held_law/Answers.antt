@@ -1,5 +1,0 @@
-use Rattle.change_laws.proofs.Held.{holds}
-use Rattle.change_laws.proofs.same.held_law.Goals as goal
-
-pub returns : goal.returns
-returns c = holds

@@ -1,5 +1,0 @@
-use Rattle.change_laws.proofs.Records.{hold_same}
-use Rattle.change_laws.proofs.same.records_law.Goals as goal
-
-pub returns : goal.returns
-returns c = hold_same

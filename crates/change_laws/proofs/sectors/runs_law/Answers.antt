@@ -1,5 +1,0 @@
-use Rattle.change_laws.proofs.ERuns.{runs_stay}
-use Rattle.change_laws.proofs.sectors.runs_law.Goals as goal
-
-pub returns : goal.returns
-returns c = runs_stay

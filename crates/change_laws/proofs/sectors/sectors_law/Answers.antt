@@ -1,5 +1,0 @@
-use Rattle.change_laws.proofs.ESectors.{sectors}
-use Rattle.change_laws.proofs.sectors.sectors_law.Goals as goal
-
-pub returns : goal.returns
-returns c = sectors

@@ -1,5 +1,0 @@
-use Rattle.change_laws.proofs.XAscend.{ascend}
-use Rattle.change_laws.proofs.sound.ascend_law.Goals as goal
-
-pub returns : goal.returns
-returns c = ascend c.items_law.ensures

@@ -1,5 +1,0 @@
-use Rattle.change_laws.proofs.XWhole.{known_spans}
-use Rattle.change_laws.proofs.sound.known_spans_law.Goals as goal
-
-pub returns : goal.returns
-returns c = known_spans c.held_law.ensures c.items_law.ensures

@@ -1,5 +1,0 @@
-use Rattle.change_laws.proofs.SWhole.{whole_step}
-use Rattle.change_laws.proofs.steps.whole_step_law.Goals as goal
-
-pub returns : goal.returns
-returns c = whole_step

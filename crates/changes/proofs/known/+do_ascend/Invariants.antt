@@ -1,6 +1,0 @@
--- it calls itself with fewer
-use Rattle.std.proofs.Common.{length}
-use Rattle.changes.proofs.known.+do_ascend.Given as goal
-
-abbrev pub decreases-do_ascend : goal.decreases-do_ascend
-decreases-do_ascend l = length l.roots.now

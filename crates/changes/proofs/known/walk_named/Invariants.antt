@@ -1,6 +1,0 @@
-use Rattle.std.proofs.Common.{◌≡◌}
-use Rattle.changes.proofs.known.walk_named.Given as goal
-
--- the disk stays as long as it was
-abbrev pub invariant-loop-root : goal.invariant-loop-root
-invariant-loop-root g l = l.volume.end ≡ g.D.Disk.len l.disk

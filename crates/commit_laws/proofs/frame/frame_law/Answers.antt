@@ -1,0 +1,5 @@
+use Rattle.commit_laws.proofs.VFrame.{frame}
+use Rattle.commit_laws.proofs.frame.frame_law.Goals as goal
+
+pub returns : goal.returns
+returns c = frame

@@ -1,0 +1,5 @@
+use Rattle.commit_laws.proofs.PPaired.{paired}
+use Rattle.commit_laws.proofs.paired.paired_law.Goals as goal
+
+pub returns : goal.returns
+returns c = paired

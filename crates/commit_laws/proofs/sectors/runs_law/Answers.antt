@@ -1,0 +1,5 @@
+use Rattle.commit_laws.proofs.ERuns.{runs_stay}
+use Rattle.commit_laws.proofs.sectors.runs_law.Goals as goal
+
+pub returns : goal.returns
+returns c = runs_stay

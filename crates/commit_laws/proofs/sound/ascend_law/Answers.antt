@@ -1,0 +1,5 @@
+use Rattle.commit_laws.proofs.XAscend.{ascend}
+use Rattle.commit_laws.proofs.sound.ascend_law.Goals as goal
+
+pub returns : goal.returns
+returns c = ascend c.items_law.ensures

@@ -1,0 +1,5 @@
+use Rattle.commit_laws.proofs.SSteps.{posts}
+use Rattle.commit_laws.proofs.steps.posts_law.Goals as goal
+
+pub returns : goal.returns
+returns c = posts

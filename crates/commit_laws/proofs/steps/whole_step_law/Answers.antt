@@ -1,0 +1,5 @@
+use Rattle.commit_laws.proofs.SWhole.{whole_step}
+use Rattle.commit_laws.proofs.steps.whole_step_law.Goals as goal
+
+pub returns : goal.returns
+returns c = whole_step

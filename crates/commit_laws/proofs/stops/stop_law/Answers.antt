@@ -1,0 +1,5 @@
+use Rattle.commit_laws.proofs.VStops.{stopped}
+use Rattle.commit_laws.proofs.stops.stop_law.Goals as goal
+
+pub returns : goal.returns
+returns c = stopped

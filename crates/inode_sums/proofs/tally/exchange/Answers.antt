@@ -1,6 +1,0 @@
-use Rattle.std.proofs.Common.{rules}
-use Rattle.inode_sums.proofs.Aside.{exchanged}
-use Rattle.inode_sums.proofs.tally.exchange.Goals as goal
-
-pub returns : goal.returns
-returns c = exchanged c.args.owns.now.items c.place-at.result c.args.own c.index-last.result.now (search rules) c.index-last.ensures

@@ -1,8 +1,0 @@
-use Rattle.std.proofs.Common.{◌∙◌, ap}
-use Rattle.name_sums.specs.Names.{slots_sums}
-use Rattle.name_sums.proofs.Sums.{slots_pushed}
-use Rattle.name_sums.proofs.index.free_place.Goals as goal
-
-pub returns-in-Ok : goal.returns-in-Ok
-returns-in-Ok c =
-    λ a n. ap (λ ss. slots_sums ss a n) c.in-Ok.ensures.items ∙ slots_pushed c.args.slots.now.items c.free.result c.free.ensures a n

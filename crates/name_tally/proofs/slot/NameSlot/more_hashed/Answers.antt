@@ -1,0 +1,16 @@
+use Rattle.std.proofs.Common.{arith}
+use Rattle.name_tally.proofs.Claims.{keeps_nothing}
+use Rattle.name_tally.proofs.Sums.{moved_hashed}
+use Rattle.name_tally.proofs.slot.NameSlot.more_hashed.Goals as goal
+
+pub returns-in_default : goal.returns-in_default
+returns-in_default c =
+    keeps_nothing _
+
+pub returns-in_default-more : goal.returns-in_default-more
+returns-in_default-more c =
+    keeps_nothing _
+
+pub returns : goal.returns
+returns c =
+    moved_hashed c.args.self.now c.in-Some-more.hashed c.in-Some-more.indexed c.in-Some.led (grind arith) c.in-Some-more.ensures

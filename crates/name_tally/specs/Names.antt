@@ -1,0 +1,64 @@
+-- The sums of names in directories and of links that are kept apart, with the entries that lead to inodes: what slots come to.
+use Rattle.std.specs.Prelude.{ℕ, ◌+◌, List, [], ◌∷◌, ◌++◌, take}
+use Rattle.std.specs.List.{flat_map}
+use Rattle.verdict.specs.declared.kinds.TheConstants.{INODE_ITEM}
+use Rattle.recon_crc.specs.Checksum.{name_hash_of}
+use Rattle.accounts.specs.declared.account.Account.{Account}
+use Rattle.accounts.specs.declared.postings.Posting.{Posting}
+use Rattle.accounts.specs.Kinds.{inode, inode_type, key_by, link, name_entry}
+use Rattle.accounts.specs.Sums.{total_of}
+use Rattle.accounts.specs.Tally.{Sums}
+use Rattle.inode_tally.specs.Held.{inodes_apart}
+use Rattle.inode_tally.specs.declared.tally.InodeTally.{InodeTally}
+use Rattle.records.specs.DirPostings.{dir_postings}
+use Rattle.records.specs.InodePostings.{target_postings}
+use Rattle.records.specs.Part.{Part}
+use Rattle.records.specs.Part.Part.{EntriesPart}
+use Rattle.records.specs.Post.{to}
+use Rattle.name_tally.specs.declared.slot.NameSlot.{NameSlot}
+use Rattle.name_tally.specs.declared.tally.NameTally.{NameTally}
+
+-- the bytes of a slot's name
+abbrev pub name_of : NameSlot → List ℕ
+name_of slot = take slot.size slot.name
+
+-- the name in a directory that a slot is of, and the link
+abbrev pub entry_of : NameSlot → Account
+entry_of slot = name_entry slot.tree slot.dir (name_hash_of (name_of slot)) (key_by slot.ino INODE_ITEM 0) (name_of slot) slot.sort
+
+abbrev pub link_of : NameSlot → Account
+link_of slot = link slot.tree slot.ino slot.dir slot.index (name_of slot)
+
+-- so many entries lead to an inode and say its type
+abbrev pub leads : ℕ → ℕ → ℕ → ℕ → List Posting
+leads tree ino sort count = to (inode tree ino) 1 count ∷ to (inode_type tree ino sort) 0 count ∷ []
+
+-- the postings that a slot comes to
+unfoldable pub slot_postings : NameSlot → List Posting
+slot_postings slot =
+    to (entry_of slot) 0 slot.hashed
+    ∷ to (entry_of slot) 1 slot.indexed
+    ∷ to (link_of slot) 0 slot.listed
+    ∷ to (link_of slot) 1 slot.linked
+    ∷ leads slot.tree slot.ino slot.sort slot.led
+
+-- what slots come to
+abbrev pub slots_sums : List NameSlot → Sums
+slots_sums slots = total_of (flat_map slot_postings slots)
+
+-- what is kept apart
+abbrev pub names_apart : NameTally → Sums
+names_apart tally = slots_sums tally.slots.items
+
+-- what is kept apart of names and of inodes
+abbrev pub both : NameTally → InodeTally → Sums
+both names inodes account field = names_apart names account field + inodes_apart inodes account field
+
+-- what a record of a tree posts to the inodes that its entries lead to, A9 and A10
+unfoldable pub led_postings : ℕ → Part → List Posting
+led_postings tree (EntriesPart item) = flat_map (target_postings tree) item.entries
+led_postings tree other = []
+
+-- what a record of a tree posts to names and subvolumes, and to the inodes that its entries lead to
+abbrev pub name_postings : ℕ → Part → List Posting
+name_postings tree part = dir_postings tree part ++ led_postings tree part

@@ -1,6 +1,0 @@
-use Rattle.std.proofs.Common.{take}
-use Rattle.touched_pairs.proofs.Adding.{AddedSpots}
-use Rattle.touched_pairs.proofs.range.add_copy.Given as goal
-
-abbrev pub invariant-loop-spot : goal.invariant-loop-spot
-invariant-loop-spot l = AddedSpots l.pending l.chunk l.copy (take l.spot-index l.spot-items) l.initial.into.items l.into.items

@@ -1,5 +1,0 @@
-use Rattle.work_laws.proofs.BlocksWhole.{counted}
-use Rattle.work_laws.proofs.blocks.blocks_counted_law.Goals as goal
-
-pub returns : goal.returns
-returns c = counted c.paired_law.ensures c.all_changes_law.ensures
