@@ -3,12 +3,24 @@
 ghost use Rattle.std.specs.Prelude.{◌≡◌, [], ◌∷◌, ◌++◌, IfOk, OnOk, OnErr};
 
 use smallvec::SmallVec;
-use std::alloc::Global;
+use std::alloc::{AllocError, AllocFailed, Global};
 use std::marker::Model;
 
 /// Out of memory.
 #[derive(Clone, Copy, Debug, PartialEq, Eq)]
 pub struct NoMemory;
+
+impl From<AllocError> for NoMemory {
+    fn from(_refused: AllocError) -> NoMemory {
+        NoMemory
+    }
+}
+
+impl<T: Drop> From<AllocFailed<T>> for NoMemory {
+    fn from(_refused: AllocFailed<T>) -> NoMemory {
+        NoMemory
+    }
+}
 
 /// An owned list of bytes, seen as that list. Most names and items are short: up to 40 bytes that are copied stand in the value, and more of
 /// them in memory of their own.
@@ -30,10 +42,9 @@ impl Bytes {
     pub fn of(alloc: Global, s: &[u8]) -> Result<Bytes, NoMemory>
         ensures { IfOk result (λ b. b ≡ s.now) }
     {
-        match SmallVec::from_slice(alloc, s) {
-            Ok(list) => Ok(Bytes { list }),
-            Err(_) => Err(NoMemory),
-        }
+        Ok(Bytes {
+            list: SmallVec::from_slice(alloc, s)?,
+        })
     }
 
     /// Puts a byte at the end. Out of memory, the bytes stay.
@@ -41,10 +52,7 @@ impl Bytes {
         ensures ok { OnOk result (self.new ≡ self.old ++ byte ∷ []) }
         ensures err { OnErr result (self.new ≡ self.old) }
     {
-        match self.list.push(byte) {
-            Ok(()) => Ok(()),
-            Err(_) => Err(NoMemory),
-        }
+        Ok(self.list.push(byte)?)
     }
 
     /// The bytes, lent.
@@ -59,10 +67,7 @@ impl Bytes {
         ensures { IfOk result (λ vec. vec.items ≡ self) }
     {
         let Bytes { list } = self;
-        match list.into_vec() {
-            Ok(vec) => Ok(vec),
-            Err(_) => Err(NoMemory),
-        }
+        Ok(list.into_vec()?)
     }
 }
 

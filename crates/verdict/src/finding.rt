@@ -23,6 +23,12 @@ pub enum Family {
     X,
     /// Accounts over the whole image.
     A,
+    /// File data against its checksums.
+    D,
+    /// The free space tree.
+    F,
+    /// The log tree.
+    L,
 }
 
 impl Family {
@@ -38,6 +44,9 @@ impl Family {
             Family::M => b'M',
             Family::X => b'X',
             Family::A => b'A',
+            Family::D => b'D',
+            Family::F => b'F',
+            Family::L => b'L',
         }
     }
 }

@@ -7,6 +7,7 @@ mod key;
 pub mod kinds;
 mod machine;
 mod place;
+pub mod trees;
 
 pub use bytes::{Bytes, NoMemory};
 pub use finding::{Family, Finding, Rule, Verdict};
@@ -15,6 +16,6 @@ pub use machine::{
     Answer, Event, HeldWrite, SUPERBLOCK_AT, SUPERBLOCK_SIZE, Stop, meets_superblock,
 };
 pub use place::{
-    At, Chunk, ORPHAN_OBJECTID, Place, TreeSort, has_group_tree, is_free_id, is_multiple,
+    At, Chunk, ORPHAN_OBJECTID, Place, SECTOR, TreeSort, has_group_tree, is_free_id, is_multiple,
     is_node_size,
 };

@@ -23,9 +23,9 @@ pub enum Event {
         /// What is written.
         bytes: Bytes,
     },
-    /// A request that all waiting writes be judged and let through.
+    /// A request that all pending writes be judged and let through.
     Settle,
-    /// A request for bytes of the device as they read with all waiting writes over them.
+    /// A request for bytes of the device as they read with all pending writes over them.
     Fetch {
         /// The byte of the device where the range begins.
         at: u64,
@@ -59,7 +59,7 @@ pub fn meets_superblock(at: u64, len: u64) -> bool
         && (at > SUPERBLOCK_AT || len > SUPERBLOCK_AT - at)
 }
 
-/// A write that waits: where it begins, and its bytes.
+/// A pending write: where it begins, and its bytes.
 #[derive(Debug, Drop)]
 pub struct HeldWrite {
     /// The byte of the device where it begins.
@@ -71,7 +71,7 @@ pub struct HeldWrite {
 /// What the checking machine answers to an event that it took.
 #[derive(Debug, Drop)]
 pub enum Answer {
-    /// The write waits.
+    /// The write is pending.
     Held,
     /// The bytes asked for.
     Fetched(Bytes),
@@ -80,13 +80,13 @@ pub enum Answer {
     Passed {
         /// The generation of the new superblock.
         generation: u64,
-        /// How many live blocks the old and the new image do not share. 0 for now.
+        /// How many live blocks, of the old image and of the new, the two do not share.
         blocks: u64,
-        /// How many live blocks of the old image were written over. 0 for now.
+        /// How many live blocks of the old image the event writes over or moves.
         hot: u64,
     },
     /// The full check's finding of the image that the event would make. The device stays as it
-    /// was, and nothing waits.
+    /// was, and no write is pending.
     Rejected(Finding),
 }
 

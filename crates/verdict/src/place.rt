@@ -11,6 +11,10 @@ use crate::kinds::{
     ORPHAN_ITEM, ROOT_BACKREF, ROOT_ITEM, ROOT_REF, SHARED_BLOCK_REF, SHARED_DATA_REF,
     TREE_BLOCK_REF, XATTR_ITEM,
 };
+use crate::trees::{
+    BLOCK_GROUP_TREE, CHUNK_TREE, CSUM_TREE, DEV_TREE, EXTENT_TREE, FREE_SPACE_TREE, QUOTA_TREE,
+    ROOT_TREE,
+};
 use crate::{Family, Finding, Key, Rule};
 
 /// The sorts of trees, by the items that they hold.
@@ -40,13 +44,13 @@ impl TreeSort {
         ensures { result ≡ sort_of tree }
     {
         match tree {
-            1 => TreeSort::Root,
-            2 => TreeSort::Extent,
-            3 => TreeSort::Chunk,
-            4 => TreeSort::Device,
-            7 => TreeSort::Sums,
-            8..=10 => TreeSort::Unread,
-            11 => TreeSort::Groups,
+            ROOT_TREE => TreeSort::Root,
+            EXTENT_TREE => TreeSort::Extent,
+            CHUNK_TREE => TreeSort::Chunk,
+            DEV_TREE => TreeSort::Device,
+            CSUM_TREE => TreeSort::Sums,
+            QUOTA_TREE..=FREE_SPACE_TREE => TreeSort::Unread,
+            BLOCK_GROUP_TREE => TreeSort::Groups,
             _ => TreeSort::File,
         }
     }
@@ -108,11 +112,14 @@ fn has_file_objectid(key: Key) -> bool
 /// The objectid -5, which orphan items have.
 pub const ORPHAN_OBJECTID: u64 = 18_446_744_073_709_551_611;
 
+/// The size of a sector in bytes, the only one that the profile has.
+pub const SECTOR: u64 = 4096;
+
 /// Whether a number is a multiple of a sector, which has 4096 bytes.
 pub fn is_multiple(n: u64) -> bool
     ensures { result ≡ is_multiple n }
 {
-    n % 4096 == 0
+    n % SECTOR == 0
 }
 
 /// Whether an id is one of those from 256 to 2^64 - 256, which subvolumes, files and directories have.
