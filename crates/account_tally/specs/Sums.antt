@@ -2,7 +2,7 @@
 use Rattle.std.specs.Prelude.{ℕ, ◌+◌, Bool, false, ◌||◌, List, ◌++◌, Option, Some, None}
 use Rattle.verdict.specs.declared.place.Chunk.{Chunk}
 use Rattle.accounts.specs.declared.postings.Posting.{Posting}
-use Rattle.accounts.specs.Context.{Context}
+use Rattle.accounts.specs.Context.{Context, no_full}
 use Rattle.accounts.specs.Tally.{Sums, no_sums, with_postings}
 use Rattle.sector_runs.specs.Runs.{SectorSums, no_sectors}
 use Rattle.records.specs.Part.{Located}
@@ -27,7 +27,7 @@ or_free free (Some one) tree ino = free tree ino || is_inode tree ino one
 
 -- the context of an image with these chunks and this size of a tree block
 abbrev pub context_with : List Chunk → ℕ → Frees → Context
-context_with chunks nodesize free = record { chunks = chunks; nodesize = nodesize; sum_free = free }
+context_with chunks nodesize free = record { chunks = chunks; nodesize = nodesize; sum_free = free; full = no_full }
 
 -- what a record posts but to sectors; that does not rest on which data has checksums
 abbrev pub rest_of : List Chunk → ℕ → Located → List Posting

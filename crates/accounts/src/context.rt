@@ -1,6 +1,6 @@
 //! What the postings of one record rest on beside the record itself.
 
-ghost use Rattle.std.specs.Prelude.{◌≡◌, ◌+◌, ◌<◌, ◌^◌, IfSome, false};
+ghost use Rattle.std.specs.Prelude.{◌≡◌, ◌+◌, ◌<◌, ◌^◌, IfSome};
 ghost use Rattle.accounts.specs.Context.{Context as AContext, home_of};
 
 /// The chunk that holds a range of logical addresses whole.
@@ -33,8 +33,8 @@ pub trait Ctx {
     fn nodesize(&self) -> u32
         ensures { result ≡ (context self.now).nodesize };
 
-    /// Whether the tree block at this logical address refers to what is below it by its address. In the profile so
-    /// far no block does.
+    /// Whether the tree block at this logical address refers to what is below it by its address, and not by its
+    /// owner.
     fn full(&self, address: u64) -> bool
-        ensures { result ≡ false };
+        ensures { result ≡ (context self.now).full address };
 }

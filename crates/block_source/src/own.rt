@@ -8,7 +8,7 @@ ghost use Rattle.block_source.specs.Takes.{PutsInto};
 
 use crate::halt::Halt;
 use node_reader::{Block, Expect};
-use records::{BlockAt, PointerAt, RecAt, Record, Taker, read_item};
+use records::{PointerAt, RecAt, Record, Taker, WalkedBlock, read_item};
 use super_reader::Super;
 use verdict::{At, NoMemory};
 
@@ -32,10 +32,10 @@ pub fn take_own<T: Taker>(
 }
 
 // The block that is expected, as a record.
-fn block_at(e: &Expect, block: &Block<'_>) -> BlockAt
+fn block_at(e: &Expect, block: &Block<'_>) -> WalkedBlock
     ensures { result ≡ at_block e.now block.now }
 {
-    BlockAt {
+    WalkedBlock {
         tree: e.tree,
         address: e.address,
         level: e.level,

@@ -5,7 +5,7 @@ use Rattle.std.specs.List.{Contains}
 use Rattle.std.specs.List.Sorted.{IsStrictlySortedBy}
 use Rattle.verdict.specs.declared.place.Chunk.{Chunk}
 use Rattle.verdict.specs.declared.kinds.TheConstants.{METADATA_ITEM}
-use Rattle.accounts.specs.Context.{Context}
+use Rattle.accounts.specs.Context.{Context, no_full}
 use Rattle.live_index.specs.declared.live.Live.{Live}
 use Rattle.live_index.specs.Pairs.{IsLeastFrom, Pairs}
 use Rattle.records.specs.Part.{Located, Part}
@@ -17,7 +17,7 @@ use Rattle.change_records.specs.Refs.{ref_cmp, ref_to}
 
 -- the context of chunks, a size of tree blocks, and the inodes whose data has no checksums
 abbrev pub context_with : List Chunk → ℕ → (ℕ → ℕ → Bool) → Context
-context_with chunks nodesize sum_free = record { chunks = chunks; nodesize = nodesize; sum_free = sum_free }
+context_with chunks nodesize sum_free = record { chunks = chunks; nodesize = nodesize; sum_free = sum_free; full = no_full }
 
 -- the item of the tree block at an address: its level is that of a live pair there. Where there is no pair, the block has no name
 abbrev pub NamesBlock : Pairs → ℕ → ItemRef → Type 0

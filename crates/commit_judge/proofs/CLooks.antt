@@ -25,7 +25,7 @@ use Rattle.records.specs.Seen.{Seen, accounted, block_record}
 use Rattle.records.specs.Seen.Seen.{BlockSeen, PointerSeen, ItemSeen}
 use Rattle.records.specs.SpacePostings.{is_to_sector, space_postings}
 use Rattle.records.specs.Walk.{Records}
-use Rattle.records.specs.declared.rec.BlockAt.{BlockAt}
+use Rattle.records.specs.declared.rec.WalkedBlock.{WalkedBlock}
 use Rattle.shared_trees.specs.LivePairs.{Walked, live_in, walked}
 use Rattle.shared_trees.specs.Unshared.{item_seen}
 use Rattle.span_index.specs.Sectors.{times_of_span}
@@ -67,7 +67,7 @@ posts_less context one =
     omega (arith, few, all, less)
 
 -- a block posts two, and the superblock one
-of_block : (context : Context) (block : BlockAt) → length (posts_of context (block_record block)) ≡ 2
+of_block : (context : Context) (block : WalkedBlock) → length (posts_of context (block_record block)) ≡ 2
 unfolding extent_postings inode_postings dir_postings space_postings
 of_block context block = refl
 

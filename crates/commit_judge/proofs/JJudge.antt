@@ -11,7 +11,7 @@ use Rattle.block_source.specs.Gives.{told}
 use Rattle.block_source.specs.declared.halt.Halt.{Halt}
 use Rattle.block_source.specs.declared.halt.Halt.TheVariants.{Found, Disk, NoMemory}
 use Rattle.records.specs.Contents.{contents}
-use Rattle.records.specs.FullCheck.{checked, full_check}
+use Rattle.records.specs.FullCheck.{checked_with, full_check}
 use Rattle.span_index.specs.Spans.{Table}
 use Rattle.write_cache.specs.Cache.{overlaid}
 use Rattle.commit_laws.specs.Commit.{Commit, Known}
@@ -60,7 +60,7 @@ said_of (Some image) len end IsOf Plans Says size same plan says = λ of. says i
 
 -- a finding of what an image holds is the full check's
 found_by : (image : List ℕ) (finding : Finding) → contents image ≡ Err finding → full_check image ≡ Refusal finding
-unfolding checked
+unfolding checked_with
 found_by image finding is = rw is refl
 
 one_finding : {A : Type 0} (a b : Finding) → told {A = A} (Err (Found a)) ≡ Ok (Err b) → a ≡ b

@@ -12,7 +12,7 @@ use Rattle.super_reader.specs.declared.Super.{Super}
 use Rattle.volume_items.specs.SystemArray.{array_chunks}
 use Rattle.volume_items.specs.declared.root.RootItem.{RootItem}
 use Rattle.records.specs.Contents.{Contents, all_records, chunk_map_in, contents, root_items_in, superblock_in}
-use Rattle.records.specs.FullCheck.{checked, full_check, verdict_of}
+use Rattle.records.specs.FullCheck.{checked, checked_with, full_check, verdict_of}
 use Rattle.records.specs.Seen.{Seen}
 use Rattle.shared_trees.specs.LivePairs.{Walked, live_in, walked}
 use Rattle.shared_trees.proofs.Rooted.{step_ok}
@@ -49,7 +49,7 @@ held_walks image held is =
 
 -- nor have those of an accepted image
 accepted_walks : (image : List ℕ) (generation : ℕ) → full_check image ≡ Accept generation → (whole : Walked) × (walked image ≡ Ok whole)
-unfolding checked
+unfolding checked_with
 accepted_walks image generation is =
     let held = step_ok (contents image) _ generation (generation_ok (checked image) generation is) in
     held_walks image held.0 held.1

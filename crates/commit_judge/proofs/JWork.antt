@@ -11,7 +11,7 @@ use Rattle.std.proofs.lemmas.List.Sums.{sum_by-cons}
 use Rattle.verdict.specs.declared.place.Chunk.{Chunk}
 use Rattle.super_reader.specs.declared.Super.{Super}
 use Rattle.write_cache.specs.Cache.{overlaid}
-use Rattle.accounts.specs.Context.{Context}
+use Rattle.accounts.specs.Context.{Context, no_full}
 use Rattle.accounts.specs.declared.postings.Posting.{Posting}
 use Rattle.change_records.proofs.Merge.{contains_first, contains_more, contains_none}
 use Rattle.change_records.specs.Looks.{AreHoused, HaveStops, is_reached, is_turned, most_looks, spans_of as spans_of_items}
@@ -214,7 +214,7 @@ module _ (laws : Laws) (image : List ℕ) (pending : FinMap nat_cmp ℕ) (k : Kn
   flags_are = fun_ext (λ tree. fun_ext (λ ino. sym (leads.moved.free tree ino)))
 
   context_is : context_by next ≡ context_after k c
-  context_is = λ i. record { chunks = leads.moved.chunks i; nodesize = (leads.moved.sup i).nodesize; sum_free = sym flags_are i }
+  context_is = λ i. record { chunks = leads.moved.chunks i; nodesize = (leads.moved.sup i).nodesize; sum_free = sym flags_are i; full = no_full }
 
   housed : AreSpansHoused image pending k c old new
   housed = laws.housed image pending k next c old new passage

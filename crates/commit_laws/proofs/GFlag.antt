@@ -14,7 +14,7 @@ use Rattle.verdict.specs.declared.key.Key.{Key}
 use Rattle.verdict.specs.declared.kinds.TheConstants.{INODE_ITEM}
 use Rattle.records.specs.Context.{has_sum_free, is_inode, nodatasum, sum_free_inode, sum_free_part}
 use Rattle.records.specs.Owned.{owned_part}
-use Rattle.records.specs.Part.{Located, Part}
+use Rattle.records.specs.Part.{FitsPlace, Located, Part}
 use Rattle.records.specs.Part.Part.{InodePart}
 use Rattle.records.specs.declared.owned.ItemAt.{ItemAt}
 use Rattle.change_records.specs.Changes.{Ascend, IsChange, is_before, item_of}
@@ -23,7 +23,6 @@ use Rattle.change_records.specs.SumFree.{flag_after, flag_at, flag_in, sum_free_
 use Rattle.change_records.specs.declared.changes.ItemChange.{ItemChange}
 use Rattle.change_records.specs.declared.changes.ItemChange.TheVariants.{Added, Altered, Removed}
 use Rattle.tree_change.specs.Gathered.{located_item}
-use Rattle.commit_laws.specs.Items.{FitsPlace}
 use Rattle.commit_laws.specs.Paired.{added_from, came_items, came_of, gone_items, gone_of, removed_from}
 
 -- whether one of some flags is set

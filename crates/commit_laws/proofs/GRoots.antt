@@ -20,7 +20,7 @@ use Rattle.volume_items.specs.declared.root_at.RootAt.{RootAt}
 use Rattle.live_index.specs.declared.live.Live.{Live}
 use Rattle.node_reader.specs.Stored.{stored_in}
 use Rattle.records.specs.Contents.{root_items_in, root_records, root_tree_root, roots_fault}
-use Rattle.records.specs.Part.{Located, Part}
+use Rattle.records.specs.Part.{FitsPlace, Located, Part}
 use Rattle.records.specs.Part.Part.{RootPart}
 use Rattle.records.specs.Seen.{Seen, accounted}
 use Rattle.records.specs.Seen.Seen.{BlockSeen, ItemSeen, PointerSeen}
@@ -43,7 +43,7 @@ use Rattle.tree_change.proofs.Split.{of_trees}
 use Rattle.tree_change.proofs.Unique.{only_list}
 use Rattle.tree_change.proofs.Unordered.{of_id, permuted_pairs}
 use Rattle.commit_laws.specs.Flags.{RootsLaw}
-use Rattle.commit_laws.specs.Items.{FitsPlace, items_of}
+use Rattle.commit_laws.specs.Items.{items_of}
 use Rattle.commit_laws.specs.Same.{HoldSame, RecordsLaw, live_record, records_at, records_of}
 use Rattle.commit_laws.proofs.SFlat.{filter_map_permuted, filter_permuted}
 

@@ -30,8 +30,8 @@ use Rattle.live_index.specs.declared.live.Live.{Live}
 use Rattle.records.specs.Contents.{Contents, contents, super_record}
 use Rattle.records.specs.Context.{context_of}
 use Rattle.records.specs.ExtentPostings.{extent_postings, has_extent, reference_account}
-use Rattle.records.specs.FullCheck.{checked, full_check, verdict_of}
-use Rattle.records.specs.Part.{Located, Part}
+use Rattle.records.specs.FullCheck.{checked_with, full_check, verdict_of}
+use Rattle.records.specs.Part.{FitsPlace, Located, Part}
 use Rattle.records.specs.Part.Part.{BlockPart, ExtentPart, FileExtentPart}
 use Rattle.records.specs.Post.{to}
 use Rattle.records.specs.Postings.{account_fault, all_postings, postings_of}
@@ -45,7 +45,7 @@ use Rattle.change_records.specs.Affected.{NamesBlock, NamesIn}
 use Rattle.change_records.specs.Refs.{ref_to}
 use Rattle.change_records.specs.declared.item_ref.ItemRef.{ItemRef}
 use Rattle.commit_laws.specs.Blocks.{BlocksLaw, HasOwnName}
-use Rattle.commit_laws.specs.Items.{FitsPlace, items_of}
+use Rattle.commit_laws.specs.Items.{items_of}
 use Rattle.commit_laws.proofs.Elements.{Among}
 use Rattle.commit_laws.proofs.IBPostings.{IsForm, Refers, Says, Touches, all_say, reference_is}
 use Rattle.commit_laws.proofs.IBSums.{Adds, all_among, among_left, at_least, counted, given, posted, two_counted}
@@ -59,7 +59,7 @@ told generation fault = verdict_of (and_then (finding_or fault (tt {0})) (λ _. 
 
 full_of : (image : List ℕ) (held : Contents) → contents image ≡ Ok held
     → full_check image ≡ told held.sup.generation (account_fault (context_of held) held.records)
-unfolding checked
+unfolding checked_with
 full_of image held holds = rw holds refl
 
 no_fault : (generation other : ℕ) (fault : Option Finding) → told generation fault ≡ Accept other → fault ≡ None

@@ -19,7 +19,7 @@ use Rattle.node_reader.specs.declared.expect.Expect.{Expect}
 use Rattle.node_reader.specs.declared.expect.Pointer.{Pointer}
 use Rattle.records.specs.Contents.{superblock_in}
 use Rattle.records.specs.Item.{item_record}
-use Rattle.records.specs.Part.{IsLawful, Located, Part}
+use Rattle.records.specs.Part.{FitsPlace, IsLawful, Located, Part}
 use Rattle.records.specs.Seen.{Seen}
 use Rattle.records.specs.Seen.Seen.{ItemSeen}
 use Rattle.records.specs.Walk.{Records, behind, each, entry_records, just, leaf_record, leaf_records, pointer_records, then_records}
@@ -30,7 +30,7 @@ use Rattle.shared_trees.proofs.Picking.{each_map}
 use Rattle.shared_trees.proofs.Trails.{Visit}
 use Rattle.shared_trees.proofs.Treed.{steps_of}
 use Rattle.change_records.specs.Spans.{IsLawfulIn}
-use Rattle.commit_laws.specs.Items.{FitsPlace, ItemsLaw}
+use Rattle.commit_laws.specs.Items.{ItemsLaw}
 use Rattle.commit_laws.proofs.Found.{Owns, found_of, items_all, items_at, stored_of}
 use Rattle.commit_laws.proofs.IApart.{stand_apart}
 use Rattle.commit_laws.proofs.IRows.{Kept, item_kept, place_at}

@@ -42,12 +42,11 @@ use Rattle.fs_items.specs.declared.file_extent.FileExtent.{FileExtent}
 use Rattle.fs_items.specs.declared.inode.InodeItem.{InodeItem}
 use Rattle.records.specs.Item.{as_part, chunk_tree_record, device_tree_record, extent_tree_record, file_tree_record, groups_tree_record, inode_record}
 use Rattle.records.specs.Item.{item_record, record_in, root_tree_record, sums_tree_record, unlisted}
-use Rattle.records.specs.Part.{IsLawful, Located, Part}
+use Rattle.records.specs.Part.{FitsPlace, IsLawful, Located, Part}
 use Rattle.records.specs.Part.Part.{BlockPart, ChunkPart, DevExtentPart, DevicePart, EntriesPart, ExtentPart, FileExtentPart, GroupPart, InodePart, KeyedPart}
 use Rattle.records.specs.Part.Part.{LinkPart, NamesPart, OrphanPart, RootPart, SumsPart, UnreadPart, XattrPart}
 use Rattle.records.proofs.Lawful.{extent_begins_sector, range_sectors, sums_sectors}
 use Rattle.change_records.specs.Spans.{IsLawfulIn}
-use Rattle.commit_laws.specs.Items.{FitsPlace}
 
 -- an item at its place
 abbrev pub place_at : ℕ → ℕ → Key → Part → Located

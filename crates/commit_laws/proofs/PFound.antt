@@ -17,11 +17,11 @@ use Rattle.change_records.specs.declared.item_ref.ItemRef.{ItemRef}
 use Rattle.change_records.proofs.MadeLaws.{tied_ref}
 use Rattle.change_records.proofs.Merge.{contains_first, contains_more, contains_none}
 use Rattle.live_index.specs.Pairs.{Pairs}
-use Rattle.records.specs.Part.{Located}
+use Rattle.records.specs.Part.{FitsPlace, Located}
 use Rattle.records.specs.Postings.{postings_of}
 use Rattle.records.specs.SpacePostings.{rest_postings}
 use Rattle.commit_laws.specs.Blocks.{HasOwnName}
-use Rattle.commit_laws.specs.Items.{FitsPlace, ItemsStand}
+use Rattle.commit_laws.specs.Items.{ItemsStand}
 use Rattle.commit_laws.specs.Kept.{AreFound, FoundLaw, kept_items, placed_postings}
 use Rattle.commit_laws.specs.Paired.{name_of}
 use Rattle.commit_laws.proofs.PAlike.{contains_cases, pairs_cons, pairs_head, pairs_tail}

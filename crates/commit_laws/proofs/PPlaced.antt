@@ -11,12 +11,11 @@ use Rattle.accounts.specs.declared.context.Home.{Home}
 use Rattle.change_records.specs.Refs.{ref_to}
 use Rattle.extent_items.specs.ExtentRow.{ExtentFields}
 use Rattle.fs_items.specs.declared.file_extent.FileExtent.{FileExtent}
-use Rattle.records.specs.Part.{Part}
+use Rattle.records.specs.Part.{FitsPlace, Part}
 use Rattle.records.specs.Part.Part.{RootPart, ExtentPart, FileExtentPart}
 use Rattle.records.specs.Post.{to}
 use Rattle.records.specs.Postings.{postings_of}
 use Rattle.records.specs.SpacePostings.{is_to_sector, rest_postings, sectors_of, shown_postings, shows_sums, space_postings}
-use Rattle.commit_laws.specs.Items.{FitsPlace}
 use Rattle.commit_laws.specs.Kept.{extent_at, placed_postings}
 
 -- no posting to a sector is among the others

@@ -18,7 +18,7 @@ use Rattle.node_reader.specs.Stored.CopyFault.{NoPlace}
 use Rattle.node_reader.specs.declared.expect.Expect.{Expect}
 use Rattle.records.specs.Contents.{Contents, all_records, chunk_map_in, chunk_tree_root, contents, named_root, root_items_in, root_tree_root, roots_fault, superblock_in, tree_records}
 use Rattle.records.specs.Context.{context_of}
-use Rattle.records.specs.FullCheck.{checked, full_check, verdict_of}
+use Rattle.records.specs.FullCheck.{checked_with, full_check, verdict_of}
 use Rattle.records.specs.Postings.{account_fault}
 use Rattle.records.specs.Takes.{held_after, with_chunk, with_root}
 use Rattle.records.specs.Walk.{then_records, walk_in}
@@ -155,7 +155,7 @@ same_held : (image : List ℕ) (a b : Contents) → contents image ≡ Ok a → 
 same_held image a b x y = cc
 
 same_check : (image other : List ℕ) → contents other ≡ contents image → full_check other ≡ full_check image
-unfolding checked
+unfolding checked_with
 same_check image other same =
     ap (λ held. verdict_of (and_then held (λ h. and_then (finding_or (account_fault (context_of h) h.records) (tt {0})) (λ _. Ok h.sup.generation))))
     same

@@ -19,7 +19,7 @@ use Rattle.accounts.proofs.First.{least_is_least, unposted}
 use Rattle.change_records.specs.Affected.{context_with}
 use Rattle.records.specs.Contents.{Contents, contents, superblock_in}
 use Rattle.records.specs.Context.{context_of, has_sum_free}
-use Rattle.records.specs.FullCheck.{checked, full_check, verdict_of}
+use Rattle.records.specs.FullCheck.{checked_with, full_check, verdict_of}
 use Rattle.records.specs.Part.{Located}
 use Rattle.records.specs.Postings.{account_fault, all_postings}
 use Rattle.shared_trees.specs.LivePairs.{Walked, live_in, table_of, walked}
@@ -48,7 +48,7 @@ told generation fault = verdict_of (and_then (finding_or fault (tt {0})) (λ _. 
 
 pub full_of : (image : List ℕ) (held : Contents) (fault : Option Finding) → contents image ≡ Ok held
     → account_fault (context_of held) held.records ≡ fault → full_check image ≡ told held.sup.generation fault
-unfolding checked
+unfolding checked_with
 full_of image held fault holds is =
     ap (λ (r : Result Contents Finding). verdict_of (and_then r (λ (h : Contents).
     and_then (finding_or (account_fault (context_of h) h.records) (tt {0})) (λ _. Ok h.sup.generation)))) holds
@@ -61,7 +61,7 @@ no_fault generation other (Some finding) is = absurd (cc)
 pub same_fault : (image : List ℕ) (whole : Walked) (held : Contents) → HoldsWalked image whole held
     → account_fault (context_of held) held.records ≡ account_fault (context_at whole) (records_of whole)
 same_fault image whole held is =
-    λ i. account_fault (record { chunks = is.chunks i; nodesize = (is.sup i).nodesize; sum_free = has_sum_free (is.records i) }) (is.records i)
+    λ i. account_fault (record { chunks = is.chunks i; nodesize = (is.sup i).nodesize; sum_free = has_sum_free (is.records i); full = no_full }) (is.records i)
 
 none_least : (o : Option Account) → option_map broken_finding o ≡ None → o ≡ None
 none_least None is = refl

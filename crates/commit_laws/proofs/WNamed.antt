@@ -26,7 +26,7 @@ use Rattle.records.specs.Postings.{postings_of}
 use Rattle.records.specs.Seen.{Seen, accounted, block_record}
 use Rattle.records.specs.Seen.Seen.{BlockSeen, ItemSeen, PointerSeen}
 use Rattle.records.specs.SpacePostings.{is_data, space_postings}
-use Rattle.records.specs.declared.rec.BlockAt.{BlockAt}
+use Rattle.records.specs.declared.rec.WalkedBlock.{WalkedBlock}
 use Rattle.shared_trees.specs.LivePairs.{Walked}
 use Rattle.shared_trees.specs.Unshared.{item_seen}
 use Rattle.span_index.specs.Order.{is_same}
@@ -48,7 +48,7 @@ use Rattle.commit_laws.proofs.WSpans.{there}
 
 -- ---- records and items
 
-seen_all : (Q : Located → Type 0) → ((block : BlockAt) → Q (block_record block)) → (seen : List Seen)
+seen_all : (Q : Located → Type 0) → ((block : WalkedBlock) → Q (block_record block)) → (seen : List Seen)
     → AllByRecursion Q (filter_map item_seen seen) → AllByRecursion Q (filter_map accounted seen)
 seen_all Q blocks [] all = all
 seen_all Q blocks (BlockSeen block ∷ more) all = (blocks block, seen_all Q blocks more all)
@@ -56,7 +56,7 @@ seen_all Q blocks (PointerSeen pointer ∷ more) all = seen_all Q blocks more al
 seen_all Q blocks (ItemSeen one ∷ more) all = (all.0, seen_all Q blocks more all.1)
 
 -- what holds of the superblock's record, of those of blocks and of all items holds of all records
-pub records_all : (Q : Located → Type 0) → ((sup : Super) → Q (super_record sup)) → ((block : BlockAt) → Q (block_record block)) → (whole : Walked)
+pub records_all : (Q : Located → Type 0) → ((sup : Super) → Q (super_record sup)) → ((block : WalkedBlock) → Q (block_record block)) → (whole : Walked)
     → All Q (items_of whole) → All Q (records_of whole)
 unfolding records_of
 records_all Q sup blocks whole all =

@@ -4,10 +4,10 @@ use Rattle.std.specs.List.{AllPairs}
 use Rattle.std.proofs.lemmas.List.Elements.{recursion_from_All}
 use Rattle.verdict.specs.OnDisk.{key_below}
 use Rattle.chunk_map.specs.Roots.{KeysAscend}
-use Rattle.records.specs.Part.{Located}
+use Rattle.records.specs.Part.{FitsPlace, Located}
 use Rattle.tree_change.specs.Merging.{named_before, root_at}
 use Rattle.volume_items.specs.declared.root_at.RootAt.{RootAt}
-use Rattle.commit_laws.specs.Items.{FitsPlace, ItemsLaw, items_of}
+use Rattle.commit_laws.specs.Items.{ItemsLaw, items_of}
 use Rattle.commit_laws.specs.Sound.{AscendLaw}
 use Rattle.commit_laws.proofs.GRoots.{known_roots}
 

@@ -4,7 +4,7 @@ ghost use Rattle.records.specs.Part.{IsLawful, located};
 
 use chunk_map::ChunkMap;
 use live_index::Live;
-use records::{BlockAt, Rec, RecAt, Record, Taker};
+use records::{Rec, RecAt, Record, Taker, WalkedBlock};
 use std::alloc::Global;
 use verdict::{Key, NoMemory};
 use volume_items::RootAt;
@@ -46,7 +46,7 @@ impl Seen {
     }
 
     // Puts the pair of a block, of which no item is known yet. No more is below the blocks that it is beside.
-    fn put_block(&mut self, block: &BlockAt) -> Result<(), NoMemory> {
+    fn put_block(&mut self, block: &WalkedBlock) -> Result<(), NoMemory> {
         let lives = &self.lives;
         self.path.retain(|place| match lives.get(*place) {
             Some(live) => live.tree == block.tree && live.level > block.level,
@@ -99,7 +99,7 @@ impl Seen {
 }
 
 // The pair of a block without items.
-fn live_of(block: &BlockAt) -> Live {
+fn live_of(block: &WalkedBlock) -> Live {
     Live {
         tree: block.tree,
         address: block.address,

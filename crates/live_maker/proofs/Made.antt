@@ -5,7 +5,7 @@ use Rattle.verdict.specs.declared.key.Key.{Key}
 use Rattle.live_index.specs.declared.live.Live.{Live}
 use Rattle.records.specs.Seen.{Seen}
 use Rattle.records.specs.Seen.Seen.{BlockSeen, PointerSeen, ItemSeen}
-use Rattle.records.specs.declared.rec.BlockAt.{BlockAt}
+use Rattle.records.specs.declared.rec.WalkedBlock.{WalkedBlock}
 use Rattle.shared_trees.specs.LivePairs.{greater_key, is_beside, last_key, live_in, live_of, records_in}
 use Rattle.live_maker.specs.Opened.{closes, finished, last_below, no_lives, opened, raised, with_key, with_record, LivesMade}
 use Rattle.live_maker.proofs.Behind.{below_closed, below_more}
@@ -58,16 +58,16 @@ held_of (PointerSeen one ∷ more) = held_of more
 held_of (ItemSeen item ∷ more) = held_of more
 
 -- the records of a block, where the first is that of a block
-in_closed : (block one : BlockAt) (more : List Seen) → is_beside block (BlockSeen one) ≡ true → last_key (records_in block (BlockSeen one ∷ more)) ≡ no_key
+in_closed : (block one : WalkedBlock) (more : List Seen) → is_beside block (BlockSeen one) ≡ true → last_key (records_in block (BlockSeen one ∷ more)) ≡ no_key
 unfolding last_key records_in
 in_closed block one more is = rw is refl
 
-in_more : (block one : BlockAt) (more : List Seen) → is_beside block (BlockSeen one) ≡ false
+in_more : (block one : WalkedBlock) (more : List Seen) → is_beside block (BlockSeen one) ≡ false
     → last_key (records_in block (BlockSeen one ∷ more)) ≡ last_key (records_in block more)
 unfolding last_key records_in
 in_more block one more is = rw is refl
 
-last_block : (block : BlockAt) (live : Live) (one : BlockAt) (more : List Seen) (b : Bool) → is_beside block (BlockSeen one) ≡ b → closes live (opened one) ≡ b
+last_block : (block : WalkedBlock) (live : Live) (one : WalkedBlock) (more : List Seen) (b : Bool) → is_beside block (BlockSeen one) ≡ b → closes live (opened one) ≡ b
     → greater_key (own_key more) (last_below live (open_in more)) ≡ last_key (records_in block more)
     → greater_key no_key (last_below live (open_in (BlockSeen one ∷ more))) ≡ last_key (records_in block (BlockSeen one ∷ more))
 last_block block live one more true is here so =
@@ -81,11 +81,11 @@ last_block block live one more false is here so =
     ∙ so
     ∙ sym (in_more block one more is)
 
-same_test : (block one : BlockAt) (live : Live) → live.tree ≡ block.tree → live.level ≡ block.level → closes live (opened one) ≡ is_beside block (BlockSeen one)
+same_test : (block one : WalkedBlock) (live : Live) → live.tree ≡ block.tree → live.level ≡ block.level → closes live (opened one) ≡ is_beside block (BlockSeen one)
 same_test block one live t l = rw (t, l) refl
 
 -- the greatest key of a block is that of its own items and of what is handed up to it
-last_of : (block : BlockAt) (live : Live) (records : List Seen) → live.tree ≡ block.tree → live.level ≡ block.level
+last_of : (block : WalkedBlock) (live : Live) (records : List Seen) → live.tree ≡ block.tree → live.level ≡ block.level
     → greater_key (own_key records) (last_below live (open_in records)) ≡ last_key (records_in block records)
 unfolding last_below last_key records_in
 last_of block live [] t l = none_greater no_key
@@ -96,7 +96,7 @@ last_of block live (ItemSeen item ∷ more) t l =
     greater_assoc item.key (own_key more) (last_below live (open_in more)) ∙ ap (greater_key item.key) (last_of block live more t l)
 
 -- the pair of a block once all are closed
-made_one : (block : BlockAt) (more : List Seen)
+made_one : (block : WalkedBlock) (more : List Seen)
     → raised (last_below (opened block) (open_in more)) (raised (own_key more) (opened block)) ≡ live_of block more
 made_one block more =
     ap (λ k. record (opened block) { last = k })

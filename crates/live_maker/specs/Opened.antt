@@ -7,12 +7,12 @@ use Rattle.verdict.specs.declared.key.Key.{Key}
 use Rattle.live_index.specs.declared.live.Live.{Live}
 use Rattle.records.specs.Seen.{Seen}
 use Rattle.records.specs.Seen.Seen.{BlockSeen, ItemSeen}
-use Rattle.records.specs.declared.rec.BlockAt.{BlockAt}
+use Rattle.records.specs.declared.rec.WalkedBlock.{WalkedBlock}
 use Rattle.shared_trees.specs.LivePairs.{first_or_greatest, greater_key, live_in}
 use Rattle.live_maker.specs.declared.lives.Lives.{Lives}
 
 -- the pair of a block that has had no item
-abbrev pub opened : BlockAt → Live
+abbrev pub opened : WalkedBlock → Live
 opened block = record {
   tree = block.tree;
   address = block.address;

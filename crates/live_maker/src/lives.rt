@@ -8,7 +8,7 @@ ghost use Rattle.live_maker.specs.Closing.{left_of};
 
 use live_index::{Live, LiveIndex};
 use recon_disk::Steps;
-use records::{BlockAt, Record, Taker};
+use records::{Record, Taker, WalkedBlock};
 use std::alloc::Global;
 use verdict::{Key, NoMemory};
 
@@ -84,7 +84,7 @@ impl Taker for Lives {
 }
 
 // The pair of a block that has had no item.
-fn opened(block: &BlockAt) -> Live
+fn opened(block: &WalkedBlock) -> Live
     ensures { result ≡ opened block.now }
 {
     Live {
@@ -100,7 +100,7 @@ fn opened(block: &BlockAt) -> Live
 }
 
 // The first key of a block, or the greatest key where it has none.
-fn first_of(block: &BlockAt) -> Key
+fn first_of(block: &WalkedBlock) -> Key
     ensures { result ≡ first_or_greatest block.now.first }
 {
     match block.first {

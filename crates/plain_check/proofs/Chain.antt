@@ -5,7 +5,7 @@ use Rattle.verdict.specs.declared.finding.Finding.{Finding}
 use Rattle.records.specs.Contents.{Contents}
 use Rattle.records.specs.Seen.{Seen}
 use Rattle.records.specs.Walk.{Records}
-use Rattle.records.specs.FullCheck.{checked}
+use Rattle.records.specs.FullCheck.{checked, checked_with}
 use Rattle.plain_check.specs.Accounts.{accounts_in, accounts_of}
 use Rattle.plain_check.specs.Opened.{Opened, opened, named_records}
 use Rattle.plain_check.specs.OpeningLaw.{contents_with}
@@ -30,7 +30,7 @@ then_accounts o (Err finding) = refl
 then_accounts o (Ok more) = refl
 
 pub checked_by : (image : List ℕ) → checked image ≡ steps_of image
-unfolding checked accounts_in
+unfolding checked_with accounts_in
 checked_by image =
     ap (λ held. and_then held after_contents) (opens image)
     ∙ then_next (opened image) _ _ _ (λ o. then_accounts o (named_records o image))

@@ -5,7 +5,7 @@ ghost use Rattle.std.specs.List.{fold};
 ghost use Rattle.records.specs.Seen.{seen};
 ghost use Rattle.plain_check.specs.Kept.{kept_seen};
 
-use records::{BlockAt, ItemAt, PointerAt, RecAt, Record, Taker};
+use records::{ItemAt, PointerAt, RecAt, Record, Taker, WalkedBlock};
 use std::alloc::Global;
 use std::marker::Model;
 use verdict::NoMemory;
@@ -14,7 +14,7 @@ use verdict::NoMemory;
 #[derive(Drop)]
 pub enum KeptRecord {
     // A block.
-    Block(BlockAt),
+    Block(WalkedBlock),
     // A pointer of a node.
     Pointer(PointerAt),
     // An item of a leaf.

@@ -12,7 +12,7 @@ use Rattle.records.specs.Contents.{Contents, contents, superblock_in, chunk_map_
 use Rattle.records.specs.Context.{context_of}
 use Rattle.records.specs.Seen.{accounted}
 use Rattle.records.specs.Postings.{account_fault}
-use Rattle.records.specs.FullCheck.{checked, verdict_of, full_check}
+use Rattle.records.specs.FullCheck.{checked, checked_with, verdict_of, full_check}
 
 -- a step that comes to a value, and what followed
 and_then-ok : {A B : Type 0} (step : Result A Finding) (next : A → Result B Finding) (value : B) → and_then step next ≡ Ok value → (a : A) × (step ≡ Ok a) × (next a ≡ Ok value)
@@ -37,7 +37,7 @@ held_superblock image held is =
 
 -- an accepted image has a superblock of the generation
 pub accepted_superblock : (image : List ℕ) (generation : ℕ) → full_check image ≡ Accept generation → (sup : Super) × (superblock_in image ≡ Ok sup) × (sup.generation ≡ generation)
-unfolding checked
+unfolding checked_with
 accepted_superblock image generation is =
     let held = and_then-ok (contents image) _ generation (accepted_generation (checked image) generation is) in
     let last = and_then-ok (finding_or (account_fault (context_of held.0) held.0.records) (tt {0})) _ generation held.2 in

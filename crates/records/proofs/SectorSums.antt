@@ -234,29 +234,29 @@ rest_total context tree part account field other = filter_total (space_postings 
 
 -- ---- on inodes without sums only the ranges of files rest
 
--- the same context, with other inodes without sums
-abbrev pub with_free : Context → (ℕ → ℕ → Bool) → Context
-with_free context free = record { chunks = context.chunks; nodesize = context.nodesize; sum_free = free }
+-- the same chunks and size of a tree block, with the inodes without sums and the full blocks of another context
+abbrev pub with_flags : Context → Context → Context
+with_flags context other = record { chunks = context.chunks; nodesize = context.nodesize; sum_free = other.sum_free; full = other.full }
 
 -- a record of another sort than a range of a file
 abbrev pub IsNoRange : Part → Type 0
 IsNoRange (FileExtentPart range) = ⊥
 IsNoRange other = Unit {0}
 
-context_same : (c d : Context) → c.chunks ≡ d.chunks → c.nodesize ≡ d.nodesize → with_free c d.sum_free ≡ d
-context_same c d chunks nodesize = λ i. record { chunks = chunks i; nodesize = nodesize i; sum_free = d.sum_free }
+context_same : (c d : Context) → c.chunks ≡ d.chunks → c.nodesize ≡ d.nodesize → with_flags c d ≡ d
+context_same c d chunks nodesize = λ i. record { chunks = chunks i; nodesize = nodesize i; sum_free = d.sum_free; full = d.full }
 
-space_alike : (c : Context) (free : ℕ → ℕ → Bool) (tree : ℕ) (part : Part) → IsNoRange part → space_postings c tree part ≡ space_postings (with_free c free) tree part
+space_alike : (c d : Context) (tree : ℕ) (part : Part) → IsNoRange part → space_postings c tree part ≡ space_postings (with_flags c d) tree part
 unfolding space_postings
-space_alike c free tree (FileExtentPart range) sort = absurd sort
-space_alike c free tree (SuperPart used) sort = refl
-space_alike c free tree (ChunkPart item) sort = refl
-space_alike c free tree (DevicePart item) sort = refl
-space_alike c free tree (DevExtentPart item) sort = refl
-space_alike c free tree (GroupPart item) sort = refl
-space_alike c free tree (ExtentPart item) sort = refl
-space_alike c free tree (SumsPart item) sort = refl
-space_alike c free tree other sort = refl
+space_alike c d tree (FileExtentPart range) sort = absurd sort
+space_alike c d tree (SuperPart used) sort = refl
+space_alike c d tree (ChunkPart item) sort = refl
+space_alike c d tree (DevicePart item) sort = refl
+space_alike c d tree (DevExtentPart item) sort = refl
+space_alike c d tree (GroupPart item) sort = refl
+space_alike c d tree (ExtentPart item) sort = refl
+space_alike c d tree (SumsPart item) sort = refl
+space_alike c d tree other sort = refl
 
 -- a range of a file posts to sectors alone
 no_rest_shown : (addresses : List ℕ) → filter (λ q. not (is_to_sector q)) (map (λ address. to (sector address) 3 1) addresses) ≡ []
@@ -272,18 +272,18 @@ pub range_no_rest : (c : Context) (tree : ℕ) (range : FileExtent) → rest_pos
 unfolding space_postings
 range_no_rest c tree range = no_rest_case range (shows_sums c tree range) (home_of c range.extent range.extent_length)
 
-rest_free : (c : Context) (free : ℕ → ℕ → Bool) (tree : ℕ) (part : Part) → rest_postings c tree part ≡ rest_postings (with_free c free) tree part
-rest_free c free tree (FileExtentPart range) = range_no_rest c tree range ∙ sym (range_no_rest (with_free c free) tree range)
-rest_free c free tree other = ap (filter (λ q. not (is_to_sector q))) (space_alike c free tree other tt)
+rest_flags : (c d : Context) (tree : ℕ) (part : Part) → rest_postings c tree part ≡ rest_postings (with_flags c d) tree part
+rest_flags c d tree (FileExtentPart range) = range_no_rest c tree range ∙ sym (range_no_rest (with_flags c d) tree range)
+rest_flags c d tree other = ap (filter (λ q. not (is_to_sector q))) (space_alike c d tree other tt)
 
 -- the postings to no sector are the same by contexts with the same chunks and size of a block
 pub rest_alike : (c d : Context) (tree : ℕ) (part : Part) → c.chunks ≡ d.chunks → c.nodesize ≡ d.nodesize → rest_postings c tree part ≡ rest_postings d tree part
-rest_alike c d tree part chunks nodesize = rest_free c d.sum_free tree part ∙ ap (λ e. rest_postings e tree part) (context_same c d chunks nodesize)
+rest_alike c d tree part chunks nodesize = rest_flags c d tree part ∙ ap (λ e. rest_postings e tree part) (context_same c d chunks nodesize)
 
 -- and those of a record but a range to sectors
 pub sector_alike : (c d : Context) (tree : ℕ) (part : Part) → c.chunks ≡ d.chunks → c.nodesize ≡ d.nodesize → IsNoRange part → (address field : ℕ) → sector_sum c tree part address field ≡ sector_sum d tree part address field
 sector_alike c d tree part chunks nodesize sort address field =
-    ap (λ ps. total_of ps (sector address) field) (space_alike c d.sum_free tree part sort ∙ ap (λ e. space_postings e tree part) (context_same c d chunks nodesize))
+    ap (λ ps. total_of ps (sector address) field) (space_alike c d tree part sort ∙ ap (λ e. space_postings e tree part) (context_same c d chunks nodesize))
 
 shows_case : (sort hole free : Bool) (range : FileExtent) (place : Option Home) (address field : ℕ)
     → total_of (cond (sort && (not hole && not free)) (shown_postings range place) []) (sector address) field
@@ -303,4 +303,4 @@ unfolding space_postings
 range_sector c d tree range address field chunks nodesize none =
     shows_case (range.sort == 1) (range.extent == 0) (c.sum_free tree range.key.objectid) range (home_of c range.extent range.extent_length) address field
     ∙ ap (λ e. cond (c.sum_free tree range.key.objectid) 0 (sector_sum e tree (FileExtentPart range) address field))
-    (ap (with_free c) (sym none) ∙ context_same c d chunks nodesize)
+    (let back = sym none in λ i. record { chunks = chunks i; nodesize = nodesize i; sum_free = back i; full = d.full })

@@ -1,7 +1,7 @@
 -- The context of an image: what the records of one item are read by beside the item itself.
 use Rattle.std.specs.Prelude.{ℕ, Bool, ◌&&◌, ◌==◌, bit_and, List, Option, Some, None, if◌then◌else◌}
 use Rattle.std.specs.List.{filter_map, list_any}
-use Rattle.accounts.specs.Context.{Context}
+use Rattle.accounts.specs.Context.{Context, no_full}
 use Rattle.records.specs.Part.{Located, Part}
 use Rattle.records.specs.Part.Part.{InodePart}
 use Rattle.records.specs.Contents.{Contents}
@@ -28,4 +28,4 @@ has_sum_free records tree ino = list_any (is_inode tree ino) (filter_map sum_fre
 
 -- the context of an image that holds this
 abbrev pub context_of : Contents → Context
-context_of held = record { chunks = held.chunks; nodesize = held.sup.nodesize; sum_free = has_sum_free held.records }
+context_of held = record { chunks = held.chunks; nodesize = held.sup.nodesize; sum_free = has_sum_free held.records; full = no_full }

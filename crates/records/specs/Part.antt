@@ -1,6 +1,8 @@
 -- What a record says, as a plain value, and where it stands.
-use Rattle.std.specs.Prelude.{◌≡◌, ℕ, ◌+◌, ◌*◌, ◌/◌, ◌^◌, ◌<◌, true, List, length}
+use Rattle.std.specs.Prelude.{◌≡◌, ◌⊎◌, ℕ, ◌+◌, ◌*◌, ◌/◌, ◌^◌, ◌<◌, true, List, length}
 use Rattle.verdict.specs.Items.{is_multiple}
+use Rattle.verdict.specs.declared.kinds.TheConstants.{EXTENT_DATA, EXTENT_ITEM, INODE_ITEM, METADATA_ITEM}
+use Rattle.verdict.specs.declared.trees.TheConstants.{CHUNK_TREE, EXTENT_TREE, ROOT_TREE}
 use Rattle.verdict.specs.declared.key.Key.{Key}
 use Rattle.volume_items.specs.declared.root.RootItem.{RootItem}
 use Rattle.volume_items.specs.RootLinkRow.{RootLinkFields}
@@ -91,3 +93,13 @@ IsLawful (ExtentPart item) = is_multiple item.key.objectid ≡ true
 IsLawful (FileExtentPart range) = 0 < range.extent → AreSectors (range.extent + range.offset) range.length
 IsLawful (SumsPart item) = AreSectors item.key.offset (4096 * (length item.sums / 4))
 IsLawful other = Unit {0}
+
+-- An item says its own key, and what it is goes with its tree and its kind: root items stand in the root tree, chunks in the chunk tree and
+-- extents in the extent tree, and an inode has one item.
+abbrev pub FitsPlace : ℕ → Key → Part → Type 0
+FitsPlace tree key (RootPart item) = (tree ≡ ROOT_TREE) × (item.key ≡ key)
+FitsPlace tree key (ChunkPart item) = (tree ≡ CHUNK_TREE) × (item.key ≡ key)
+FitsPlace tree key (ExtentPart item) = (tree ≡ EXTENT_TREE) × (item.key ≡ key) × ((key.kind ≡ EXTENT_ITEM) ⊎ (key.kind ≡ METADATA_ITEM))
+FitsPlace tree key (FileExtentPart item) = (item.key ≡ key) × (key.kind ≡ EXTENT_DATA)
+FitsPlace tree key (InodePart item) = (item.key ≡ key) × (key.kind ≡ INODE_ITEM) × (key.offset ≡ 0)
+FitsPlace tree key other = Unit {0}

@@ -3,14 +3,14 @@ use Rattle.std.specs.Prelude.{Option, Some, None}
 use Rattle.verdict.specs.Rules.{no_key}
 use Rattle.records.specs.Part.{Located, located, IsLawful}
 use Rattle.records.specs.Part.Part.{BlockPart}
-use Rattle.records.specs.declared.rec.BlockAt.{BlockAt}
+use Rattle.records.specs.declared.rec.WalkedBlock.{WalkedBlock}
 use Rattle.records.specs.declared.rec.PointerAt.{PointerAt}
 use Rattle.records.specs.declared.rec.Record.{Record}
 use Rattle.records.specs.declared.rec.Record.TheVariants.{Block, Pointer, Item}
 
 -- a block, a pointer of a node, or an item of a leaf; the superblock's record is one of the last sort
 pub data Seen : Type 0 where
-  BlockSeen : BlockAt → Seen
+  BlockSeen : WalkedBlock → Seen
   PointerSeen : PointerAt → Seen
   ItemSeen : Located → Seen
 
@@ -26,7 +26,7 @@ IsLawfulSeen (ItemSeen one) = IsLawful one.part
 IsLawfulSeen other = Unit {0}
 
 -- a block as accounts see it: its address and its level
-abbrev pub block_record : BlockAt → Located
+abbrev pub block_record : WalkedBlock → Located
 block_record block = record { tree = block.tree; block = block.address; key = no_key; part = BlockPart block.address block.level }
 
 -- what accounts see: all but the pointers

@@ -12,7 +12,7 @@ use Rattle.node_reader.specs.Stored.{Stored, stored_in, block_in}
 use Rattle.node_reader.specs.Layout.{LeafItem, first_key_of, items_of, owner_of, pointers_of}
 use Rattle.node_reader.specs.declared.expect.Expect.{Expect}
 use Rattle.node_reader.specs.declared.expect.Pointer.{Pointer}
-use Rattle.records.specs.declared.rec.BlockAt.{BlockAt}
+use Rattle.records.specs.declared.rec.WalkedBlock.{WalkedBlock}
 use Rattle.records.specs.declared.rec.PointerAt.{PointerAt}
 use Rattle.records.specs.Seen.{Seen}
 use Rattle.records.specs.Seen.Seen.{BlockSeen, PointerSeen, ItemSeen}
@@ -64,7 +64,7 @@ children_of level e [] = []
 children_of level e (pointer ∷ pointers) = child_of level e pointer (high_of pointers e.high) ∷ children_of level e pointers
 
 -- the block that is expected, with these bytes: the high key is no part of it
-abbrev pub block_at : Expect → List ℕ → BlockAt
+abbrev pub block_at : Expect → List ℕ → WalkedBlock
 block_at e bytes = record {
   tree = e.tree;
   address = e.address;

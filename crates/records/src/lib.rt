@@ -10,5 +10,5 @@ mod take;
 pub use item::read_item;
 pub use law::{high_leaves, visits_decide};
 pub use owned::{ItemAt, OwnedRec};
-pub use rec::{BlockAt, PointerAt, Rec, RecAt, Record};
+pub use rec::{PointerAt, Rec, RecAt, Record, WalkedBlock};
 pub use take::{Both, Nothing, Taker};

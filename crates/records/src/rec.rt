@@ -76,7 +76,7 @@ pub struct RecAt<'a> {
 /// A block where a walk came to it: what was expected of it but for its high key, and what its bytes say of their
 /// owner and their first key.
 #[derive(Clone, Copy, Debug)]
-pub struct BlockAt {
+pub struct WalkedBlock {
     /// The id of the tree.
     pub tree: u64,
     /// The block's logical address in bytes.
@@ -95,7 +95,7 @@ pub struct BlockAt {
     pub first: Option<Key>,
 }
 
-impl BlockAt {
+impl WalkedBlock {
     /// The block as accounts see it: its address and its level.
     pub fn record(&self) -> RecAt<'static>
         ensures { located result ≡ block_record self.now }
@@ -130,7 +130,7 @@ pub struct PointerAt {
 #[derive(Clone, Copy, Debug)]
 pub enum Record<'a> {
     /// A block.
-    Block(BlockAt),
+    Block(WalkedBlock),
     /// A pointer of a node.
     Pointer(PointerAt),
     /// An item of a leaf, or the superblock.

@@ -15,7 +15,7 @@ use Rattle.records.specs.Seen.{Seen}
 use Rattle.records.specs.Seen.Seen.{BlockSeen, PointerSeen, ItemSeen}
 use Rattle.records.specs.Walk.{Records, block_at, child_of, children_of, each, entry_records, high_of, just, leaf_record, leaf_records, pointer_records, walk_of}
 use Rattle.records.specs.WalkLaw.{visited}
-use Rattle.records.specs.declared.rec.BlockAt.{BlockAt}
+use Rattle.records.specs.declared.rec.WalkedBlock.{WalkedBlock}
 use Rattle.shared_trees.specs.Keeping.{live_at}
 use Rattle.shared_trees.specs.LivePairs.{last_key, live_in, live_of, records_in}
 use Rattle.shared_trees.specs.TableLaw.{LivesLaw}
@@ -78,7 +78,7 @@ stops_less tree level (PointerSeen one ∷ more) stops = elim stops [ ]
 stops_less tree level (ItemSeen one ∷ more) stops = elim stops [ ]
 
 -- what is below a block ends before a block that is not
-pub records_until : (block : BlockAt) (records rest : List Seen) → Inside block.tree block.level records → Stops block.tree block.level rest → records_in block (records ++ rest) ≡ records
+pub records_until : (block : WalkedBlock) (records rest : List Seen) → Inside block.tree block.level records → Stops block.tree block.level rest → records_in block (records ++ rest) ≡ records
 unfolding records_in
 records_until block [] [] inside stops = refl
 records_until block [] (BlockSeen one ∷ more) inside stops = rw stops refl

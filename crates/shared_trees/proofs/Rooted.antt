@@ -31,7 +31,7 @@ use Rattle.records.specs.Seen.Seen.{BlockSeen, PointerSeen, ItemSeen}
 use Rattle.records.specs.Takes.{held_after, with_root}
 use Rattle.records.specs.Walk.{Records, behind, block_at, each, entry_records, just, leaf_record, leaf_records, own_records, pointer_records, then_records, walk_in, walk_of}
 use Rattle.records.specs.WalkLaw.{visited}
-use Rattle.records.specs.declared.rec.BlockAt.{BlockAt}
+use Rattle.records.specs.declared.rec.WalkedBlock.{WalkedBlock}
 use Rattle.shared_trees.specs.Keeping.{Stands}
 use Rattle.shared_trees.specs.LivePairs.{Walked, live_in, table_of, walked}
 use Rattle.shared_trees.specs.Skips.{own_of}
@@ -113,7 +113,7 @@ entries_fit sup e bytes entries tree is = by (e.level == 0) is
     by true is = leaf_fits (item_place sup e.tree e.address e.generation) (rw tree refl) (items_of bytes) entries is
     by false is = let same : pointer_records e (pointers_of bytes) ≡ entries = cc in subst (AllByRecursion Fits) same (node_fits e (pointers_of bytes))
 
-behind_fits : (block : BlockAt) (entries : Records) (own : List Seen) → ((some : List Seen) → entries ≡ Ok some → AllByRecursion Fits some) → behind (BlockSeen block ∷ []) entries ≡ Ok own → AllByRecursion Fits own
+behind_fits : (block : WalkedBlock) (entries : Records) (own : List Seen) → ((some : List Seen) → entries ≡ Ok some → AllByRecursion Fits some) → behind (BlockSeen block ∷ []) entries ≡ Ok own → AllByRecursion Fits own
 unfolding behind
 behind_fits block (Err finding) own fits is = absurd (cc)
 behind_fits block (Ok entries) own fits is = let same : BlockSeen block ∷ entries ≡ own = cc in subst (AllByRecursion Fits) same (tt, fits entries refl)

@@ -14,7 +14,7 @@ use Rattle.records.specs.Seen.{Seen}
 use Rattle.records.specs.Seen.Seen.{BlockSeen, PointerSeen, ItemSeen}
 use Rattle.records.specs.Walk.{Records, behind, block_at, child_of, children_of, entry_records, high_of, own_records, walk_of}
 use Rattle.records.specs.WalkLaw.{visited}
-use Rattle.records.specs.declared.rec.BlockAt.{BlockAt}
+use Rattle.records.specs.declared.rec.WalkedBlock.{WalkedBlock}
 use Rattle.shared_trees.specs.Keeping.{comes_to, live_at}
 use Rattle.shared_trees.specs.LivePairs.{live_of, records_in}
 use Rattle.shared_trees.specs.Shared.{are_alike, at_or_below, is_block_where, stands_untouched}
@@ -41,7 +41,7 @@ where_none test (PointerSeen one ∷ more) none = where_none test more none
 where_none test (ItemSeen one ∷ more) none = where_none test more none
 
 -- the own records of a block have that block alone
-where_behind : (test : ℕ → Bool) (block : BlockAt) (entries : Records) (own : List Seen) → ((some : List Seen) → entries ≡ Ok some → NoBlocks some)
+where_behind : (test : ℕ → Bool) (block : WalkedBlock) (entries : Records) (own : List Seen) → ((some : List Seen) → entries ≡ Ok some → NoBlocks some)
     → behind (BlockSeen block ∷ []) entries ≡ Ok own → list_any (is_block_where test) own ≡ test block.address
 unfolding behind
 where_behind test block (Err finding) own none is = absurd (cc)

@@ -14,7 +14,7 @@ use Rattle.volume_items.specs.SystemArray.{array_chunks}
 use Rattle.records.specs.Contents.{superblock_in, chunk_map_in, root_items_in, all_records}
 use Rattle.records.specs.Seen.{Seen}
 use Rattle.records.specs.Seen.Seen.{BlockSeen, ItemSeen}
-use Rattle.records.specs.declared.rec.BlockAt.{BlockAt}
+use Rattle.records.specs.declared.rec.WalkedBlock.{WalkedBlock}
 
 -- the greatest key, which an empty leaf has as its first
 abbrev pub greatest_key : Key
@@ -27,12 +27,12 @@ first_or_greatest (Some key) = key
 
 -- Whether a record is that of a block which is not below another. A walk gives a block before all that is below it, so that the
 -- first block behind it that is of its level or above, or of another tree, is not below it, and nothing behind that block is.
-abbrev pub is_beside : BlockAt → Seen → Bool
+abbrev pub is_beside : WalkedBlock → Seen → Bool
 is_beside block (BlockSeen one) = not (one.tree == block.tree) || nat_le block.level one.level
 is_beside block other = false
 
 -- of the records behind that of a block, those of what it has and of what is below it
-unfoldable pub records_in : BlockAt → List Seen → List Seen
+unfoldable pub records_in : WalkedBlock → List Seen → List Seen
 records_in block [] = []
 records_in block (one ∷ more) = if is_beside block one then [] else one ∷ records_in block more
 
@@ -47,7 +47,7 @@ last_key (ItemSeen item ∷ more) = greater_key item.key (last_key more)
 last_key (other ∷ more) = last_key more
 
 -- the live pair of a block, by the records behind it
-abbrev pub live_of : BlockAt → List Seen → Live
+abbrev pub live_of : WalkedBlock → List Seen → Live
 live_of block behind = record {
   tree = block.tree;
   address = block.address;

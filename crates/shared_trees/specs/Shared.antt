@@ -6,7 +6,7 @@ use Rattle.live_index.specs.declared.live.Live.{Live}
 use Rattle.super_reader.specs.declared.Super.{Super}
 use Rattle.records.specs.Seen.{Seen}
 use Rattle.records.specs.Seen.Seen.{BlockSeen}
-use Rattle.records.specs.declared.rec.BlockAt.{BlockAt}
+use Rattle.records.specs.declared.rec.WalkedBlock.{WalkedBlock}
 use Rattle.shared_trees.specs.LivePairs.{Walked, live_in, live_of, records_in}
 use Rattle.touched_blocks.specs.Touched.{Written, stays_in_place, touches_block}
 
@@ -27,7 +27,7 @@ is_block_where test (BlockSeen block) = test block.address
 is_block_where test other = false
 
 -- whether the address of a block passes a test, or that of a block below it; the records behind the block are given
-abbrev pub at_or_below : (ℕ → Bool) → BlockAt → List Seen → Bool
+abbrev pub at_or_below : (ℕ → Bool) → WalkedBlock → List Seen → Bool
 at_or_below test block behind = test block.address || list_any (is_block_where test) (records_in block behind)
 
 -- whether a pair is alike to one of these walks, neither in which nor below which an address passes the test

@@ -12,7 +12,7 @@ use Rattle.node_reader.specs.declared.expect.Expect.{Expect}
 use Rattle.records.specs.Seen.{Seen}
 use Rattle.records.specs.Walk.{Records}
 use Rattle.records.specs.Seen.Seen.{BlockSeen, ItemSeen, PointerSeen}
-use Rattle.records.specs.declared.rec.BlockAt.{BlockAt}
+use Rattle.records.specs.declared.rec.WalkedBlock.{WalkedBlock}
 use Rattle.shared_trees.specs.KeepingWalk.{skip_in}
 use Rattle.shared_trees.specs.Keeping.{Under, anew_of}
 use Rattle.shared_trees.specs.LivePairs.{Walked, live_in, table_of}
@@ -31,7 +31,7 @@ use Rattle.tree_change.proofs.Olds.{fine_step, gathered, same_ok}
 use Rattle.tree_change.proofs.Vanished.{blocks_count}
 
 -- the entries of blocks
-abbrev pub entries_all : Stored → List BlockAt → ℕ
+abbrev pub entries_all : Stored → List WalkedBlock → ℕ
 entries_all stored [] = 0
 entries_all stored (block ∷ blocks) = entries_at stored block.address + entries_all stored blocks
 
@@ -64,7 +64,7 @@ few_seen tree kept under side e records leads of low is =
     joins v p q b c d few entries lower count = omega arith
 
 -- the pairs that are made of blocks have their addresses
-pub entries_lives : (side : Side) (f : BlockAt → Live) → ((block : BlockAt) → (f block).address ≡ block.address) → (blocks : List BlockAt)
+pub entries_lives : (side : Side) (f : WalkedBlock → Live) → ((block : WalkedBlock) → (f block).address ≡ block.address) → (blocks : List WalkedBlock)
     → entries_all (stored_in side.image side.chunks side.sup.nodesize) blocks ≡ entries_of side (map f blocks)
 entries_lives side f same [] = refl
 entries_lives side f same (block ∷ blocks) =
@@ -90,10 +90,10 @@ module _ (side : Side) (pairs : Pairs) (at_is : (tree address : ℕ) (live : Liv
   abbrev stored : Stored
   stored = stored_in side.image side.chunks side.sup.nodesize
 
-  pair_of : BlockAt → Option Live
+  pair_of : WalkedBlock → Option Live
   pair_of block = pairs block.tree block.address
 
-  no_more : (blocks : List BlockAt) → length (pairs_at pairs blocks) ≤ length blocks
+  no_more : (blocks : List WalkedBlock) → length (pairs_at pairs blocks) ≤ length blocks
   no_more [] = omega arith
   no_more (block ∷ blocks) = by (pairs block.tree block.address) (no_more blocks)
     where
@@ -103,7 +103,7 @@ module _ (side : Side) (pairs : Pairs) (at_is : (tree address : ℕ) (live : Liv
       by (Some live) more = omega (arith, more)
 
   -- the entries of blocks are those of their pairs, where each has one
-  entries_pairs : (blocks : List BlockAt) → length blocks ≡ length (pairs_at pairs blocks)
+  entries_pairs : (blocks : List WalkedBlock) → length blocks ≡ length (pairs_at pairs blocks)
       → entries_all stored blocks ≡ entries_of side (pairs_at pairs blocks)
   entries_pairs [] all = refl
   entries_pairs (block ∷ blocks) all = by (pairs block.tree block.address) refl all (entries_pairs blocks)

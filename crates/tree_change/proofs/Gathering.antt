@@ -5,17 +5,17 @@ use Rattle.std.proofs.lemmas.List.{append-nil, append_assoc}
 use Rattle.records.specs.Part.{Located}
 use Rattle.records.specs.Seen.{Seen}
 use Rattle.records.specs.Seen.Seen.{BlockSeen, PointerSeen, ItemSeen}
-use Rattle.records.specs.declared.rec.BlockAt.{BlockAt}
+use Rattle.records.specs.declared.rec.WalkedBlock.{WalkedBlock}
 use Rattle.shared_trees.specs.MergedLaw.{items}
 use Rattle.tree_change.specs.Gathered.{Gathers, blocks_seen, with_seen}
 use Rattle.tree_change.specs.Walks.{no_tree}
 
 -- blocks and items as what is gathered
-abbrev of : List BlockAt → List Located → Gathers
+abbrev of : List WalkedBlock → List Located → Gathers
 of blocks some = record { blocks = blocks; items = some }
 
 -- two lists of which each is the same are gathered alike
-both : (b1 b2 : List BlockAt) (i1 i2 : List Located) → b1 ≡ b2 → i1 ≡ i2 → of b1 i1 ≡ of b2 i2
+both : (b1 b2 : List WalkedBlock) (i1 i2 : List Located) → b1 ≡ b2 → i1 ≡ i2 → of b1 i1 ≡ of b2 i2
 both b1 b2 i1 i2 same alike = ap (λ b. of b i1) same ∙ ap (λ i. of b2 i) alike
 
 -- records are gathered behind what was

@@ -7,7 +7,7 @@ use Rattle.std.proofs.lemmas.List.Elements.{filter_map-append}
 use Rattle.verdict.specs.declared.key.Key.{Key}
 use Rattle.live_index.specs.Pairs.{Pairs}
 use Rattle.node_reader.specs.declared.expect.Expect.{Expect}
-use Rattle.records.specs.declared.rec.BlockAt.{BlockAt}
+use Rattle.records.specs.declared.rec.WalkedBlock.{WalkedBlock}
 use Rattle.shared_trees.specs.declared.keeps.Ended.{Ended}
 use Rattle.shared_trees.specs.declared.keeps.Met.{Met}
 use Rattle.shared_trees.specs.Known.{blocks_met}
@@ -15,7 +15,7 @@ use Rattle.tree_change.specs.Leaves.{lives_by, moved_by, moved_by_one}
 use Rattle.tree_change.specs.Walks.{last_at, live_with, lives_of, moved_of}
 
 -- the greatest keys are as they were told: so are the live pairs by them
-pub lives_alike : (lasts : ℕ → Key) (ended : List Ended) (blocks : List BlockAt) → ((address : ℕ) → lasts address ≡ last_at ended address)
+pub lives_alike : (lasts : ℕ → Key) (ended : List Ended) (blocks : List WalkedBlock) → ((address : ℕ) → lasts address ≡ last_at ended address)
     → lives_by lasts blocks ≡ lives_of ended blocks
 lives_alike lasts ended [] same = refl
 lives_alike lasts ended (block ∷ blocks) same =

@@ -17,7 +17,7 @@ use Rattle.records.specs.Seen.{Seen}
 use Rattle.records.specs.Seen.Seen.{BlockSeen, ItemSeen, PointerSeen}
 use Rattle.records.specs.Walk.{block_at, walk_of}
 use Rattle.records.specs.WalkLaw.{visited}
-use Rattle.records.specs.declared.rec.BlockAt.{BlockAt}
+use Rattle.records.specs.declared.rec.WalkedBlock.{WalkedBlock}
 use Rattle.shared_trees.specs.Ending.{Lasts, ends_of}
 use Rattle.shared_trees.specs.EndsLaw.{ended_at, walked_of}
 use Rattle.shared_trees.specs.Keeping.{OneOf, first_in, last_in, live_at, owner_in, starts_at, starts_of}
@@ -93,8 +93,8 @@ pairs_seen pairs (BlockSeen block ∷ records) = ap (cons_option (pairs block.tr
 pairs_seen pairs (PointerSeen one ∷ records) = pairs_seen pairs records
 pairs_seen pairs (ItemSeen one ∷ records) = pairs_seen pairs records
 
-lives_are_pairs : (table : Pairs) (ended : List Ended) (blocks : List BlockAt)
-    → AllByRecursion (λ (b : BlockAt). table b.tree b.address ≡ Some (live_with b (last_at ended b.address))) blocks
+lives_are_pairs : (table : Pairs) (ended : List Ended) (blocks : List WalkedBlock)
+    → AllByRecursion (λ (b : WalkedBlock). table b.tree b.address ≡ Some (live_with b (last_at ended b.address))) blocks
     → pairs_at table blocks ≡ lives_of ended blocks
 lives_are_pairs table ended [] all = refl
 lives_are_pairs table ended (b ∷ blocks) all =
@@ -171,23 +171,23 @@ module _ (pairs : Pairs) (kept : Kept) (anew : Anew) (lasts : Lasts) (shared : L
   one_at P address f (e ∷ es) (inr later) = inr (one_at P address f es later)
 
   -- the blocks that are read are the pairs that are not shared
-  abbrev Reads : BlockAt → Expect → Type 0
+  abbrev Reads : WalkedBlock → Expect → Type 0
   Reads = IsRead now.tree kept anew sup stored Good block low lists
 
-  block_pair : (b : BlockAt) → OneOf (Reads b) walked → table b.tree b.address ≡ Some (live_with b (last_at ended b.address))
+  block_pair : (b : WalkedBlock) → OneOf (Reads b) walked → table b.tree b.address ≡ Some (live_with b (last_at ended b.address))
   block_pair b one =
       let w = one_with Good (Reads b) walked goods one in
       by w.0 w.1 w.2 (one_at (Reads b) w.0.address (λ x r. refl_at x r w.0 w.2) walked one)
     where
       refl_at : (x : Expect) → Reads b x → (w : Expect) → Reads b w → x.address ≡ w.address
-      refl_at x r w s = sym (ap (λ (one : BlockAt). one.address) r.is) ∙ ap (λ (one : BlockAt). one.address) s.is
+      refl_at x r w s = sym (ap (λ (one : WalkedBlock). one.address) r.is) ∙ ap (λ (one : WalkedBlock). one.address) s.is
 
       by : (w : Expect) → Good w → Reads b w → OneOf (λ x. x.address ≡ w.address) walked
           → table b.tree b.address ≡ Some (live_with b (last_at ended b.address))
       by w good r here =
           let same : stored w.address ≡ Ok r.bytes =
           good.is ∙ ap (λ (bs : List ℕ). Ok bs) (read_same good.bytes r.bytes (block_in stored sup.fsid w) good.read r.read) in
-          subst (λ (c : BlockAt). table c.tree c.address ≡ Some (live_with c (last_at ended c.address))) (sym r.is)
+          subst (λ (c : WalkedBlock). table c.tree c.address ≡ Some (live_with c (last_at ended c.address))) (sym r.is)
           (good.known
           ∙ ap (λ (l : Live). Some l)
           (live_read w r.bytes (last_in (walk_of sup stored w)) (stored w.address) (last_at ended w.address) same (last_is w good here)))

@@ -15,7 +15,7 @@ use Rattle.records.specs.Seen.{Seen}
 use Rattle.records.specs.Seen.Seen.{BlockSeen, ItemSeen, PointerSeen}
 use Rattle.records.specs.Walk.{Records, behind, block_and, block_at, child_of, children_of, each, entry_records, high_of, own_records, then_records, walk_of}
 use Rattle.records.specs.WalkLaw.{children_in, visited_from}
-use Rattle.records.specs.declared.rec.BlockAt.{BlockAt}
+use Rattle.records.specs.declared.rec.WalkedBlock.{WalkedBlock}
 use Rattle.shared_trees.specs.EndsLaw.{next_or, walked_and, walked_below}
 use Rattle.shared_trees.specs.Keeping.{OneOf, starts_at, starts_in, starts_of}
 use Rattle.shared_trees.specs.Skips.{Anew, Kept, is_below, next_of, nothing, skip_and, skip_below, skip_or}
@@ -185,7 +185,7 @@ module _ (tree : ℕ) (kept : Kept) (anew : Anew) (sup : Super) (stored : Stored
           (one_later (IsStop c) (flat_map (W level) (anew c)) (c ∷ []) (inl (refl, ap is_some is)), end (anew c) rest)
 
   -- a block that is read
-  pub record IsRead (one : BlockAt) (w : Expect) : Type 0 where
+  pub record IsRead (one : WalkedBlock) (w : Expect) : Type 0 where
     pub bytes : List ℕ
     pub read : block_in stored sup.fsid w ≡ Ok bytes
     pub is : one ≡ block_at w bytes

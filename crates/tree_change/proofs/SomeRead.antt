@@ -10,7 +10,7 @@ use Rattle.node_reader.specs.declared.expect.Expect.{Expect}
 use Rattle.records.specs.Seen.{Seen}
 use Rattle.records.specs.Seen.Seen.{BlockSeen}
 use Rattle.records.specs.Walk.{Records, behind, below, block_and, block_at, each, entry_records, own_records, then_records, walk_of}
-use Rattle.records.specs.declared.rec.BlockAt.{BlockAt}
+use Rattle.records.specs.declared.rec.WalkedBlock.{WalkedBlock}
 use Rattle.shared_trees.specs.Skips.{Anew, Kept, is_below, next_of, nothing, skip_and, skip_below, skip_of, skip_or}
 use Rattle.shared_trees.specs.VisitsLaw.{IsLed, LeadsOn}
 use Rattle.shared_trees.proofs.Forest.{then_ok}
@@ -32,7 +32,7 @@ has_first first later has =
     omega (arith, has, both)
 
 -- a block's own records have it
-own_has : (block : BlockAt) (entries : Records) (own : List Seen) → behind (BlockSeen block ∷ []) entries ≡ Ok own → HasBlock own
+own_has : (block : WalkedBlock) (entries : Records) (own : List Seen) → behind (BlockSeen block ∷ []) entries ≡ Ok own → HasBlock own
 unfolding behind
 own_has block (Err finding) own is = absurd (cc)
 own_has block (Ok entries) own is = subst HasBlock (ok_same ((BlockSeen block ∷ []) ++ entries) own is) (omega arith)

@@ -14,7 +14,7 @@ use Rattle.node_reader.specs.declared.expect.Expect.{Expect}
 use Rattle.records.specs.Seen.{Seen}
 use Rattle.records.specs.Walk.{walk_in, walk_of}
 use Rattle.records.specs.WalkLaw.{visited}
-use Rattle.records.specs.declared.rec.BlockAt.{BlockAt}
+use Rattle.records.specs.declared.rec.WalkedBlock.{WalkedBlock}
 use Rattle.shared_trees.specs.Ending.{ends_in}
 use Rattle.shared_trees.specs.Keeping.{Comes, Stands}
 use Rattle.shared_trees.specs.KeepingWalk.{skip_in}
@@ -82,7 +82,7 @@ module _ (known : Known) (is : Side) (now : Expect) where
       (entries_lives is live (λ block. refl) blocks)
       (length-map blocks live)
     where
-      live : BlockAt → Live
+      live : WalkedBlock → Live
       live block = live_with block (last_at (new_of records).ended block.address)
 
       joins : (v p q b c : ℕ) → v ≤ 1 + p + 7 * b → p ≡ q → c ≡ b → v ≤ 1 + q + 7 * c
@@ -106,7 +106,7 @@ module _ (image : List ℕ) (pending : FinMap nat_cmp ℕ) (old : Walked) (trees
   count_old new read given =
       let parts = (one_tree image pending old trees pairs is known before now t).parts (parts_of pairs new read) given in
       joins (length read.blocks) (length (pairs_at pairs read.blocks)) (length new.read.blocks) (length (lives_of new.ended new.read.blocks))
-      parts.4.count (length-map new.read.blocks (λ (block : BlockAt). live_with block (last_at new.ended block.address)))
+      parts.4.count (length-map new.read.blocks (λ (block : WalkedBlock). live_with block (last_at new.ended block.address)))
     where
       joins : (o p n m : ℕ) → o + 2 * n ≡ p + 2 * m → m ≡ n → o ≡ p
       joins o p n m count same = omega arith
@@ -167,7 +167,7 @@ module _ (image : List ℕ) (pending : FinMap nat_cmp ℕ) (old : Walked) (trees
           given ∙ ap (λ (p : Parts). fine_step p) (sym made) in
           let count = count_old (new_of known is now records) read all in
           let length_new : length (lives_of (new_of known is now records).ended (blocks_seen records)) ≡ length (blocks_seen records) =
-          length-map (blocks_seen records) (λ (block : BlockAt). live_with block (last_at (new_of known is now records).ended block.address)) in
+          length-map (blocks_seen records) (λ (block : WalkedBlock). live_with block (last_at (new_of known is now records).ended block.address)) in
           subst (ComesToFew image old pairs is known before now) made (record {
             new_few = new_few known is now records led low skips;
             old_few = few_old parts given before read refl t.was low_old same count;

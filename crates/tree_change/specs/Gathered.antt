@@ -6,7 +6,7 @@ use Rattle.records.specs.Part.{Located}
 use Rattle.records.specs.Seen.{Seen}
 use Rattle.records.specs.Seen.Seen.{BlockSeen, ItemSeen}
 use Rattle.records.specs.declared.owned.ItemAt.{ItemAt}
-use Rattle.records.specs.declared.rec.BlockAt.{BlockAt}
+use Rattle.records.specs.declared.rec.WalkedBlock.{WalkedBlock}
 use Rattle.tree_change.specs.declared.gather.Gathered.{Gathered}
 
 -- what an owned item says, and where
@@ -14,17 +14,17 @@ abbrev pub located_item : ItemAt → Located
 located_item item = record { tree = item.tree; block = item.block; key = item.key; part = owned_part item.part }
 
 -- the block of a record
-abbrev pub block_seen : Seen → Option BlockAt
+abbrev pub block_seen : Seen → Option WalkedBlock
 block_seen (BlockSeen block) = Some block
 block_seen other = None
 
 -- the blocks among records
-abbrev pub blocks_seen : List Seen → List BlockAt
+abbrev pub blocks_seen : List Seen → List WalkedBlock
 blocks_seen records = filter_map block_seen records
 
 -- what is gathered: blocks, and items, in their order
 pub record Gathers : Type 0 where
-  pub blocks : List BlockAt
+  pub blocks : List WalkedBlock
   pub items : List Located
 
 -- the same, with one record more

@@ -5,7 +5,7 @@ use Rattle.verdict.specs.declared.key.Key.{Key}
 use Rattle.live_index.specs.Pairs.{Pairs}
 use Rattle.live_index.specs.declared.live.Live.{Live}
 use Rattle.node_reader.specs.declared.expect.Expect.{Expect}
-use Rattle.records.specs.declared.rec.BlockAt.{BlockAt}
+use Rattle.records.specs.declared.rec.WalkedBlock.{WalkedBlock}
 use Rattle.tree_change.specs.LastKeys.{key_at}
 use Rattle.tree_change.specs.Walks.{live_with, moved_pair}
 use Rattle.tree_change.specs.declared.lasts.Lasts.{Lasts}
@@ -15,8 +15,8 @@ unfoldable pub last_in : Lasts → ℕ → Key
 last_in lasts address = key_at lasts.keys.items address
 
 -- blocks that were read as live pairs, by their greatest keys
-abbrev pub lives_by : (ℕ → Key) → List BlockAt → List Live
-lives_by lasts blocks = map (λ (block : BlockAt). live_with block (lasts block.address)) blocks
+abbrev pub lives_by : (ℕ → Key) → List WalkedBlock → List Live
+lives_by lasts blocks = map (λ (block : WalkedBlock). live_with block (lasts block.address)) blocks
 
 -- the pair of a kept block of which the node above or the greatest key is another, and those of several
 abbrev pub moved_by_one : Pairs → (ℕ → Key) → Expect → Option Live

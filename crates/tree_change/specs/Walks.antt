@@ -11,7 +11,7 @@ use Rattle.live_index.specs.declared.live.Live.{Live}
 use Rattle.super_reader.specs.declared.Super.{Super}
 use Rattle.node_reader.specs.declared.expect.Expect.{Expect}
 use Rattle.records.specs.Part.{Located}
-use Rattle.records.specs.declared.rec.BlockAt.{BlockAt}
+use Rattle.records.specs.declared.rec.WalkedBlock.{WalkedBlock}
 use Rattle.shared_trees.specs.Ending.{Lasts, ends_in}
 use Rattle.shared_trees.specs.Keeping.{Marks, Under, anew_of, kept_of}
 use Rattle.shared_trees.specs.KeepingWalk.{skip_in}
@@ -88,7 +88,7 @@ abbrev pub last_at : List Ended → ℕ → Key
 last_at ended address = fold (with_last address) no_key ended
 
 -- a block with its greatest key as a live pair
-abbrev pub live_with : BlockAt → Key → Live
+abbrev pub live_with : WalkedBlock → Key → Live
 live_with block last = record {
   tree = block.tree;
   address = block.address;
@@ -101,8 +101,8 @@ live_with block last = record {
 }
 
 -- blocks that were read as live pairs
-abbrev pub lives_of : List Ended → List BlockAt → List Live
-lives_of ended blocks = map (λ (block : BlockAt). live_with block (last_at ended block.address)) blocks
+abbrev pub lives_of : List Ended → List WalkedBlock → List Live
+lives_of ended blocks = map (λ (block : WalkedBlock). live_with block (last_at ended block.address)) blocks
 
 -- a live pair with another node above and another greatest key
 abbrev pub moved_to : Live → ℕ → Key → Live
@@ -127,8 +127,8 @@ abbrev pub moved_of : Pairs → List Ended → List Expect → List Live
 moved_of pairs ended met = filter_map (λ (e : Expect). moved_pair (pairs e.tree e.address) e.parent (last_at ended e.address)) met
 
 -- the known pairs of blocks
-abbrev pub pairs_at : Pairs → List BlockAt → List Live
-pairs_at pairs blocks = filter_map (λ (block : BlockAt). pairs block.tree block.address) blocks
+abbrev pub pairs_at : Pairs → List WalkedBlock → List Live
+pairs_at pairs blocks = filter_map (λ (block : WalkedBlock). pairs block.tree block.address) blocks
 
 -- what changes in trees, and how many reads it takes at most: one for each block as it was, two for each as it is
 pub record Parts : Type 0 where

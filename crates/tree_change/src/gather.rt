@@ -6,7 +6,7 @@ ghost use Rattle.records.specs.Seen.Seen.{ItemSeen};
 ghost use Rattle.tree_change.specs.Gathered.{gathers, with_seen};
 ghost use Rattle.tree_change.specs.Walks.{no_tree};
 
-use records::{BlockAt, ItemAt, RecAt, Record, Taker};
+use records::{ItemAt, RecAt, Record, Taker, WalkedBlock};
 use std::alloc::Global;
 use verdict::NoMemory;
 
@@ -22,7 +22,7 @@ pub(crate) struct Gathered {
     /// What they take their memory from.
     pub(crate) alloc: Global,
     /// The blocks.
-    pub(crate) blocks: Vec<BlockAt>,
+    pub(crate) blocks: Vec<WalkedBlock>,
     /// The items.
     pub(crate) items: Vec<ItemAt>,
 }

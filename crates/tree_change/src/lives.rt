@@ -11,7 +11,7 @@ ghost use Rattle.tree_change.specs.Leaves.{last_in, lives_by, moved_by, moved_by
 use crate::lasts::Lasts;
 use live_index::{Live, LiveIndex};
 use recon_disk::Steps;
-use records::BlockAt;
+use records::WalkedBlock;
 use shared_trees::{Ended, Met};
 use std::alloc::Global;
 use verdict::{Key, NoMemory};
@@ -25,7 +25,7 @@ pub(crate) fn add_new<L>(
     table: &LiveIndex<L>,
     is_asked: bool,
     steps: &mut Steps<L>,
-    blocks: &[BlockAt],
+    blocks: &[WalkedBlock],
     met: &[Met],
     ended: &[Ended],
     lives: &mut Vec<Live>,
@@ -44,7 +44,7 @@ pub(crate) fn add_new<L>(
 }
 
 // Puts the blocks that were read behind other live pairs.
-fn add_lives(lasts: &Lasts, blocks: &[BlockAt], into: &mut Vec<Live>) -> Result<(), NoMemory>
+fn add_lives(lasts: &Lasts, blocks: &[WalkedBlock], into: &mut Vec<Live>) -> Result<(), NoMemory>
     ensures { OnOk result (
         into.new.items ≡ into.old.items ++ lives_by (last_in lasts.now) blocks.now) }
 {
@@ -105,7 +105,7 @@ fn moved_of<L>(
 pub(crate) fn add_known<L>(
     table: &LiveIndex<L>,
     steps: &mut Steps<L>,
-    blocks: &[BlockAt],
+    blocks: &[WalkedBlock],
     into: &mut Vec<Live>,
 ) -> Result<(), NoMemory>
     ensures puts { OnOk result (
@@ -131,7 +131,7 @@ pub(crate) fn push_some<T: Copy>(into: &mut Vec<T>, one: Option<T>) -> Result<()
 }
 
 // A block with its greatest key as a live pair.
-fn live_of(block: &BlockAt, last: Key) -> Live
+fn live_of(block: &WalkedBlock, last: Key) -> Live
     ensures { result ≡ live_with block.now last }
 {
     Live {
