@@ -1,8 +1,10 @@
 -- An index stands for an image that the full check accepts.
 use Rattle.std.proofs.Common.{◌≡◌, ℕ, ◌+◌, ◌*◌, ◌≤◌, false, List, [], ◌∷◌, ◌++◌, length, map, Option, Some, None, Result, Ok, Err, IfSome, IfOk, refl, ap, sym, ◌∙◌, subst, arith}
+use Rattle.std.specs.BTreeMap.{is_at}
 use Rattle.std.specs.BTreeSet as set
 use Rattle.std.specs.Ordering.{nat_cmp}
 use Rattle.std.specs.FinMap.{FinMap, empty}
+use Rattle.std.specs.List.{list_any}
 use Rattle.std.proofs.lemmas.List.Sums.{sum_by-append}
 use Rattle.verdict.specs.Rules.{and_then, finding_or}
 use Rattle.verdict.specs.declared.finding.Finding.{Finding}
@@ -60,7 +62,7 @@ use Rattle.tree_change.specs.Merging.{root_at}
 use Rattle.write_cache.specs.Cache.{overlaid}
 use Rattle.write_cache.proofs.CacheLaws.{overlaid-empty}
 use Rattle.commit_judge.specs.Filling.{AreTablesOf, AreTablesWith, IsFoundBy, IsRefusal, named_walk}
-use Rattle.commit_judge.specs.Flags.{free_in}
+use Rattle.commit_judge.specs.Flags.{free_in, full_in}
 use Rattle.commit_judge.specs.Index.{IndexStands, known}
 use Rattle.commit_judge.specs.Start.{IsReady}
 use Rattle.commit_judge.specs.declared.filling.Tables.{Tables}
@@ -191,6 +193,7 @@ pub record IsMade {L : Type 0} (o : Opened) (tables : Tables L) (index : Index L
   pub map_is : index.map ≡ o.chunks
   pub roots_are : KeysAscend (map root_at o.roots) → index.roots.items ≡ map root_at o.roots
   pub free_is : index.sum_free ≡ tables.free
+  pub full_is : index.full.keys ≡ []
   pub live_is : index.live ≡ tables.live
   pub totals_are : index.totals ≡ tables.totals
   pub spans_are : index.spans ≡ tables.spans
@@ -206,7 +209,7 @@ module _ {L : Type 0} (image : List ℕ) (o : Opened) (tables : Tables L) (index
   accepted : full_check image ≡ Accept index.sup.generation
   accepted = ap verdict_of (after_accounts image o (Ok (tt {0})) is accounts) ∙ ap (λ (sup : Super). Accept sup.generation) (sym made.sup_is)
 
-  bases : BasesStand image index.sup index.map index.roots.items (free_in index.sum_free) (pairs_of index.live)
+  bases : BasesStand image index.sup index.map index.roots.items (free_in index.sum_free) (full_in index.full) (pairs_of index.live)
   bases = record {
     generation = index.sup.generation;
     accepted = accepted;
@@ -216,6 +219,7 @@ module _ {L : Type 0} (image : List ℕ) (o : Opened) (tables : Tables L) (index
     chunks_are = made.map_is;
     roots_are = made.roots_are (ascend items_stand image (walked_with o filled.0) o.roots walks (opened_is image o is).roots);
     free_are = λ tree ino. ap (λ (free : set.BTreeSet Inode). free_in free tree ino) made.free_is ∙ ap (λ (free : Frees). free tree ino) filled.2.free;
+    full_are = λ address. ap (list_any (is_at (nat_cmp address))) made.full_is;
     trees = walked_with o filled.0;
     walks = walks;
     pairs_are = λ tree address. ap (λ (live : LiveIndex L). pairs_of live tree address) made.live_is ∙ ap (λ (pairs : Pairs). pairs tree address) filled.2.live;

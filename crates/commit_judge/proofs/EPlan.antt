@@ -32,7 +32,7 @@ use Rattle.change_records.specs.declared.item_ref.ItemRef.{ItemRef}
 use Rattle.commit_laws.specs.Commit.{AreTheAffected, Known, context_by}
 use Rattle.commit_laws.specs.Paired.{SayChanges, added_from, removed_from}
 use Rattle.commit_laws.proofs.SStep.{ascend_items}
-use Rattle.commit_judge.specs.Flags.{free_in}
+use Rattle.commit_judge.specs.Flags.{free_in, full_in}
 use Rattle.commit_judge.specs.Fresh.{IsFresh}
 use Rattle.commit_judge.specs.Index.{IndexStands, known}
 use Rattle.commit_judge.specs.Plan.{IsPlanOf, IsPlanned, commit_in}
@@ -105,7 +105,7 @@ module _ {L : Type 0} (index : Index L) (pending : FinMap nat_cmp ℕ) where
   -- what the difference of the two images is, by an answer
   abbrev Differs : Super → ℕ → ℕ → Diff → List ℕ → Type 0
   Differs fresh before after diff image =
-      BasesStand image index.sup index.map index.roots.items (free_in index.sum_free) (pairs_of index.live)
+      BasesStand image index.sup index.map index.roots.items (free_in index.sum_free) (full_in index.full) (pairs_of index.live)
       → superblock_in (overlaid pending 0 image) ≡ Ok fresh
       → IsDifference image (overlaid pending 0 image) (written_in pending) diff × ReadsFew before after diff
 
@@ -163,8 +163,8 @@ module _ {L : Type 0} (index : Index L) (pending : FinMap nat_cmp ℕ) where
   -- the looks to make a plan, by those to find what changes and those to find the kept items
   pub few_planned : (told : Option (List ℕ)) (fresh : Fresh) (first middle last : ℕ) (diff : Diff) (change : Change) (plan : Plan) → FreshBy (Ok fresh)
       → diff ≡ Changed change
-      → LooksFew told pending index.sup index.map index.roots.items (free_in index.sum_free) (pairs_of index.live) fresh.sup first middle diff
-      → MovesFew told pending index.sup index.map index.roots.items (free_in index.sum_free) (pairs_of index.live) fresh.sup diff
+      → LooksFew told pending index.sup index.map index.roots.items (free_in index.sum_free) (full_in index.full) (pairs_of index.live) fresh.sup first middle diff
+      → MovesFew told pending index.sup index.map index.roots.items (free_in index.sum_free) (full_in index.full) (pairs_of index.live) fresh.sup diff
       → plan.change ≡ change → FindsByFew (known index) (commit_in plan) middle last
       → IfSome told (λ image. IndexStands image index → PlansByFew image pending (known index) (commit_in plan) first last)
   few_planned None fresh first middle last diff change plan super what looks moves change_is finds = tt
@@ -173,10 +173,10 @@ module _ {L : Type 0} (index : Index L) (pending : FinMap nat_cmp ℕ) where
       let is = super image (room image stands) stands.raw in
       let same : diff ≡ Changed plan.change = what ∙ ap Changed (sym change_is) in
       let few =
-      subst (λ d. LooksFew (Some image) pending index.sup index.map index.roots.items (free_in index.sum_free) (pairs_of index.live) fresh.sup first middle d)
+      subst (λ d. LooksFew (Some image) pending index.sup index.map index.roots.items (free_in index.sum_free) (full_in index.full) (pairs_of index.live) fresh.sup first middle d)
       same looks in
       let few_moves =
-      subst (λ d. MovesFew (Some image) pending index.sup index.map index.roots.items (free_in index.sum_free) (pairs_of index.live) fresh.sup d) same moves in
+      subst (λ d. MovesFew (Some image) pending index.sup index.map index.roots.items (free_in index.sum_free) (full_in index.full) (pairs_of index.live) fresh.sup d) same moves in
       record {
         middle = middle;
         differs = λ old new was now pieces are. few pieces are stands.known.bases is.1 old new was now;

@@ -29,12 +29,13 @@ use Rattle.commit_judge.specs.declared.plan.Plan.{Plan}
 
 -- what is known with these sums and spans is what was known where these are as they were
 pub same_known : (k : Known) (sums : Sums) (spans : Table) → sums ≡ k.sums → spans ≡ k.spans
-    → record { sup = k.sup; chunks = k.chunks; roots = k.roots; free = k.free; pairs = k.pairs; sums = sums; spans = spans } ≡ k
+    → record { sup = k.sup; chunks = k.chunks; roots = k.roots; free = k.free; full = k.full; pairs = k.pairs; sums = sums; spans = spans } ≡ k
 same_known k sums spans sums_are spans_are = λ i. record {
   sup = k.sup;
   chunks = k.chunks;
   roots = k.roots;
   free = k.free;
+  full = k.full;
   pairs = k.pairs;
   sums = sums_are i;
   spans = spans_are i;

@@ -89,6 +89,7 @@ module _ (laws : Laws) (image : List ℕ) (pending : FinMap nat_cmp ℕ) (k : Kn
     chunks = refl;
     roots = sorted;
     free = λ tree ino. refl;
+    full = λ address. refl;
     pairs = λ tree address. refl;
     sums = sums_moved;
     spans = spans_moved;

@@ -5,7 +5,7 @@ use Rattle.live_index.specs.Table.{pairs_of}
 use Rattle.ledger_index.specs.Ledger.{IsTidy, sums_of}
 use Rattle.span_index.specs.Table.{times_of}
 use Rattle.commit_laws.specs.Commit.{IsKnown, Known}
-use Rattle.commit_judge.specs.Flags.{free_in}
+use Rattle.commit_judge.specs.Flags.{free_in, full_in}
 use Rattle.commit_judge.specs.declared.index.Index.{Index}
 
 -- what an index says that is known of its image
@@ -15,6 +15,7 @@ known index = record {
   chunks = index.map;
   roots = index.roots.items;
   free = free_in index.sum_free;
+  full = full_in index.full;
   pairs = pairs_of index.live;
   sums = sums_of index.totals;
   spans = times_of index.spans;

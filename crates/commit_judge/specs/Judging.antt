@@ -38,6 +38,7 @@ next_of k c roots sums spans = record {
   chunks = c.change.map;
   roots = roots;
   free = flags_after c.change.old_items.items c.change.new_items.items c.changes k.free;
+  full = k.full;
   pairs = with_pairs (with_pairs (without_pairs k.pairs c.change.old_blocks.items) c.change.new_blocks.items) c.change.moved.items;
   sums = sums;
   spans = spans;

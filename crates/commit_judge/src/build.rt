@@ -16,6 +16,7 @@ use block_source::{Fault, Halt, told};
 use plain_check::Volume;
 use recon_disk::{Disk, Steps};
 use std::alloc::Global;
+use std::collections::BTreeSet;
 use verdict::{Finding, NoMemory};
 use volume_items::{RootAt, RootItem};
 use write_cache::WriteCache;
@@ -99,6 +100,7 @@ fn index_of<D: Disk, L>(
         map: volume.map,
         roots,
         sum_free: tables.free,
+        full: BTreeSet::new(alloc),
         live: tables.live,
         totals: tables.totals,
         spans: tables.spans,

@@ -27,6 +27,8 @@ pub struct Index<L> {
     pub(crate) roots: Vec<RootAt>,
     // The inodes whose data has no checksums.
     pub(crate) sum_free: BTreeSet<Inode>,
+    // The tree blocks that refer to what is below them by their address, by the addresses.
+    pub(crate) full: BTreeSet<u64>,
     // The live pairs.
     pub(crate) live: LiveIndex<L>,
     // The sums of all accounts but sectors.
@@ -48,8 +50,7 @@ impl<L> Index<L> {
 impl<L> Bases for Index<L> {
     type Table = LiveIndex<L>;
 
-    ghost use Rattle.std.specs.Prelude.{false};
-    ghost use Rattle.commit_judge.specs.Flags.{free_in};
+    ghost use Rattle.commit_judge.specs.Flags.{free_in, full_in};
 
     ghost superblock = { λ index. index.sup };
 
@@ -59,7 +60,7 @@ impl<L> Bases for Index<L> {
 
     ghost is_sum_free = { λ index. free_in index.sum_free };
 
-    ghost is_full = { λ index address. false };
+    ghost is_full = { λ index. full_in index.full };
 
     ghost table = { λ index. index.live };
 
@@ -79,8 +80,8 @@ impl<L> Bases for Index<L> {
         self.sum_free.contains(&Inode { tree, ino })
     }
 
-    fn full(&self, _address: u64) -> bool {
-        false
+    fn full(&self, address: u64) -> bool {
+        self.full.contains(&address)
     }
 
     fn live(&self) -> &LiveIndex<L> {

@@ -9,7 +9,7 @@ use Rattle.verdict.specs.declared.finding.Finding.{Finding}
 use Rattle.verdict.specs.declared.finding.Verdict.{Verdict}
 use Rattle.verdict.specs.declared.finding.Verdict.TheVariants.{Accept}
 use Rattle.accounts.specs.Broken.{broken_finding, is_broken}
-use Rattle.accounts.specs.Context.{Context}
+use Rattle.accounts.specs.Context.{Context, no_full}
 use Rattle.accounts.specs.Kinds.{sector}
 use Rattle.accounts.specs.Least.{IsLeastBroken, is_broken_by, least_broken}
 use Rattle.accounts.specs.Sums.{total_of}
@@ -153,6 +153,7 @@ module _ (laws : Laws) (image : List ℕ) (pending : FinMap nat_cmp ℕ) (old ne
           between.change_is old_is.roots new_is.roots is.roots in
           let free : moved.free ≡ has_sum_free (records_of new) =
           fun_ext (λ tree. fun_ext (λ ino. is.free tree ino ∙ sym (flags_are laws image pending old new before.roots c between tree ino))) in
+          let full : moved.full ≡ no_full = fun_ext is.full in
           let pairs : moved.pairs ≡ table_of (live_in new.seen) =
           fun_ext (λ tree. fun_ext (λ address. is.pairs tree address
           ∙ laws.table_moved image pending old new c.change (table_of (live_in old.seen)) tree address between.was between.is between.change_is
@@ -170,7 +171,7 @@ module _ (laws : Laws) (image : List ℕ) (pending : FinMap nat_cmp ℕ) (old ne
           fun_ext (λ span. is.spans span
           ∙ sym (times_moved (spans_of old.sup.nodesize (records_of old)) (spans_of new.sup.nodesize (records_of new))
           (spans_of old.sup.nodesize (gone_by k now)) (spans_of new.sup.nodesize (came_by now)) shows span)) in
-          λ i. record { sup = sup i; chunks = chunks i; roots = roots i; free = free i; pairs = pairs i; sums = sums i; spans = spans i }
+          λ i. record { sup = sup i; chunks = chunks i; roots = roots i; free = free i; full = full i; pairs = pairs i; sums = sums i; spans = spans i }
 
       -- the finding of the accounts of the next image
       fault_is : (runs : List Run) (bad : Option ℕ) (least : Option Account) → IsJudged k now next runs bad least
@@ -251,6 +252,7 @@ known_same image k old held known was holds is =
     let records : bases.held.records ≡ records_of old = ap (λ (h : Contents). h.records) same ∙ is.records in
     let free : k.free ≡ has_sum_free (records_of old) =
     fun_ext (λ tree. fun_ext (λ ino. bases.free_are tree ino ∙ ap (λ (rs : List Located). has_sum_free rs tree ino) records)) in
+    let full : k.full ≡ no_full = fun_ext bases.full_are in
     let pairs : k.pairs ≡ table_of (live_in old.seen) =
     fun_ext (λ t. fun_ext (λ a. bases.pairs_are t a ∙ ap (λ (w : Walked). table_of (live_in w.seen) t a) tree)) in
     let sums : k.sums ≡ total_of (all_posts (context_at old) (records_of old)) =
@@ -258,7 +260,7 @@ known_same image k old held known was holds is =
     ∙ (λ i. total_of (all_posts (context_with (chunks i) ((sup i).nodesize) (free i)) (records i)) account field))) in
     let spans : k.spans ≡ times_of_span (spans_of old.sup.nodesize (records_of old)) =
     fun_ext (λ span. known.spans span ∙ (λ i. times_of_span (spans_of ((sup i).nodesize) (records i)) span)) in
-    λ i. record { sup = sup i; chunks = chunks i; roots = roots i; free = free i; pairs = pairs i; sums = sums i; spans = spans i }
+    λ i. record { sup = sup i; chunks = chunks i; roots = roots i; free = free i; full = full i; pairs = pairs i; sums = sums i; spans = spans i }
 
 -- a promise of what is known and what changes
 abbrev IsDecided : List ℕ → FinMap nat_cmp ℕ → Known → Known → List Run → Option ℕ → Option Account → Commit → Type 0

@@ -6,7 +6,7 @@ use Rattle.std.specs.Ordering.{nat_cmp}
 use Rattle.std.specs.FinMap.{FinMap}
 use Rattle.std.proofs.Math.Path.{fun_ext}
 use Rattle.verdict.specs.declared.finding.Verdict.TheVariants.{Accept}
-use Rattle.accounts.specs.Context.{Context}
+use Rattle.accounts.specs.Context.{Context, no_full}
 use Rattle.accounts.specs.Sums.{total_of}
 use Rattle.change_records.specs.Affected.{AreAffected, context_with}
 use Rattle.change_records.specs.Refs.{is_named}
@@ -69,6 +69,7 @@ known_at whole roots = record {
   chunks = whole.chunks;
   roots = map root_at roots;
   free = has_sum_free (records_of whole);
+  full = no_full;
   pairs = table_of (live_in whole.seen);
   sums = total_of (all_posts (context_at whole) (records_of whole));
   spans = times_of_span (spans_of whole.sup.nodesize (records_of whole));

@@ -48,6 +48,7 @@ pub record Known : Type 0 where
   pub chunks : List Chunk
   pub roots : List RootAt
   pub free : ℕ → ℕ → Bool
+  pub full : ℕ → Bool
   pub pairs : Pairs
   pub sums : Sums
   pub spans : Table
@@ -56,10 +57,10 @@ pub record Known : Type 0 where
 abbrev pub context_by : Known → Context
 context_by k = context_with k.chunks k.sup.nodesize k.free
 
--- This is known of an accepted image: its superblock, chunks, root items, sum-free inodes and live pairs; of each account but sectors its
+-- This is known of an accepted image: its superblock, chunks, root items, sum-free inodes, full blocks and live pairs; of each account but sectors its
 -- sums; and each span as often as the image's items have it.
 pub record IsKnown (image : List ℕ) (k : Known) : Type 0 where
-  pub bases : BasesStand image k.sup k.chunks k.roots k.free k.pairs
+  pub bases : BasesStand image k.sup k.chunks k.roots k.free k.full k.pairs
   pub sums : (account : Account) (field : ℕ) → k.sums account field ≡ total_of (all_posts (context_by k) bases.held.records) account field
   pub spans : (span : Span) → k.spans span ≡ times_of_span (spans_of k.sup.nodesize bases.held.records) span
 
@@ -92,13 +93,14 @@ pub record IsCommit (image : List ℕ) (pending : FinMap nat_cmp ℕ) (k : Known
   pub changes_are : SayChanges (are_read_alike k.sup c.fresh) c.change.old_items.items c.change.new_items.items c.changes
   pub refs_are : AreTheAffected (are_read_alike k.sup c.fresh) k c
 
--- What is known is moved by a commit: chunks, root items, sum-free inodes, live pairs, sums and spans.
+-- What is known is moved by a commit: chunks, root items, sum-free inodes, live pairs, sums and spans. Blocks stay as full as they were.
 pub record IsMoved (k : Known) (c : Commit) (next : Known) : Type 0 where
   pub sup : next.sup ≡ c.fresh
   pub chunks : next.chunks ≡ c.change.map
   pub roots : IsSortedOf named_before
       (roots_left k.roots (map located_item c.change.old_items.items) (map located_item c.change.new_items.items)) next.roots
   pub free : (tree ino : ℕ) → next.free tree ino ≡ flags_after c.change.old_items.items c.change.new_items.items c.changes k.free tree ino
+  pub full : (address : ℕ) → next.full address ≡ k.full address
   pub pairs : (tree address : ℕ) → next.pairs tree address
       ≡ with_pairs (with_pairs (without_pairs k.pairs c.change.old_blocks.items) c.change.new_blocks.items) c.change.moved.items tree address
   pub sums : (account : Account) (field : ℕ) → next.sums account field

@@ -95,10 +95,10 @@ module _ (judged : List ℕ) (fresh : Super) (super_is : superblock_in judged �
             (all.0, rw (super_is, array_is, chunks_are, items, all.1) refl)
 
 -- what is known of an image for which the bases stand
-pub bases_are : (image : List ℕ) (sup : Super) (chunks : List Chunk) (roots : List RootAt) (sum_free : ℕ → ℕ → Bool) (pairs : Pairs)
-    → BasesStand image sup chunks roots sum_free pairs → IsBased image sup chunks roots pairs
+pub bases_are : (image : List ℕ) (sup : Super) (chunks : List Chunk) (roots : List RootAt) (sum_free : ℕ → ℕ → Bool) (full : ℕ → Bool) (pairs : Pairs)
+    → BasesStand image sup chunks roots sum_free full pairs → IsBased image sup chunks roots pairs
 unfolding contents
-bases_are image sup chunks roots sum_free pairs base =
+bases_are image sup chunks roots sum_free full pairs base =
     let old = base.trees in
     let s = steps_of image old base.walks in
     let all : Contents = record {

@@ -35,30 +35,30 @@ use Rattle.tree_change.proofs.Olds.{same_ok}
 
 -- a finding costs what it may, and no pair is shifted
 pub found_few : (finding : Finding) (bytes : Option (List ℕ)) (pending : FinMap nat_cmp ℕ) (sup : Super) (chunks : List Chunk) (roots : List RootAt)
-    (sum_free : ℕ → ℕ → Bool) (pairs : Pairs) (fresh : Super) (first last : ℕ)
-    → LooksFew bytes pending sup chunks roots sum_free pairs fresh first last (Refused finding)
-found_few finding None pending sup chunks roots sum_free pairs fresh first last = tt
-found_few finding (Some image) pending sup chunks roots sum_free pairs fresh first last = λ pieces are stand super_is. tt
+    (sum_free : ℕ → ℕ → Bool) (full : ℕ → Bool) (pairs : Pairs) (fresh : Super) (first last : ℕ)
+    → LooksFew bytes pending sup chunks roots sum_free full pairs fresh first last (Refused finding)
+found_few finding None pending sup chunks roots sum_free full pairs fresh first last = tt
+found_few finding (Some image) pending sup chunks roots sum_free full pairs fresh first last = λ pieces are stand super_is. tt
 
 pub none_moved : (finding : Finding) (bytes : Option (List ℕ)) (pending : FinMap nat_cmp ℕ) (sup : Super) (chunks : List Chunk) (roots : List RootAt)
-    (sum_free : ℕ → ℕ → Bool) (pairs : Pairs) (fresh : Super) → MovesFew bytes pending sup chunks roots sum_free pairs fresh (Refused finding)
-none_moved finding None pending sup chunks roots sum_free pairs fresh = tt
-none_moved finding (Some image) pending sup chunks roots sum_free pairs fresh = λ stand super_is. tt
+    (sum_free : ℕ → ℕ → Bool) (full : ℕ → Bool) (pairs : Pairs) (fresh : Super) → MovesFew bytes pending sup chunks roots sum_free full pairs fresh (Refused finding)
+none_moved finding None pending sup chunks roots sum_free full pairs fresh = tt
+none_moved finding (Some image) pending sup chunks roots sum_free full pairs fresh = λ stand super_is. tt
 
 module _ {L : Type 0} (was : BlockSource) (pending : FinMap nat_cmp ℕ) (sup : Super) (chunks : List Chunk) (roots : List RootAt)
-    (sum_free : ℕ → ℕ → Bool) (table : LiveIndex L) (fresh : Super) (first last size : ℕ) (change : Change) (same_sup : was.sup.now ≡ sup)
+    (sum_free : ℕ → ℕ → Bool) (full : ℕ → Bool) (table : LiveIndex L) (fresh : Super) (first last size : ℕ) (change : Change) (same_sup : was.sup.now ≡ sup)
     (same_map : was.map.now ≡ chunks) (end : was.end ≡ size) where
   -- the image that is compared is that for which the bases stand
   compared : (image : List ℕ) (both : Compared L) → both.was ≡ was → both.cache.now ≡ pending → both.fresh.now ≡ fresh → both.roots.now ≡ roots
       → both.table.now ≡ table → FewFromOld both image first last → length image ≡ size
-      → BasesStand image sup chunks roots sum_free (pairs_of table) → superblock_in (overlaid pending 0 image) ≡ Ok fresh → IsCompared both image
+      → BasesStand image sup chunks roots sum_free full (pairs_of table) → superblock_in (overlaid pending 0 image) ≡ Ok fresh → IsCompared both image
   compared image both a b c d e f n stand super_is = record {
     based =
         subst (λ s. IsBased image s both.was.map.now both.roots.now (pairs_of both.table.now)) (sym (ap (λ (w : BlockSource). w.sup.now) a ∙ same_sup))
         (subst (λ m. IsBased image sup m both.roots.now (pairs_of both.table.now)) (sym (ap (λ (w : BlockSource). w.map.now) a ∙ same_map))
         (subst (λ r. IsBased image sup chunks r (pairs_of both.table.now)) (sym d)
         (subst (λ (t : LiveIndex L). IsBased image sup chunks roots (pairs_of t)) (sym e)
-        (bases_are image sup chunks roots sum_free (pairs_of table) stand))));
+        (bases_are image sup chunks roots sum_free full (pairs_of table) stand))));
     narrow = f.narrow;
     super_is = ap (λ cache. superblock_in (overlaid cache 0 image)) b ∙ super_is ∙ ap as_super (sym c);
     end = ap (λ (w : BlockSource). w.end) a ∙ end ∙ sym n;
@@ -68,9 +68,9 @@ module _ {L : Type 0} (was : BlockSource) (pending : FinMap nat_cmp ℕ) (sup : 
       as_super given = Ok given
 
   few_at : (image : List ℕ) → length image ≡ size → LooksFromOld (Some image) first last was pending fresh roots table
-      → (BasesStand image sup chunks roots sum_free (pairs_of table) → superblock_in (overlaid pending 0 image) ≡ Ok fresh
+      → (BasesStand image sup chunks roots sum_free full (pairs_of table) → superblock_in (overlaid pending 0 image) ≡ Ok fresh
       → IsDifference image (overlaid pending 0 image) (written_in pending) (Changed change))
-      → BasesStand image sup chunks roots sum_free (pairs_of table) → superblock_in (overlaid pending 0 image) ≡ Ok fresh
+      → BasesStand image sup chunks roots sum_free full (pairs_of table) → superblock_in (overlaid pending 0 image) ≡ Ok fresh
       → (old new : Walked) → walked image ≡ Ok old → walked (overlaid pending 0 image) ≡ Ok new
       → ((pieces : List Piece) → ArePiecesOf pending pieces → last ≤ first + few_looks image (overlaid pending 0 image) old new pieces change)
       × (length change.moved.items
@@ -102,14 +102,14 @@ module _ {L : Type 0} (was : BlockSource) (pending : FinMap nat_cmp ℕ) (sup : 
 
 -- so many looks are few where the answer is what changes, and so many pairs are shifted
 pub change_few : {D E L : Type 0} (disk : Ghosts D) (start old new : D) (was : BlockSource) (pending : FinMap nat_cmp ℕ) (sup : Super)
-    (chunks : List Chunk) (roots : List RootAt) (sum_free : ℕ → ℕ → Bool) (table : LiveIndex L) (fresh : Super) (first last : ℕ) (change : Change)
+    (chunks : List Chunk) (roots : List RootAt) (sum_free : ℕ → ℕ → Bool) (full : ℕ → Bool) (table : LiveIndex L) (fresh : Super) (first last : ℕ) (change : Change)
     (result : Result Change Halt) → was.sup.now ≡ sup → was.map.now ≡ chunks → was.end ≡ disk.len old → disk.bytes old ≡ disk.bytes start
     → IfSome (disk.bytes old) (λ image. length image ≡ disk.len old)
     → told result ≡ Ok (Ok change) → OnOk result (LooksFromOld (disk.bytes old) first last was pending fresh roots table)
-    → GivesDifference {E = E} disk start new pending sup chunks roots sum_free (pairs_of table) fresh (Ok (Changed change))
-    → LooksFew (disk.bytes start) pending sup chunks roots sum_free (pairs_of table) fresh first last (Changed change)
-    × MovesFew (disk.bytes start) pending sup chunks roots sum_free (pairs_of table) fresh (Changed change)
-change_few {D} {E} disk start old new was pending sup chunks roots sum_free table fresh first last change result same_sup same_map end same sized is
+    → GivesDifference {E = E} disk start new pending sup chunks roots sum_free full (pairs_of table) fresh (Ok (Changed change))
+    → LooksFew (disk.bytes start) pending sup chunks roots sum_free full (pairs_of table) fresh first last (Changed change)
+    × MovesFew (disk.bytes start) pending sup chunks roots sum_free full (pairs_of table) fresh (Changed change)
+change_few {D} {E} disk start old new was pending sup chunks roots sum_free full table fresh first last change result same_sup same_map end same sized is
     looks gives =
     by (disk.bytes start) (subst (λ told. IfSome told (λ image. length image ≡ disk.len old)) same sized)
     (subst (λ told. LooksFromOld told first last was pending fresh roots table) same
@@ -118,23 +118,23 @@ change_few {D} {E} disk start old new was pending sup chunks roots sum_free tabl
   where
     by : (bytes : Option (List ℕ)) → IfSome bytes (λ image. length image ≡ disk.len old)
         → LooksFromOld bytes first last was pending fresh roots table
-        → IfSome bytes (λ image. BasesStand image sup chunks roots sum_free (pairs_of table) → superblock_in (overlaid pending 0 image) ≡ Ok fresh
+        → IfSome bytes (λ image. BasesStand image sup chunks roots sum_free full (pairs_of table) → superblock_in (overlaid pending 0 image) ≡ Ok fresh
         → IsDifference image (overlaid pending 0 image) (written_in pending) (Changed change)
         × ReadsFew (disk.reads start) (disk.reads new) (Changed change))
-        → LooksFew bytes pending sup chunks roots sum_free (pairs_of table) fresh first last (Changed change)
-        × MovesFew bytes pending sup chunks roots sum_free (pairs_of table) fresh (Changed change)
+        → LooksFew bytes pending sup chunks roots sum_free full (pairs_of table) fresh first last (Changed change)
+        × MovesFew bytes pending sup chunks roots sum_free full (pairs_of table) fresh (Changed change)
     by None n looks tells = (tt, tt)
     by (Some image) n looks tells = (
       λ pieces are stand super_is old new old_is new_is. (both stand super_is old new old_is new_is).0 pieces are,
       λ stand super_is old new old_is new_is. (both stand super_is old new old_is new_is).1,
     )
       where
-        both : BasesStand image sup chunks roots sum_free (pairs_of table) → superblock_in (overlaid pending 0 image) ≡ Ok fresh
+        both : BasesStand image sup chunks roots sum_free full (pairs_of table) → superblock_in (overlaid pending 0 image) ≡ Ok fresh
             → (old new : Walked) → walked image ≡ Ok old → walked (overlaid pending 0 image) ≡ Ok new
             → ((pieces : List Piece) → ArePiecesOf pending pieces → last ≤ first + few_looks image (overlaid pending 0 image) old new pieces change)
             × (length change.moved.items
             ≤ 2 + (entries_of (side_of (overlaid pending 0 image) new) change.new_blocks.items + 8 * length change.new_blocks.items
             + length change.old_blocks.items))
         both =
-            few_at was pending sup chunks roots sum_free table fresh first last (disk.len old) change same_sup same_map end image n looks
+            few_at was pending sup chunks roots sum_free full table fresh first last (disk.len old) change same_sup same_map end image n looks
             (λ stand super_is. (tells stand super_is).0)

@@ -13,6 +13,7 @@ use Rattle.live_index.specs.declared.live.Live.{Live}
 use Rattle.super_reader.specs.declared.Super.{Super}
 use Rattle.volume_items.specs.declared.root_at.RootAt.{RootAt}
 use Rattle.records.specs.Contents.{Contents, contents, superblock_in}
+use Rattle.accounts.specs.Context.{no_full}
 use Rattle.records.specs.Context.{has_sum_free}
 use Rattle.records.specs.FullCheck.{full_check}
 use Rattle.records.specs.Part.{Located}
@@ -52,8 +53,8 @@ IsDifference image judged written (Changed change) =
     (old : Walked) × (new : Walked) × (walked image ≡ Ok old) × (walked judged ≡ Ok new) × IsChange old new written (length image) change
 
 -- what is known of an image that is accepted is what it holds: its superblock, its chunks, its root items in the order of their keys,
--- whether an inode's data has no checksums, and the table of its live pairs
-pub record BasesStand (image : List ℕ) (sup : Super) (chunks : List Chunk) (roots : List RootAt) (sum_free : ℕ → ℕ → Bool) (pairs : Pairs) : Type 0 where
+-- whether an inode's data has no checksums, that no block refers to what is below it by its address, and the table of its live pairs
+pub record BasesStand (image : List ℕ) (sup : Super) (chunks : List Chunk) (roots : List RootAt) (sum_free : ℕ → ℕ → Bool) (full : ℕ → Bool) (pairs : Pairs) : Type 0 where
   pub generation : ℕ
   pub accepted : full_check image ≡ Accept generation
   pub held : Contents
@@ -62,6 +63,7 @@ pub record BasesStand (image : List ℕ) (sup : Super) (chunks : List Chunk) (ro
   pub chunks_are : chunks ≡ held.chunks
   pub roots_are : roots ≡ map root_at held.roots
   pub free_are : (tree ino : ℕ) → sum_free tree ino ≡ has_sum_free held.records tree ino
+  pub full_are : (address : ℕ) → full address ≡ no_full address
   pub trees : Walked
   pub walks : walked image ≡ Ok trees
   pub pairs_are : (tree address : ℕ) → pairs tree address ≡ table_of (live_in trees.seen) tree address
@@ -74,8 +76,8 @@ ReadsFew before after (Changed change) = after ≤ before + length change.old_bl
 -- What the call promises that finds the difference: where the disk tells the bytes of an image for which the bases stand, and the fresh
 -- superblock is that of the judged image, its answer is the difference, at so few reads; and the disk's bytes stay.
 pub record GivesDifference {D E : Type 0} (disk : Ghosts D) (before after : D) (pending : FinMap nat_cmp ℕ)
-    (sup : Super) (chunks : List Chunk) (roots : List RootAt) (sum_free : ℕ → ℕ → Bool) (pairs : Pairs) (fresh : Super) (result : Result Diff E) : Type 0 where
+    (sup : Super) (chunks : List Chunk) (roots : List RootAt) (sum_free : ℕ → ℕ → Bool) (full : ℕ → Bool) (pairs : Pairs) (fresh : Super) (result : Result Diff E) : Type 0 where
   pub told : IfOk result (λ diff. IfSome (disk.bytes before) (λ image.
-      BasesStand image sup chunks roots sum_free pairs → superblock_in (overlaid pending 0 image) ≡ Ok fresh
+      BasesStand image sup chunks roots sum_free full pairs → superblock_in (overlaid pending 0 image) ≡ Ok fresh
       → IsDifference image (overlaid pending 0 image) (written_in pending) diff × ReadsFew (disk.reads before) (disk.reads after) diff))
   pub bytes : disk.bytes after ≡ disk.bytes before

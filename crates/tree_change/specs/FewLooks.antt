@@ -32,9 +32,9 @@ CountsFew image judged pieces before after (Changed change) =
     (old new : Walked) → walked image ≡ Ok old → walked judged ≡ Ok new → after ≤ before + few_looks image judged old new pieces change
 
 -- so it is where the disk tells the bytes of an image for which the bases stand, and the fresh superblock is that of the judged image
-abbrev pub LooksFew : Option (List ℕ) → FinMap nat_cmp ℕ → Super → List Chunk → List RootAt → (ℕ → ℕ → Bool) → Pairs → Super → ℕ → ℕ → Diff → Type 0
-LooksFew told pending sup chunks roots sum_free pairs fresh before after diff = IfSome told (λ image.
-    (pieces : List Piece) → ArePiecesOf pending pieces → BasesStand image sup chunks roots sum_free pairs
+abbrev pub LooksFew : Option (List ℕ) → FinMap nat_cmp ℕ → Super → List Chunk → List RootAt → (ℕ → ℕ → Bool) → (ℕ → Bool) → Pairs → Super → ℕ → ℕ → Diff → Type 0
+LooksFew told pending sup chunks roots sum_free full pairs fresh before after diff = IfSome told (λ image.
+    (pieces : List Piece) → ArePiecesOf pending pieces → BasesStand image sup chunks roots sum_free full pairs
     → superblock_in (overlaid pending 0 image) ≡ Ok fresh → CountsFew image (overlaid pending 0 image) pieces before after diff)
 
 -- Where an answer is what changes, so many shared pairs are shifted at most: one for each entry of the new blocks that change, eight for each of these
@@ -47,7 +47,7 @@ ShiftsFew image judged (Changed change) =
     ≤ 2 + (entries_of (side_of judged new) change.new_blocks.items + 8 * length change.new_blocks.items + length change.old_blocks.items)
 
 -- so it is where the disk tells the bytes of such an image
-abbrev pub MovesFew : Option (List ℕ) → FinMap nat_cmp ℕ → Super → List Chunk → List RootAt → (ℕ → ℕ → Bool) → Pairs → Super → Diff → Type 0
-MovesFew told pending sup chunks roots sum_free pairs fresh diff = IfSome told (λ image.
-    BasesStand image sup chunks roots sum_free pairs → superblock_in (overlaid pending 0 image) ≡ Ok fresh
+abbrev pub MovesFew : Option (List ℕ) → FinMap nat_cmp ℕ → Super → List Chunk → List RootAt → (ℕ → ℕ → Bool) → (ℕ → Bool) → Pairs → Super → Diff → Type 0
+MovesFew told pending sup chunks roots sum_free full pairs fresh diff = IfSome told (λ image.
+    BasesStand image sup chunks roots sum_free full pairs → superblock_in (overlaid pending 0 image) ≡ Ok fresh
     → ShiftsFew image (overlaid pending 0 image) diff)

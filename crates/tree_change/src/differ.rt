@@ -51,13 +51,16 @@ pub fn difference<D: Disk, L, B: Bases<Table = LiveIndex<L>>>(
 ) -> Result<Diff, Fault>
     ensures gives { let b = bases.now in
         GivesDifference D.Disk disk.old disk.new cache.now (B.superblock b) (B.chunks b)
-        (B.root_items b) (B.is_sum_free b) (pairs_of (B.table b)) fresh.now result }
+        (B.root_items b) (B.is_sum_free b) (B.is_full b) (pairs_of (B.table b))
+        fresh.now result }
     ensures looks { let b = bases.now in
         IfOk result (LooksFew (D.bytes disk.old) cache.now (B.superblock b) (B.chunks b)
-        (B.root_items b) (B.is_sum_free b) (pairs_of (B.table b)) fresh.now steps.old steps.new) }
+        (B.root_items b) (B.is_sum_free b) (B.is_full b) (pairs_of (B.table b))
+        fresh.now steps.old steps.new) }
     ensures moved { let b = bases.now in
         IfOk result (MovesFew (D.bytes disk.old) cache.now (B.superblock b) (B.chunks b)
-        (B.root_items b) (B.is_sum_free b) (pairs_of (B.table b)) fresh.now) }
+        (B.root_items b) (B.is_sum_free b) (B.is_full b) (pairs_of (B.table b))
+        fresh.now) }
     ensures kept { Kept D.Disk disk.old disk.new (is_disk_fault result) }
 {
     let end = disk.length()?;

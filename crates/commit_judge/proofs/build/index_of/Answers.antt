@@ -53,6 +53,7 @@ returns-clause-told g c =
       map_is = refl;
       roots_are = rw c.deref.ensures.value at c.in_ok-roots.ensures.same;
       free_is = refl;
+      full_is = c.new-full.ensures;
       live_is = refl;
       totals_are = refl;
       spans_are = refl;
