@@ -303,6 +303,7 @@ kept_both disk old between new first second = record {
   bytes = second.bytes ∙ first.bytes;
   sent = second.sent ∙ first.sent;
   moments = second.moments ∙ first.moments;
+  queue = second.queue ∙ first.queue;
   faults = second.faults ∙ first.faults;
 }
 

@@ -6,4 +6,5 @@ pub mod StoppingLaws
 pub mod Listed
 pub mod Keeping
 pub mod Calls
+pub mod Queued
 pub mod Sending

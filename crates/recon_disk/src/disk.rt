@@ -1,9 +1,11 @@
 //! A block device of fixed length.
 
-ghost use Rattle.std.specs.Prelude.{ℕ, Bool, is_err, ◌≡◌, ◌+◌, ◌<◌, ◌≤◌, List, length, Option, IfSome, IfOk, OnOk, OnErr, option_map, [], ◌∷◌, ◌⊎◌};
+ghost use Rattle.std.specs.Prelude.{ℕ, Bool, is_err, ◌≡◌, ◌+◌, ◌<◌, ◌≤◌, List, length, Option, IfSome, IfOk, OnOk, OnErr, is_some, option_map, [], ◌∷◌, ◌⊎◌};
+ghost use Rattle.std.specs.Option.{IsSomeAnd};
 ghost use Rattle.verdict.specs.Image.{range, written};
 ghost use Rattle.recon_disk.specs.Outside.{HasCause, MayBeWritten, counted};
 ghost use Rattle.recon_disk.specs.Calls.{Sent, Wrote, Flushed, and_sent};
+ghost use Rattle.recon_disk.specs.Queued.{Queue, Queues};
 ghost use Rattle.recon_disk.specs.Stops.{Moment, RemainsNow, and_flushed, and_wrote};
 
 /// A call on the outside failed.
@@ -18,7 +20,11 @@ pub struct Failed;
 ///
 /// It may tell as well what a stop at each moment so far would have left, such as a power cut: after a flush
 /// that answered Ok what a read gives, and after that with any bytes in the ranges written since, but that a
-/// write of exactly the superblock place is whole, old or new.
+/// write of exactly the superblock place is whole, old or new. A disk that tells this tells its bytes too.
+///
+/// It may let calls wait that answered Ok, and send them on to a disk beneath it later. What it reads are then the
+/// bytes beneath with what waits over them. It may tell the bytes beneath, what waits and how much room is left:
+/// a write or a flush with room for it then answers Ok and waits. Whether it tells this never changes.
 pub trait Disk {
     /// The length in bytes, which never changes.
     ghost len: { Self → ℕ };
@@ -28,6 +34,8 @@ pub trait Disk {
     ghost sent: { Self → Option (List Sent) };
     /// The moments so far at which it may stop, the newest first, where the disk tells them.
     ghost moments: { Self → Option (List Moment) };
+    /// The calls that wait, the bytes beneath them and the room that is left, where the disk tells them.
+    ghost queue: { Self → Option Queue };
     /// How often `read` was called.
     ghost reads: { Self → ℕ };
     /// How often a call failed.
@@ -43,6 +51,7 @@ pub trait Disk {
         ensures bytes { bytes self.new ≡ bytes self.old }
         ensures sent { sent self.new ≡ sent self.old }
         ensures moments { moments self.new ≡ moments self.old }
+        ensures queue { queue self.new ≡ queue self.old }
         ensures reads { reads self.new ≡ reads self.old }
         ensures cause { HasCause (faults self.old) (faults self.new) result };
 
@@ -57,6 +66,7 @@ pub trait Disk {
         ensures bytes { bytes self.new ≡ bytes self.old }
         ensures sent { sent self.new ≡ sent self.old }
         ensures moments { moments self.new ≡ moments self.old }
+        ensures queue { queue self.new ≡ queue self.old }
         ensures reads { reads self.new ≡ counted (reads self.old) }
         ensures cause { HasCause (faults self.old) (faults self.new) result };
 
@@ -76,6 +86,8 @@ pub trait Disk {
             (moments self.new ≡ and_wrote (moments self.old) at from.now) }
         ensures perhaps { OnErr result ((moments self.new ≡ moments self.old)
             ⊎ (moments self.new ≡ and_wrote (moments self.old) at from.now)) }
+        ensures waits { Queues (Wrote at from.now ∷ []) (queue self.old) (queue self.new) result }
+        ensures tells { is_some (queue self.new) ≡ is_some (queue self.old) }
         ensures len { len self.new ≡ len self.old }
         ensures reads { reads self.new ≡ reads self.old }
         ensures cause { HasCause (faults self.old) (faults self.new) result };
@@ -89,13 +101,15 @@ pub trait Disk {
         ensures settled { OnOk result
             (moments self.new ≡ and_flushed (moments self.old) (bytes self.old)) }
         ensures unsettled { OnErr result (moments self.new ≡ moments self.old) }
+        ensures waits { Queues (Flushed ∷ []) (queue self.old) (queue self.new) result }
+        ensures tells { is_some (queue self.new) ≡ is_some (queue self.old) }
         ensures reads { reads self.new ≡ reads self.old }
         ensures cause { HasCause (faults self.old) (faults self.new) result };
 
     /// Where the bytes are told, there are as many as the length says.
     ghost told_length: { (disk : Self) → IfSome (bytes disk) (λ image. length image ≡ len disk) };
 
-    /// Where bytes and moments are told, the bytes are such as a stop now may leave.
-    ghost told_moments: { (disk : Self) → IfSome (bytes disk) (λ image.
-        IfSome (moments disk) (λ ms. RemainsNow ms image)) };
+    /// Where moments are told, the bytes are told too, and are such as a stop now may leave.
+    ghost told_moments: { (disk : Self) → IfSome (moments disk) (λ ms.
+        IsSomeAnd (bytes disk) (RemainsNow ms)) };
 }

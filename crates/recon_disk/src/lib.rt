@@ -2,6 +2,7 @@
 //! say what they hold, their implementations in memory, and the counter of looks into an index.
 #![tactic(auto)]
 
+mod by_reference;
 mod disk;
 mod memory;
 mod sink;

@@ -130,6 +130,8 @@ impl Disk for MemDisk {
 
     ghost moments = { λ d. None };
 
+    ghost queue = { λ d. None };
+
     ghost reads = { λ d. d.reads };
 
     ghost faults = { λ d. d.faults };

@@ -133,6 +133,8 @@ impl Disk for StopDisk {
 
     ghost moments = { λ d. Some (moments_of d) };
 
+    ghost queue = { λ d. None };
+
     ghost reads = { λ d. reads_of (disk_of d) };
 
     ghost faults = { λ d. faults_of (disk_of d) };

@@ -115,6 +115,8 @@ impl<F: FileExt + Seek + OpenFile + LockFile + Drop> Disk for FileDisk<F> {
 
     ghost moments = { λ d. None };
 
+    ghost queue = { λ d. None };
+
     ghost reads = { λ d. d.reads };
 
     ghost faults = { λ d. d.faults };

@@ -34,6 +34,8 @@ impl Disk for Recorder {
 
     ghost moments = { λ d. None };
 
+    ghost queue = { λ d. None };
+
     ghost reads = { λ d. d.reads };
 
     ghost faults = { λ d. d.faults };
