@@ -13,8 +13,8 @@ if [ ! -x "$program" ]; then
     echo "closed streams: $program is built first" >&2
     (cd crates/recon && rt run -- --help < /dev/null > /dev/null 2>&1)
     if [ ! -x "$program" ]; then
-        echo "closed streams: NOT TRIED, since $program cannot be built here"
-        exit 0
+        echo "closed streams: FAILED: $program is not there and cannot be built"
+        exit 1
     fi
 fi
 folder=$(mktemp -d)
@@ -137,12 +137,20 @@ for wrong in "$folder/folder" "$folder/missing"; do
 done
 [ ! -e "$folder/missing" ] || fail 'a missing IMAGE was made'
 chmod a-w "$first"
-if [ ! -w "$first" ]; then
-    status=0
-    "$program" check "$first" < "$trace" > "$out" 2> "$errors" || status=$?
-    [ "$status" = 4 ] || fail "check of an image that must not be written: status $status"
-    says_why 'check of an image that must not be written'
+# Root may write what nobody may, until that right is taken from it.
+lesser=
+if [ -w "$first" ]; then
+    lesser='setpriv --bounding-set=-dac_override,-dac_read_search'
+    $lesser test ! -w "$first" || fail 'the user may write everything, and this right could not be taken away'
 fi
+for form in check replay; do
+    status=0
+    $lesser "$program" $form "$first" < "$trace" > "$out" 2> "$errors" || status=$?
+    runs=$((runs + 1))
+    [ "$status" = 4 ] && [ ! -s "$out" ] || fail "$form of an image that must not be written: status $status, not 4, or a line"
+    says_why "$form of an image that must not be written"
+    [ "$(sum_of "$first")" = "$before" ] || fail "$form of an image that must not be written wrote to it"
+done
 
 # The words: none of the forms, and a call for help.
 for words in 'check' 'make it' 'check a b'; do

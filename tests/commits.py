@@ -1,15 +1,20 @@
 """Commits over the base image that change what its directories, its files and its subvolumes say, replayed.
 
 Usage: tests/commits.py [PROGRAM], by default crates/recon/out/recon. Prints one line, and ends with 1 at the first row
-that differs. A row: what it is, the changes that the commit makes, and how the line of the commit goes on. Each commit
-has the generation 2 and copies on write the file tree, the extent tree and the root tree. What passes then stands on
-the device; what is rejected leaves it as it was.
+that differs. A row: what it is, the changes that the commit makes, and how the line of the commit goes on, up to its end.
+Each commit has the generation 2 and copies on write the file tree, the extent tree and the root tree. What passes then
+stands on the device; what is rejected leaves it as it was.
+
+The numbers of a line that passes are reckoned by hand: each tree has one block, so that a commit has three old blocks and
+three new ones that the images do not share, and one more where it brings a tree. Where a feature word changes, all blocks
+of both count. Each is also what the model of tests/image_diff.py counts, which walks both images whole.
 """
+from image_diff import Difference, Image
 from rows import (
     BASE, DATA_AT, Device, ENTRY, EXTENTS, GROUPS, GROUP_TREE, HELLO, LEFT, NO_GROUP_TREE, OWN_GROUPS, RIGHT, ROOTS, SUPERBLOCK, changed,
     data_group, drop, fail, leaf, made, metadata_group, put, used, write)
 
-PASSES = 'passed generation 2 '
+PASSES, ONE_TREE_MORE = 'passed generation 2 blocks 6 hot 0', 'passed generation 2 blocks 7 hot 0'
 BELOW = 5373952
 inode, name, hashed, indexed, entry = made.inode, made.name, made.hashed, made.indexed, made.entry
 
@@ -32,9 +37,18 @@ NAMES = [
     ('a second name in another directory',
      files(12, H, hashed(256, D), I, indexed(256, 3, D), inode(257, links=2), NAME_OF_FILE, name(257, 258, 2, b'link'),
            inode(258, 8, 0, made.DIRECTORY), name(258, 256, 3, b'd'), hashed(258, LINKED), indexed(258, 2, LINKED)), PASSES),
+    ('both names of a file in one item', files(18, H, hashed(256, LINKED), I, indexed(256, 3, LINKED), inode(257, links=2),
+                                              ((257, made.INODE_REF, 256), NAME_OF_FILE[1] + name(257, 256, 3, b'link')[1])), PASSES),
+    ('a file without a name, which is an orphan', files(0, inode(257, links=0), made.orphan(257)), PASSES),
+    ('a FIFO, whose bytes no item counts', files(10, hashed(256, entry(257, 5, b'hello')), indexed(256, 2, entry(257, 5, b'hello')),
+                                                inode(257, 7, 4096, 0o010644), NAME_OF_FILE), PASSES),
     ('a name in an INODE_EXTREF', files(10, H, I, FILE, made.far_name(257, 256, 2, b'hello')), PASSES),
     ('a name that has another index in the directory',
      files(10, H, I, FILE, name(257, 256, 3, b'hello')), 'rejected A12 tree 5 block 0 key 257 12 256 detail 2'),
+    ('a name that has other bytes', files(10, H, I, FILE, name(257, 256, 2, b'hullo')), 'rejected A12 tree 5 block 0 key 257 12 256 detail 2'),
+    ('a name in another directory', files(10, H, I, FILE, name(257, 258, 2, b'hello')), 'rejected A12 tree 5 block 0 key 257 12 256 detail 2'),
+    ('an entry by its index that has no entry by its hash', files(5, I, FILE, NAME_OF_FILE), 'rejected A11 tree 5 block 0 key 256 84 {} detail 257'
+     .format(made.name_hash(b'hello'))),
     ('two names of one hash',
      files(28, hashed(256, ONE, OTHER), indexed(256, 2, ONE), indexed(256, 3, OTHER), FILE, name(257, 256, 2, b'aiyifwg'),
            inode(258), name(258, 256, 3, b'dlpjrry')), PASSES),
@@ -81,8 +95,13 @@ def root_below(references=1):
 
 
 SUBVOLUMES = [
-    ('a subvolume', S1_ENTRIES + [ROOT_REF, root_below(), ROOT_BACKREF] + tree_below(), PASSES),
+    ('a subvolume', S1_ENTRIES + [ROOT_REF, root_below(), ROOT_BACKREF] + tree_below(), ONE_TREE_MORE),
     ('without its ROOT_BACKREF', S1_ENTRIES + [ROOT_REF, root_below()] + tree_below(), NO_ROOT_REF),
+    ('a ROOT_BACKREF with another name',
+     S1_ENTRIES + [ROOT_REF, root_below(), put(1, made.root_name(256, made.ROOT_BACKREF, 5, b's2'))] + tree_below(), NO_ROOT_REF),
+    ('an entry that leads to another subvolume',
+     files(4, hashed(256, entry(257, 2, b's1', kind=made.ROOT_ITEM)), indexed(256, 2, entry(257, 2, b's1', kind=made.ROOT_ITEM)))
+     + [ROOT_REF, root_below(), ROOT_BACKREF] + tree_below(), 'rejected A13 tree 5 block 0 key 256 156 256 detail 2'),
     ('two references of its root item',
      S1_ENTRIES + [ROOT_REF, root_below(2), ROOT_BACKREF] + tree_below(), 'rejected A17 tree 1 block 0 key 256 132 0 detail 0'),
     ('the root tree does not know the name from the side of the parent',
@@ -95,7 +114,7 @@ SUBVOLUMES = [
     ('a file of the same number in both trees',
      files(14, hashed(256, S1), H, indexed(256, 2, S1), indexed(256, 3, ENTRY), FILE, name(257, 256, 3, b'hello'))
      + [ROOT_REF, root_below(), ROOT_BACKREF]
-     + tree_below(hashed(256, F), indexed(256, 2, F), FILE, name(257, 256, 2, b'f'), size=2), PASSES),
+     + tree_below(hashed(256, F), indexed(256, 2, F), FILE, name(257, 256, 2, b'f'), size=2), ONE_TREE_MORE),
 ]
 
 device = Device()
@@ -124,25 +143,35 @@ def groups_apart(image):
 APART = changed(BASE, OWN_GROUPS)
 BACK = changed(BASE, [lambda image: image.blocks.update({LEFT: APART.blocks[LEFT]})])
 MOVES = [
-    ('block groups to a tree of their own', BASE, changed(BASE, [groups_apart]), PASSES),
+    ('block groups to a tree of their own: six old blocks and seven new ones', BASE, changed(BASE, [groups_apart]),
+     'passed generation 2 blocks 13 hot 0'),
     ('without the feature', BASE, changed(BASE, [groups_apart, NO_GROUP_TREE]), 'rejected U7 tree 1 block 5357568 key 11 132 0 detail 11'),
     ('back, with the feature and without their tree',
      APART, changed(BASE, [GROUP_TREE]), 'rejected X2 tree 1 block 0 key 11 132 0 detail 0'),
     ('back, with the feature and with their tree', APART, changed(APART, [leaf(LEFT, 11), *(put(2, item) for item in GROUPS)]),
      'rejected U9 tree 2 block 5259264 key 1048576 192 4194304 detail 192'),
-    ('back, without both', APART, BACK, 'passed generation 1 '),
+    ('back, without both: seven and six, and the leaves of the root tree and the extent tree are written over', APART, BACK,
+     'passed generation 1 blocks 13 hot 2'),
 ]
+
+
+def counted(before, image):
+    """The end of the line of a commit that passes, as the model counts."""
+    written = [False] * (made.LENGTH // 512)
+    for at, data in image.pieces(before):
+        written[at // 512:(at + len(data)) // 512] = [True] * (len(data) // 512)
+    return 'blocks {} hot {}'.format(*Difference(Image(before.bytes()), Image(image.bytes()), written).counts())
 
 
 def commit(row, before, image, line):
     """A commit that makes an image of another is answered so, and the device holds what it is to hold."""
+    if line.startswith('passed') and not line.endswith(counted(before, image)):
+        fail(row, f'the model counts {counted(before, image)}, not {line}')
     device.fill(before)
     status, lines = device.run('replay', trace=made.HEADER + b''.join(made.writes(image, before)) + made.END)
     passes = line.startswith('passed')
     wanted = ['image accepted generation 1', f'commit 1 {line}', 'end passed 1 rejected 0' if passes else 'end passed 0 rejected 1', '']
     got = lines.split('\n')
-    if len(got) == 4 and passes:
-        got[1] = got[1][:len(wanted[1])]
     if (status, got) != (0 if passes else 1, wanted):
         fail(row, f'status {status}, and {got}, not {wanted}')
     device.must_hold(row, (image if passes else before).bytes())
@@ -153,7 +182,7 @@ def as_checked(row, before, image):
     device.fill(image)
     _, lines = device.run('check')
     found = lines.split('\n')[0].removeprefix('image refused ')
-    commit(row, before, image, 'passed generation ' if found.startswith('image accepted') else f'rejected {found}')
+    commit(row, before, image, f'passed {found[15:]} {counted(before, image)}' if found.startswith('image accepted') else f'rejected {found}')
 
 
 # What no item that changed says: kept items whose chunk is another or went, and words of the superblock by which all blocks are read.

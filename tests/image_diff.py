@@ -276,6 +276,14 @@ class Difference:
         found = places(self.old.chunks, block.live.address, size, self.end)
         return any(any(self.written[at // SECTOR:(at + size) // SECTOR]) for at in found)
 
+    def counts(self):
+        """How many live pairs of both images are not shared; and how many old ones are written over, or stand at other places now."""
+        apart = sum(pair not in self.shared for image in (self.old, self.new) for pair in image.blocks)
+        size = self.old.sup.nodesize
+        return apart, sum(self.is_touched(block)
+                          or places(self.old.chunks, pair[1], size, self.end) != places(self.new.chunks, pair[1], size, self.end)
+                          for pair, block in self.old.blocks.items())
+
     def lines(self):
         """The lines behind the first: blocks in any order, then the pairs that moved, items and chunks in theirs."""
         old = [one for pair, one in self.old.blocks.items() if pair not in self.shared]

@@ -33,6 +33,58 @@ SUPERBLOCK_AND_CHUNKS = [
     ('a level of the root tree that no tree has', [write(SUPERBLOCK + 0xc6, b'\x08')], 'S6 tree 0 block 0 key 0 0 0 detail 8'),
 ]
 
+
+
+def byte(at, value):
+    """A byte of the superblock, with a right checksum."""
+    return write(SUPERBLOCK + at, bytes([value]))
+
+
+def old_sum(at, value):
+    """A byte of the superblock under the checksum that stands there."""
+    def change(image):
+        image.superblock = image.superblock[:at] + bytes([value]) + image.superblock[at + 1:]
+    return change
+
+
+# Of two broken rules the first in their order is found, whichever field comes first.
+SUPERBLOCK_RULES = [
+    (' and '.join(f'byte {at:#x} as {value:#x}' for at, value in fields), [byte(*one) for one in fields],
+     f'{rule} tree 0 block 0 key 0 0 0 detail {detail}')
+    for rule, detail, *fields in [
+        ('S2', 0, (0x40, 0x5e)), ('U1', 1, (0xc4, 1)), ('S4', 65537, (0x30, 1)), ('U2', 864, (0xbc, 0x60)), ('U2', 609, (0xbd, 2)),
+        ('U2', 1889, (0xbd, 7)), ('U2', 2 ** 63 + 865, (0xc3, 0x80)), ('U3', 4, (0xb4, 4)), ('U4', 8192, (0x91, 0x20)),
+        ('S5', 16640, (0x95, 0x41)), ('U5', 2, (0x88, 2)), ('S6', 8, (0xc6, 8)), ('S6', 9, (0xc7, 9)), ('S8', 2049, (0xa0, 1), (0xa1, 8)),
+        ('S2', 0, (0xc4, 1), (0x40, 0x5e)), ('S4', 65537, (0xbc, 0x60), (0x30, 1)), ('U2', 864, (0xb4, 4), (0xbc, 0x60)),
+        ('U3', 4, (0x91, 0x20), (0xb4, 4)), ('U4', 8192, (0x95, 0x41), (0x91, 0x20)), ('S5', 16640, (0x88, 2), (0x95, 0x41)),
+        ('U5', 2, (0xc6, 8), (0x88, 2)), ('S6', 8, (0xc7, 9), (0xc6, 8)), ('S6', 9, (0xa1, 9), (0xc7, 9)),
+    ]
+] + [
+    ('another checksum', [old_sum(0, 0)], 'S3 tree 0 block 0 key 0 0 0 detail 2481755831'),
+    ('another generation under the old checksum', [old_sum(0x48, 2)], 'S3 tree 0 block 0 key 0 0 0 detail 4274492710'),
+    ('another kind of checksum and another checksum', [byte(0xc4, 1), old_sum(0, 0)], 'U1 tree 0 block 0 key 0 0 0 detail 1'),
+    ('the bytes of the checksum that are not used', [old_sum(4, 0xff)], ''),
+    ('all incompat words that may be set', [byte(0xbc, 0x67)], ''),
+    # What the field says is not so, and that is found behind the superblock.
+    ('all words of compat_ro that may be set', [byte(0xb4, 11)], 'X2 tree 1 block 0 key 11 132 0 detail 0'),
+    ('the greatest level of the root tree', [byte(0xc6, 7)], 'N8 tree 1 block 5242880 key 0 0 0 detail 0'),
+    ('the greatest level of the chunk tree', [byte(0xc7, 7)], 'N8 tree 3 block 1048576 key 0 0 0 detail 0'),
+    ('the least size of a node', [byte(0x95, 0x10)],
+     f'N3 tree 3 block 1048576 key 0 0 0 detail {made.crc32c(BASE.blocks[CHUNKS][32:4096])}'),
+]
+
+CHUNK_MAP = [
+    ('a chunk of the system array of another class than in the chunk tree',
+     [write(SUPERBLOCK + 0x354, made.number(4))], 'S10 tree 3 block 0 key 256 228 1048576 detail 0'),
+    ('a chunk that starts a sector before the end of the one before it',
+     [drop(3, 256, made.CHUNK_ITEM, DATA_AT), put(3, made.chunk(DATA_AT - 4096, 8388608, 1, [22020096]))],
+     'M1 tree 3 block 0 key 256 228 13627392 detail 5242880'),
+    ('a second copy that meets the first', [put(3, made.chunk(5242880, 8388608, 36, [5242880, 13627392]))],
+     'M2 tree 3 block 0 key 256 228 5242880 detail 13627392'),
+    ('a copy that meets one of an earlier chunk', [put(3, made.chunk(DATA_AT, 8388608, 1, [13631488]))],
+     'M2 tree 3 block 0 key 256 228 13631488 detail 13631488'),
+]
+
 ROOT_TREE = [
     ('too many items', [write(ROOTS + 0x60, b'\xff' * 4)], 'N9 tree 1 block 5242880 key 0 0 0 detail 4294967295'),
     ('the second item begins at 15,406 in place of 15,405',
@@ -41,6 +93,8 @@ ROOT_TREE = [
      'N8 tree 1 block 5242880 key 2 132 0 detail 1'),
     ('a root item of a later generation than its leaf',
      [put(1, made.root(5, FILES, 2))], 'I3 tree 1 block 5242880 key 5 132 0 detail 160'),
+    ('another generation than the block has', [put(1, made.root(5, FILES, 0))], 'N7 tree 5 block 5292032 key 0 0 0 detail 1'),
+    ('another level', [put(1, made.root(5, FILES, level=1))], 'N8 tree 5 block 5292032 key 0 0 0 detail 0'),
     ('a kind that the root tree does not list', [put(1, made.zeros((5, made.XATTR_ITEM, 0), 1))], 'U9 tree 1 block 5242880 key 5 24 0 detail 24'),
     ('a root item of the chunk tree', [put(1, made.root(3, CHUNKS))], 'U7 tree 1 block 5242880 key 3 132 0 detail 3'),
     ('one of tree 6', [put(1, made.root(6, 0))], 'U7 tree 1 block 5242880 key 6 132 0 detail 6'),
@@ -127,6 +181,31 @@ REFERENCES = [
      SECOND_OF_TWO + [put(2, made.extent(DATA_AT, 8192))], 'A2 tree 5 block 13631488 key 257 178 0 detail 0'),
 ]
 
+
+def reference_as(at, width, value):
+    """The extent of one sector, where a field of its reference says something else."""
+    key, item = made.extent(DATA_AT, 4096)
+    return put(2, (key, item[:at] + made.number(value, width) + item[at + width:]))
+
+
+# What each field of a reference says: the tree, the file, where in it the extent begins, and how often. The account that the file's
+# own range has is the least that does not hold.
+NOT_REFERRED = 'A2 tree 5 block 13631488 key 257 178 0 detail 0'
+REFERENCES += [(what, FILE_OF_ONE + [reference_as(at, width, value), data_group(4096), ONE_SUM, ONE_USED], NOT_REFERRED)
+               for what, at, width, value in [('the file is one of another tree', 25, 8, 256), ('or another file', 33, 8, 258),
+                                              ('or begins elsewhere in the extent', 41, 8, 4096)]]
+REFERENCES += [
+    ('an extent without a reference', FILE_OF_ONE + [put(2, ((DATA_AT, made.EXTENT_ITEM, 4096), made.extent(DATA_AT, 4096)[1][:24])),
+                                                      data_group(4096), ONE_SUM, ONE_USED], NOT_REFERRED),
+    ('a reference that counts two', FILE_OF_ONE + [put(2, made.extent(DATA_AT, 4096, references=2, count=2)), data_group(4096), ONE_SUM,
+                                                   ONE_USED], NOT_REFERRED),
+    ('a block whose reference has an item of its own',
+     [put(2, ((FILES, made.METADATA_ITEM, 0), made.block(FILES, 5)[1][:24])), put(2, ((FILES, made.TREE_BLOCK_REF, 5), b''))], ''),
+    ('a block that is another tree\'s', [put(2, made.block(FILES, 7))], 'A1 tree 5 block 5292032 key 5292032 176 5 detail 0'),
+    ('a block of another level', [put(2, made.block(FILES, 5, level=1)), drop(2, FILES, made.METADATA_ITEM, 0)],
+     'A4 tree 2 block 5292032 key 0 169 0 detail 0'),
+]
+
 DEVICE_EXTENTS = [
     ('a stripe without its device extent', [drop(4, 1, made.DEV_EXTENT, 22020096)], 'A15 tree 4 block 13631488 key 1 204 22020096 detail 8388608'),
     ('that of a second copy: the account is that of the chunk',
@@ -189,6 +268,9 @@ SECTORS = [
          put(5, made.inode(257, 8192)), put(5, made.file_range(4096, DATA_AT + 4096, 4096)),
          put(2, made.extent(DATA_AT + 4096, 4096, origin=4096)), data_group(12288), TWO_SUMS, used(110592)],
      'A5 tree 0 block 13635584 key 0 0 0 detail 0'),
+    ('of two sectors without checksums the first', FILE_OF_THREE + [
+        put(2, made.extent(DATA_AT, 12288, references=2)), put(2, made.reference(DATA_AT, 9)), drop(7, *made.sums(DATA_AT, 4)[0])],
+     'A5 tree 0 block 13631488 key 0 0 0 detail 0'),
 ]
 
 
@@ -235,7 +317,8 @@ def judge(row, finding):
     device.must_say(row, 1 if finding else 3, line + more, 'replay')
 
 
-tables = [SUPERBLOCK_AND_CHUNKS, ROOT_TREE, ITEMS, WALKS, REFERENCES, DEVICE_EXTENTS, GROUP_ITEMS, GROUPS_APART, SECTORS, HOMES]
+tables = [SUPERBLOCK_AND_CHUNKS, SUPERBLOCK_RULES, CHUNK_MAP, ROOT_TREE, ITEMS, WALKS, REFERENCES, DEVICE_EXTENTS, GROUP_ITEMS, GROUPS_APART,
+          SECTORS, HOMES]
 for table in tables:
     for row, changes, finding in table:
         device.fill(changed(BASE, changes))

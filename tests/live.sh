@@ -3,7 +3,7 @@
 # where nbdkit is there what a client reads at random (tests/bridge_reads.py), what the log of judged events has, and what
 # the bridge does where something goes wrong: an image, a program, a log or a parameter that is no good, a program that is
 # killed or whose lines end early or are others, a client that is cut off, SIGTERM. Prints one line at the end, and ends
-# with 1 at the first that differs.
+# with 1 at the first that differs, and where the bridge cannot be tried unless RECON_WITHOUT_PACKAGES is set.
 #
 # Usage: tests/live.sh [PROGRAM]. By default the program is the one that `rt ci` or `rt run` left.
 set -eu
@@ -55,7 +55,11 @@ answers(b'\xff', 'end passed 3 rejected 1')
 PYTHON
 
 examples/live.sh > "$folder/lines" || { tail -n 1 "$folder/lines"; exit 1; }
-grep -q 'live: left out' "$folder/lines" && { cat "$folder/lines"; exit 0; }
+if grep -q 'live: left out' "$folder/lines"; then
+    cat "$folder/lines"
+    [ -n "${RECON_WITHOUT_PACKAGES:-}" ] || fail 'the bridge was not tried (tests/packages.sh)'
+    exit 0
+fi
 
 for python in python3 /usr/bin/python3; do
     "$python" -c 'import nbd' 2> "$folder/why" && break

@@ -1,12 +1,13 @@
 """Refused memory on the built program: a check, replays and a make in which one request for memory is refused, and in which
 that and each later one are.
 
-Usage: tests/refused_memory.py [PROGRAM [RUNS]], by default crates/recon/out/recon and 400 runs of each kind: the requests 1 to
-200, and then as many in equal steps up to the last. It is not a part of the gate. A small library in C stands between the
-program and the system's malloc; it wants cc, and without it nothing is tried. Prints one line, and ends with 1 at the first
-run that is not as it must be. Each ends as it does with ample memory, or with 7. At 7 standard error says so, standard
-output has the front of what it has else, of whole lines but for a make, and the image is as before, or of a replay as some of
-its commits leave it: those whose lines are there, and at most one more. Of a make it is as before or has the made volume.
+Usage: tests/refused_memory.py [PROGRAM [RUNS]], by default crates/recon/out/recon and 200 runs of each kind: the requests 1 to
+200, and of more runs as many in equal steps up to the last. A small library in C stands between the program and the system's
+malloc. It wants cc; without it nothing is tried, and it ends with 1 unless RECON_WITHOUT_PACKAGES is set. Prints one line, and
+ends with 1 at the first run that is not as it must be. Each ends as it does with ample memory, or with 7. At 7 standard error
+says so, standard output has the front of what it has else, of whole lines but for a make, and the image is as before, or of a
+replay as some of its commits leave it: those whose lines are there, and at most one more. Of a make it is as before or has the
+made volume.
 """
 import os
 import subprocess
@@ -16,7 +17,7 @@ import tempfile
 from mutants import Image, pages_of, records
 from rows import BASE, SUPERBLOCK, changed, fail, made, program, used
 
-RUNS = int(sys.argv[2]) if len(sys.argv) > 2 else 400
+RUNS = int(sys.argv[2]) if len(sys.argv) > 2 else 200
 LIBRARY = r'''
 #include <errno.h>
 #include <stdio.h>
@@ -112,8 +113,8 @@ class Case:
 
 
 if subprocess.run(['sh', '-c', 'command -v cc'], stdout=subprocess.DEVNULL).returncode:
-    print('refused memory: NOT TRIED, since there is no cc')
-    sys.exit(0)
+    print('refused memory: left out, since there is no cc (tests/packages.sh)')
+    sys.exit(0 if os.environ.get('RECON_WITHOUT_PACKAGES') else 1)
 with tempfile.TemporaryDirectory(dir='/dev/shm' if os.access('/dev/shm', os.W_OK) else None) as folder:
     subprocess.run(['cc', '-shared', '-fPIC', '-O1', '-w', '-x', 'c', '-', '-o', f'{folder}/refuse.so'], input=LIBRARY.encode(), check=True)
     empty = Image({}, made.LENGTH)

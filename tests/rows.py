@@ -4,6 +4,7 @@ import os
 import subprocess
 import sys
 import tempfile
+import time
 
 
 def in_repository(file):
@@ -118,12 +119,19 @@ class Device:
         with open(self.path, 'rb') as out:
             return out.read()
 
-    def run(self, *words, trace=b'', folder=None):
-        """The status and the lines of a run over the device."""
+    def run(self, *words, trace=b'', folder=None, step=None):
+        """The status and the lines of a run over the device. With a step the trace comes so many bytes at a time."""
         self.runs += 1
-        ended = subprocess.run([program, *words, self.path] if folder is None else [program, *words],
-                               input=trace, stdout=subprocess.PIPE, stderr=subprocess.PIPE, timeout=60, cwd=folder)
-        return ended.returncode, ended.stdout.decode()
+        words = [program, *words, self.path] if folder is None else [program, *words]
+        if step is None:
+            ended = subprocess.run(words, input=trace, stdout=subprocess.PIPE, stderr=subprocess.PIPE, timeout=60, cwd=folder)
+            return ended.returncode, ended.stdout.decode()
+        running = subprocess.Popen(words, stdin=subprocess.PIPE, stdout=subprocess.PIPE, stderr=subprocess.PIPE, bufsize=0, cwd=folder)
+        for at in range(0, len(trace), step):
+            running.stdin.write(trace[at:at + step])
+            time.sleep(0.005)
+        lines, _ = running.communicate(timeout=60)
+        return running.returncode, lines.decode()
 
     def must_say(self, row, status, lines, *words, **more):
         """Runs, and ends the script where the run has another status or other lines."""

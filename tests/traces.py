@@ -6,7 +6,7 @@ as JSON or none where they are not compared, and the writes that then stand on t
 """
 import os
 
-from rows import BASE, Device, SUPERBLOCK, changed, made, used
+from rows import BASE, Device, SUMS, SUPERBLOCK, changed, made, metadata_group, used
 
 write, fetch, SETTLE, END = made.write, made.fetch, made.SETTLE, made.END
 PLACE = BASE.superblock
@@ -56,6 +56,18 @@ BROKEN = [
      ['trace past end record 2 at 33554432 len 1 end 33554432'], None, []),
     ('a fetch of the last byte and the next', [fetch(33554431, 2), END], 3,
      ['trace past end record 1 at 33554431 len 2 end 33554432'], None, []),
+    *((f'a bad tag {tag:#x} behind another record', [before, bytes([tag]), END], 3, [*line, 'trace fault 2 BadTag record 2'], None, [])
+      for tag, before, line in [(0, WRITE_ABCD, []), (4, SETTLE, ['settle 1 passed generation 1 blocks 0 hot 0']),
+                                (0xfe, FETCH_ABCD, ['fetch 30408704 4 00000000'])]),
+    *((f'a length of {size:#x} in a record of kind {kind}', [before, record, END], 3,
+       [*line, f'trace fault 3 BadLength record {1 + len(line)}'], None, [])
+      for size, kind, before, record, line in [
+          (2 ** 31 + 2, 1, b'', write(0, b'hi', 2 ** 31 + 2), []), (0, 3, b'', fetch(0, 0), []),
+          (2 ** 31 + 1, 3, b'', fetch(0, 2 ** 31 + 1), []),
+          (65537, 3, SETTLE, fetch(0, 65537), ['settle 1 passed generation 1 blocks 0 hot 0'])]),
+    ('a trace that is cut behind a settle', [SETTLE], 3, ['settle 1 passed generation 1 blocks 0 hot 0', 'trace fault 4 Truncated record 2'],
+     ['{"blocks":0,"event":"settle","generation":1,"hot":0,"number":1,"result":"passed"}',
+      '{"event":"trace fault","fault":"Truncated","number":4,"record":2}'], []),
     ('a fetch of the last byte of all', [SETTLE, fetch(2 ** 64 - 1, 1), END], 3,
      ['settle 1 passed generation 1 blocks 0 hot 0', 'trace past end record 2 at 18446744073709551615 len 1 end 33554432'], None, []),
 ]
@@ -70,6 +82,29 @@ REJECTED = [
      ['commit 1 rejected N2 tree 5 block 5292032 key 0 0 0 detail 16383', 'end passed 0 rejected 1'], None, []),
     ('a new file from its last write to its first', [*reversed(NEW_FILE_WRITES), END], 1,
      ['commit 1 rejected N3 tree 1 block 5357568 key 0 0 0 detail 3840130486', 'end passed 0 rejected 1'], None, []),
+]
+
+# The block of the tree of checksums once more, as it is, over both copies.
+SAME_BLOCK = [write(place, BASE.blocks[SUMS]) for place in made.places(SUMS)]
+FROM_23_MIB = bytes(range(256)) * 4096
+LAWFUL = [
+    ('what stands behind the end', [WRITE_ABCD, END, WRITE_ABCD, b'\x09'], 0, ['end passed 0 rejected 0'], None, []),
+    ('the longest write and the longest fetch', [write(23 << 20, FROM_23_MIB), fetch(0, 65536), SETTLE, END], 0,
+     [f'fetch 0 65536 {"00" * 65536}', 'settle 1 passed generation 1 blocks 0 hot 0', 'end passed 1 rejected 0'], None,
+     [(23 << 20, FROM_23_MIB)]),
+    ('bytes of a fetch', [write(AT, b'ABCD\0\xff'), fetch(AT, 6), END], 0, ['fetch 30408704 6 4142434400ff', 'end passed 0 rejected 0'],
+     ['{"at":30408704,"bytes":"4142434400ff","event":"fetch","len":6}', '{"event":"end","passed":0,"rejected":0}'], []),
+    # The pair of this block is not shared, before and after: two blocks, and one that is written over.
+    ('a live block written over by its own bytes', [*SAME_BLOCK, SETTLE, *SAME_BLOCK, AT_PLACE, END], 0,
+     ['settle 1 passed generation 1 blocks 2 hot 1', 'commit 2 passed generation 1 blocks 2 hot 1', 'end passed 2 rejected 0'],
+     ['{"blocks":2,"event":"settle","generation":1,"hot":1,"number":1,"result":"passed"}',
+      '{"blocks":2,"event":"commit","generation":1,"hot":1,"number":2,"result":"passed"}', '{"event":"end","passed":2,"rejected":0}'], []),
+    ('a settle that is rejected, and an account that is', [DIFFERS, SETTLE, LESS_USED, END], 1,
+     ['settle 1 rejected N2 tree 5 block 5292032 key 0 0 0 detail 16383', 'commit 2 rejected A16 tree 0 block 0 key 0 0 0 detail 0',
+      'end passed 0 rejected 2'],
+     ['{"event":"settle","finding":{"block":5292032,"detail":16383,"key":[0,0,0],"rule":"N2","tree":5},"number":1,"result":"rejected"}',
+      '{"event":"commit","finding":{"block":0,"detail":0,"key":[0,0,0],"rule":"A16","tree":0},"number":2,"result":"rejected"}',
+      '{"event":"end","passed":0,"rejected":2}'], []),
 ]
 
 FETCHED = [
@@ -154,10 +189,12 @@ def try_row(row, records, status, text, json, left, header=made.HEADER, more=0):
             device.must_hold(row, wanted)
 
 
-tables = [BROKEN, REJECTED, FETCHED, PENDING]
+tables = [BROKEN, REJECTED, LAWFUL, FETCHED, PENDING]
 for table in tables:
     for row in table:
         try_row(*row)
+for other in b'RECONTRC' + bytes([1, 0, 0, 0, 0, 0, 0, 1]), b'recontrc' + made.HEADER[8:]:
+    try_row(f'the header {other}', [END], 3, ['trace fault 1 BadHeader record 0'], None, [], other)
 try_row('a header of version 2', [END], 3, ['trace fault 1 BadHeader record 0'],
         ['{"event":"trace fault","fault":"BadHeader","number":1,"record":0}'], [], b'RECONTRC' + bytes([2, 0, 0, 0, 0, 0, 0, 0]))
 # The end is that of the device, and not of the file system.
@@ -165,6 +202,24 @@ longer = made.LENGTH + 4096
 try_row('a write up to the end of a longer device', [write(longer - 8, b'abcdefgh'), END], 0, ['end passed 0 rejected 0'], None, [], more=4096)
 try_row('a write past its end', [write(longer - 7, b'abcdefgh'), END], 3,
         ['trace past end record 1 at 33558521 len 8 end 33558528'], None, [], more=4096)
+# An image that is refused, as JSON.
+device.fill(changed(BASE, [metadata_group(77824)]))
+device.must_say('an image that is refused', 1, '{"event":"image","finding":{"block":0,"detail":36,"key":[5242880,192,8388608],"rule":"A6",'
+                '"tree":0},"result":"refused"}\n', 'replay', '--json', trace=made.HEADER + END)
+# A trace of a record of each kind, cut at each place, at once and in pieces of one byte and of three; and each of its ends whole.
+WHOLE = made.HEADER + WRITE_ABCD + SETTLE + FETCH_ABCD + END
+LINES = ['settle 1 passed generation 1 blocks 0 hot 0', 'fetch 30408704 4 41424344']
+device.fill(BASE)
+for cut in range(len(WHOLE)):
+    taken = sum(cut >= end for end in (35, 36, 49))
+    fault = f'trace fault 4 Truncated record {taken + 1 if cut >= 16 else 0}'
+    device.must_say(f'a trace that is cut to {cut} bytes', 3, ''.join(f'{line}\n' for line in [TEXT, *LINES[:max(0, taken - 1)], fault]),
+                    'replay', trace=WHOLE[:cut])
+for step in 1, 3:
+    device.fill(BASE)
+    for trace, status, last in (WHOLE, 0, 'end passed 1 rejected 0'), (WHOLE[:-1] + b'\xfe', 3, 'trace fault 2 BadTag record 4'):
+        device.must_say(f'a trace in pieces of {step} bytes', status, ''.join(f'{line}\n' for line in [TEXT, *LINES, last]), 'replay',
+                        trace=trace, step=step)
 # Two words are the form with text, whatever the image is called.
 device.fill(BASE)
 device.path, called = os.path.join(device.folder.name, '--json'), device.path
