@@ -15,6 +15,7 @@ use records::{Rec, RecAt, Record, Taker};
 use std::alloc::Global;
 use super_reader::Super;
 use verdict::NoMemory;
+use verdict::trees::{CHUNK_TREE, ROOT_TREE};
 
 /// The chunks of the system array of a superblock, or the finding of its first pair that breaks a rule. They take their memory from this
 /// allocator.
@@ -34,7 +35,7 @@ pub fn chunk_root(sup: &Super) -> Expect
     ensures { result ≡ chunk_tree_root sup.now }
 {
     Expect {
-        tree: 3,
+        tree: CHUNK_TREE,
         address: sup.chunk_root,
         generation: sup.chunk_root_generation,
         level: sup.chunk_root_level,
@@ -49,7 +50,7 @@ pub fn top_root(sup: &Super) -> Expect
     ensures { result ≡ root_tree_root sup.now }
 {
     Expect {
-        tree: 1,
+        tree: ROOT_TREE,
         address: sup.root,
         generation: sup.generation,
         level: sup.root_level,

@@ -19,13 +19,8 @@ use recon_disk::Steps;
 use span_index::{SortName, Span, SpanIndex, SpanSort};
 use std::collections::BTreeSet;
 use verdict::kinds::{EXTENT_DATA, EXTENT_ITEM, METADATA_ITEM};
-use verdict::{Key, NoMemory};
-
-/// The size of a sector in bytes.
-const SECTOR: u64 = 4096;
-
-/// The id of the extent tree.
-const EXTENT_TREE: u64 = 2;
+use verdict::trees::EXTENT_TREE;
+use verdict::{Key, NoMemory, SECTOR};
 
 /// A range of the volume, and the sort of spans that are looked for in it.
 #[derive(Clone, Copy)]

@@ -8,6 +8,7 @@ ghost use Rattle.chunk_map.specs.Order.{AllClear, MeetsNone};
 
 use crate::copies::{common, ends_by, meets};
 use verdict::kinds::CHUNK_ITEM;
+use verdict::trees::CHUNK_TREE;
 use verdict::{Chunk, Family, Finding, Key, Rule};
 
 /// The finding on the first chunk of the system array that is not one of the chunk tree (S10).
@@ -150,7 +151,7 @@ fn finding(family: Family, number: u8, start: u64, detail: u64) -> Finding
 {
     Finding {
         rule: Rule { family, number },
-        tree: 3,
+        tree: CHUNK_TREE,
         block: 0,
         key: Key {
             objectid: 256,

@@ -10,11 +10,11 @@ ghost use Rattle.commit_laws.specs.Sectors.{AreInside, CountedInside};
 ghost use Rattle.commit_laws.specs.Sound.{IsWhole};
 ghost use Rattle.commit_judge.specs.Moves.{AreOfChanged, any_counted};
 
-use crate::spans::{SECTOR, push_some};
+use crate::spans::push_some;
 use accounts::Ctx;
 use span_index::{Run, Span, SpanSort};
 use std::alloc::Global;
-use verdict::NoMemory;
+use verdict::{NoMemory, SECTOR};
 
 /// The runs of the sectors of the spans of three lists, in order: of those that are gone and counted in one context, of those that came
 /// and count in another, and of all that were found. Runs that meet or touch are one. A span that counts for no sum, as what a file

@@ -30,11 +30,8 @@ use recon_disk::Steps;
 use records::{ItemAt, Rec};
 use span_index::{SortName, Span, SpanIndex, SpanSort};
 use std::alloc::Global;
-use verdict::NoMemory;
 use verdict::kinds::{EXTENT_DATA, EXTENT_ITEM, METADATA_ITEM};
-
-/// The size of a sector in bytes.
-pub(crate) const SECTOR: u64 = 4096;
+use verdict::{NoMemory, SECTOR};
 
 // The bytes of a checksum.
 const SUM: u64 = 4;

@@ -27,8 +27,8 @@ pub struct FileExtent {
     pub length: u64,
 }
 
-/// The type of extents whose data stands in the item.
-const INLINE: u8 = 0;
+/// The type of a range of a file whose data stands in the item.
+pub const INLINE: u8 = 0;
 
 /// The type of extents that are reserved and not written yet.
 const PREALLOCATED: u8 = 2;

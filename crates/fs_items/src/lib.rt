@@ -10,7 +10,7 @@ mod sums;
 mod xattr;
 
 pub use dir::{DirEntries, DirEntry, DirItem, read_dir};
-pub use file_extent::{FileExtent, read_file_extent};
+pub use file_extent::{FileExtent, INLINE, read_file_extent};
 pub use inode::{InodeItem, read_inode};
 pub use inode_ref::{InodeRef, NameAt, Names, read_inode_ref};
 pub use orphan::{Orphan, read_orphan};

@@ -4,7 +4,7 @@ ghost use Rattle.std.specs.Prelude.{◌≡◌, MatchResult, Ok, Err};
 ghost use Rattle.fs_items.specs.SumsRow.{sum_row};
 ghost use Rattle.fs_items.specs.Lent.{sums_in};
 
-use verdict::{At, Family, Finding, Key, is_multiple};
+use verdict::{At, Family, Finding, Key, SECTOR, is_multiple};
 
 /// Checksums of adjacent sectors of file data, EXTENT_CSUM, that keep their rules, in the bytes of their
 /// leaf.
@@ -19,9 +19,6 @@ pub struct SumRun<'a> {
 
 /// The objectid -10, which checksums have.
 const SUMS_OBJECTID: u64 = 18_446_744_073_709_551_606;
-
-/// The size of a sector in bytes.
-const SECTOR: u64 = 4096;
 
 /// The checksums with this key in these bytes, or the finding of the first rule that they break, in the
 /// order tree (U9), key (I2), size (I1), range that they cover (I1).

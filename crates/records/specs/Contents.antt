@@ -5,6 +5,7 @@ use Rattle.std.specs.List.{list_any, filter_map}
 use Rattle.verdict.specs.Image.{range}
 use Rattle.verdict.specs.Rules.{TableRow, first_failing, or_found, finding_or, and_then, image_finding, no_key}
 use Rattle.verdict.specs.Trees.{has_group_tree}
+use Rattle.verdict.specs.declared.trees.TheConstants.{ROOT_TREE, EXTENT_TREE, CHUNK_TREE, DEV_TREE, FS_TREE, CSUM_TREE, BLOCK_GROUP_TREE}
 use Rattle.verdict.specs.declared.finding.Finding.{Finding}
 use Rattle.verdict.specs.declared.finding.Family.TheVariants.{S, X}
 use Rattle.verdict.specs.declared.key.Key.{Key}
@@ -43,11 +44,11 @@ root_expected tree address generation level = record {
 
 -- the root of the chunk tree, by the superblock
 abbrev pub chunk_tree_root : Super → Expect
-chunk_tree_root sup = root_expected 3 sup.chunk_root sup.chunk_root_generation sup.chunk_root_level
+chunk_tree_root sup = root_expected CHUNK_TREE sup.chunk_root sup.chunk_root_generation sup.chunk_root_level
 
 -- the root of the root tree, by the superblock
 abbrev pub root_tree_root : Super → Expect
-root_tree_root sup = root_expected 1 sup.root sup.generation sup.root_level
+root_tree_root sup = root_expected ROOT_TREE sup.root sup.generation sup.root_level
 
 -- the root of the tree that a root item names
 abbrev pub named_root : RootItem → Expect
@@ -55,7 +56,7 @@ named_root root = root_expected root.key.objectid root.bytenr root.generation ro
 
 -- a finding on the list of root items
 abbrev pub roots_finding : ℕ → Key → Finding
-roots_finding number key = record { rule = record { family = X; number = number }; tree = 1; block = 0; key = key; detail = 0 }
+roots_finding number key = record { rule = record { family = X; number = number }; tree = ROOT_TREE; block = 0; key = key; detail = 0 }
 
 -- whether a root item names a tree
 abbrev pub names : ℕ → RootItem → Bool
@@ -79,8 +80,8 @@ missing_row roots id = record { fails = not (list_any (names id) roots); finding
 -- have one of their own
 abbrev pub missing_rows : ℕ → List RootItem → List TableRow
 missing_rows compat_ro roots =
-    missing_row roots 2 ∷ missing_row roots 4 ∷ missing_row roots 5 ∷ missing_row roots 7
-    ∷ record { fails = has_group_tree compat_ro && not (list_any (names 11) roots); finding = missing_finding 11 } ∷ []
+    missing_row roots EXTENT_TREE ∷ missing_row roots DEV_TREE ∷ missing_row roots FS_TREE ∷ missing_row roots CSUM_TREE
+    ∷ record { fails = has_group_tree compat_ro && not (list_any (names BLOCK_GROUP_TREE) roots); finding = missing_finding BLOCK_GROUP_TREE } ∷ []
 
 -- the first finding on the list of root items
 unfoldable pub roots_fault : ℕ → List RootItem → Option Finding

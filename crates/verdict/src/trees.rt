@@ -20,3 +20,5 @@ pub const UUID_TREE: u64 = 9;
 pub const FREE_SPACE_TREE: u64 = 10;
 /// The tree of the block groups, where they have one of their own.
 pub const BLOCK_GROUP_TREE: u64 = 11;
+/// The tree of files in which the driver moves data: -9.
+pub const DATA_RELOC_TREE: u64 = 18_446_744_073_709_551_607;

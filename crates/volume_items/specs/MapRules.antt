@@ -2,6 +2,7 @@
 use Rattle.std.specs.Prelude.{ℕ, ◌+◌, ◌-◌, min, max, Bool, false, not, ◌&&◌, ◌||◌, ◌==◌, nat_eq, nat_lt, List, [], ◌∷◌, ◌++◌, length, slice_get, Option, Some, None}
 use Rattle.std.specs.Option.{option_eq}
 use Rattle.std.specs.List.{list_any}
+use Rattle.verdict.specs.declared.trees.TheConstants.{CHUNK_TREE}
 use Rattle.verdict.specs.Rules.{TableRow, first_failing}
 use Rattle.verdict.specs.declared.finding.Finding.{Finding}
 use Rattle.verdict.specs.declared.finding.Family.{Family}
@@ -14,7 +15,7 @@ use Rattle.verdict.specs.declared.kinds.TheConstants.{CHUNK_ITEM}
 abbrev pub chunk_finding : Family → ℕ → ℕ → ℕ → Finding
 chunk_finding family number start detail = record {
   rule = record { family = family; number = number };
-  tree = 3;
+  tree = CHUNK_TREE;
   block = 0;
   key = record { objectid = 256; kind = CHUNK_ITEM; offset = start };
   detail = detail;

@@ -2,6 +2,7 @@
 -- Offsets are in bytes from the item's first byte.
 use Rattle.std.specs.Prelude.{ℕ, Bool, not, ◌&&◌, ◌||◌, ◌==◌, nat_lt, List, [], ◌∷◌, length, slice_index, bytes_eq, replicate, Result}
 use Rattle.recon_bytes.specs.Field.{field}
+use Rattle.verdict.specs.declared.trees.TheConstants.{EXTENT_TREE, DEV_TREE, FS_TREE, CSUM_TREE, QUOTA_TREE, UUID_TREE, FREE_SPACE_TREE, BLOCK_GROUP_TREE, DATA_RELOC_TREE}
 use Rattle.verdict.specs.Image.{range}
 use Rattle.verdict.specs.Rules.{TableRow, first_failing, finding_or}
 use Rattle.verdict.specs.Items.{is_free_id, item_rule, listed_rule}
@@ -16,8 +17,8 @@ use Rattle.volume_items.specs.declared.root.RootItem.{RootItem}
 -- 8, 9 and 10, whose items stay unread, and -9, files too; and 11 block groups, where they have a tree of their own
 abbrev pub is_root_id : ℕ → ℕ → Bool
 is_root_id compat_ro id =
-    id == 2 || id == 4 || id == 5 || id == 7 || id == 8 || id == 9 || id == 10
-    || id == 18446744073709551607 || is_free_id id || (id == 11 && has_group_tree compat_ro)
+    id == EXTENT_TREE || id == DEV_TREE || id == FS_TREE || id == CSUM_TREE || id == QUOTA_TREE || id == UUID_TREE || id == FREE_SPACE_TREE
+    || id == DATA_RELOC_TREE || is_free_id id || (id == BLOCK_GROUP_TREE && has_group_tree compat_ro)
 
 -- the rules in their order: the tree lists the item, the id, the size, the generation, which is at most the leaf's,
 -- drop_progress, which is zero, and the level

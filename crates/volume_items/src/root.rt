@@ -7,6 +7,10 @@ ghost use Rattle.verdict.specs.Rules.{first_failing};
 ghost use Rattle.volume_items.specs.RootRow.{is_root_id, root_row, root_rows};
 
 use recon_bytes::{get_u32, get_u64};
+use verdict::trees::{
+    BLOCK_GROUP_TREE, CSUM_TREE, DATA_RELOC_TREE, DEV_TREE, EXTENT_TREE, FREE_SPACE_TREE, FS_TREE,
+    QUOTA_TREE, UUID_TREE,
+};
 use verdict::{At, Family, Finding, Key, has_group_tree, is_free_id};
 
 /// A root item that keeps its rules: where a tree begins.
@@ -77,16 +81,16 @@ fn root_fault(at: &At, key: Key, bytes: &[u8]) -> Option<Finding>
 fn may_be_root(compat_ro: u64, id: u64) -> bool
     ensures { result ≡ is_root_id compat_ro id }
 {
-    id == 2
-        || id == 4
-        || id == 5
-        || id == 7
-        || id == 8
-        || id == 9
-        || id == 10
-        || id == 18_446_744_073_709_551_607
+    id == EXTENT_TREE
+        || id == DEV_TREE
+        || id == FS_TREE
+        || id == CSUM_TREE
+        || id == QUOTA_TREE
+        || id == UUID_TREE
+        || id == FREE_SPACE_TREE
+        || id == DATA_RELOC_TREE
         || is_free_id(id)
-        || id == 11 && has_group_tree(compat_ro)
+        || id == BLOCK_GROUP_TREE && has_group_tree(compat_ro)
 }
 
 // Whether no deletion of the tree is in progress.

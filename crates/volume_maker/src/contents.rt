@@ -209,7 +209,7 @@ pub fn root_items(
 ) -> Result<Vec<LeafItem>, NoMemory> {
     let mut items = Items::new(alloc);
     for root in roots {
-        let dirid = if root.tree == FILE_TREE || root.tree >= TOP {
+        let dirid = if root.tree == FS_TREE || root.tree >= TOP {
             TOP
         } else {
             0
@@ -223,8 +223,8 @@ pub fn root_items(
             let (id, sequence) = (entry.location.objectid, generation_of(entry.commit));
             let there = root_link_bytes(alloc, sequence, entry.name.as_bytes())?;
             let back = root_link_bytes(alloc, sequence, entry.name.as_bytes())?;
-            items.add(FILE_TREE, ROOT_REF, id, there)?;
-            items.add(id, ROOT_BACKREF, FILE_TREE, back)?;
+            items.add(FS_TREE, ROOT_REF, id, there)?;
+            items.add(id, ROOT_BACKREF, FS_TREE, back)?;
         }
     }
     items.finish()

@@ -3,7 +3,7 @@
 ghost use Rattle.std.specs.Prelude.{◌≡◌, ◌<◌, ◌^◌, ◌++◌, flat_map, length, IfOk, OnOk};
 ghost use Rattle.volume_maker.specs.Items.{inode_bytes, extent_length, file_extent_bytes, reference_bytes, inline_bytes, extent_bytes, sums_bytes, root_link_bytes};
 
-use crate::kinds::{EXTENT_DATA_REF, FILE_TREE, TOP};
+use crate::kinds::{EXTENT_DATA_REF, FS_TREE, TOP};
 use crate::space::sector_address;
 use crate::volume::Extent;
 use image_maker::Fields;
@@ -79,7 +79,7 @@ pub fn reference_bytes(alloc: Global, ino: u64) -> Result<Bytes, NoMemory>
     ensures { IfOk result (λ b. b ≡ reference_bytes ino) }
 {
     let mut fields = Fields::new(alloc);
-    fields.eight(FILE_TREE)?;
+    fields.eight(FS_TREE)?;
     fields.eight(ino)?;
     fields.eight(0)?;
     fields.four(1)?;

@@ -3,7 +3,7 @@
 ghost use Rattle.std.specs.Prelude.{◌≡◌, ◌++◌, ◌<◌, ◌≤◌, ◌^◌, length, IfOk, string_bytes, string_len};
 ghost use Rattle.std.specs.Fmt.{decimal};
 
-use crate::kinds::{FILE_TREE, INODE_ITEM, ROOT_ITEM, TOP};
+use crate::kinds::{FS_TREE, INODE_ITEM, ROOT_ITEM, TOP};
 use crate::volume::{Volume, inode_of};
 use std::alloc::Global;
 use verdict::{Key, NoMemory};

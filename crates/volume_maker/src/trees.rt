@@ -9,25 +9,18 @@ use crate::block::BlockAt;
 use crate::contents::{
     data_used, empty_files, extent_items, file_items, metadata_used, root_items, sum_items,
 };
-use crate::kinds::FILE_TREE;
 use crate::space::Space;
 use crate::tree::{Tree, block_count, tree_of};
 use crate::volume::Volume;
 use image_maker::LeafItem;
 use std::alloc::Global;
 use verdict::NoMemory;
-
-/// The root tree.
-const ROOT_TREE: u64 = 1;
-/// The extent tree.
-const EXTENT_TREE: u64 = 2;
-/// The sums tree.
-const SUMS_TREE: u64 = 7;
+use verdict::trees::{CSUM_TREE, DEV_TREE, EXTENT_TREE, FS_TREE, ROOT_TREE};
 
 /// The block of the device tree, which no commit changes.
 const DEVICE_BLOCK: BlockAt = BlockAt {
     number: 2,
-    tree: 4,
+    tree: DEV_TREE,
     level: 0,
     generation: 1,
 };
@@ -91,8 +84,8 @@ impl Trees {
             alloc,
             roots: base_tree(alloc, 0, ROOT_TREE, &[])?,
             extents: base_tree(alloc, 1, EXTENT_TREE, &[])?,
-            files: base_tree(alloc, 3, FILE_TREE, &top)?,
-            sums: base_tree(alloc, 4, SUMS_TREE, &[])?,
+            files: base_tree(alloc, 3, FS_TREE, &top)?,
+            sums: base_tree(alloc, 4, CSUM_TREE, &[])?,
             subvolumes: Vec::new(alloc),
         })
     }
@@ -188,10 +181,10 @@ impl Trees {
         let alloc = self.alloc;
         let items = file_items(alloc, volume)?;
         let old = Some(&self.files);
-        self.files = tree_of(alloc, old, space, FILE_TREE, generation, &items)?;
+        self.files = tree_of(alloc, old, space, FS_TREE, generation, &items)?;
         let items = sum_items(alloc, volume)?;
         let old = Some(&self.sums);
-        self.sums = tree_of(alloc, old, space, SUMS_TREE, generation, &items)?;
+        self.sums = tree_of(alloc, old, space, CSUM_TREE, generation, &items)?;
         self.make_subvolumes(volume, space, generation)?;
         Ok(())
     }
