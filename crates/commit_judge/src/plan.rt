@@ -132,10 +132,7 @@ fn add_all(changes: &mut Vec<ItemChange>, count: u64) -> Result<(), NoMemory>
 fn put(changes: &mut Vec<ItemChange>, change: ItemChange) -> Result<(), NoMemory>
     ensures { OnOk result (changes.new.items ≡ changes.old.items ++ change ∷ []) }
 {
-    match changes.push(change) {
-        Ok(()) => Ok(()),
-        Err(_) => Err(NoMemory),
-    }
+    Ok(changes.push(change)?)
 }
 
 // The kept items that post otherwise. Where blocks are not read alike, no item is kept.
