@@ -76,7 +76,7 @@ contains_more x xs y is = Contains-append_right (x ∷ []) xs y is
 pub contains_first : {X : Type 0} (x : X) (xs : List X) → Contains (x ∷ xs) x
 contains_first x xs = Contains-append_left (x ∷ []) xs x (Contains-push [] x)
 
-only_one : {X : Type 0} (x y : X) → Contains (x ∷ []) y → x ≡ y
+pub only_one : {X : Type 0} (x y : X) → Contains (x ∷ []) y → x ≡ y
 only_one x y is = elim (Contains-push_cases [] x y is) [ inl never ↦ absurd (contains_none y never) | inr same ↦ same ]
 
 -- an item that is made of a list is made of one element

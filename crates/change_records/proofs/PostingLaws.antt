@@ -115,7 +115,7 @@ unwritten_shows context tree range unwritten =
 
 -- ---- an item and its span
 
-one_span : (s t : Span) → Some s ≡ Some t → s ≡ t
+pub one_span : (s t : Span) → Some s ≡ Some t → s ≡ t
 one_span s t is = ap (λ o. unwrap_or o s) is
 
 -- the bytes of an extent are whole sectors

@@ -21,6 +21,8 @@ use Rattle.std.specs.Bool.{beq}
 use Rattle.std.proofs.Common.{◌-◌, not, min, max, length, get_or, nat_lt}
 use Rattle.std.proofs.lemmas.Bool.Decides.{nat_tests}
 use Rattle.std.proofs.lemmas.Bool.{and_from, and_parts, lt-ltb, ltb-true, or_left, both_ways, cases_lt, cases_order, eqb-true, or_cases, or_right}
+use Rattle.live_index.proofs.PlaceLaws.{same_name}
+use Rattle.change_records.proofs.HomeLaws.{one_chunk as some_chunk}
 use Rattle.verdict.proofs.Numbers.{at_least}
 use Rattle.verdict.proofs.Truth.{is_less}
 use Rattle.accounts.specs.Context.{Context}
@@ -35,20 +37,11 @@ use Rattle.change_records.specs.Refs.{ref_cmp}
 use Rattle.change_records.specs.Search.{AreAlone, AreLawful, Has, IsHit, IsLawfulSort, IsLawfulSpan, IsNameOf, IsShownBy, Known, MeetsChanged, MeetsChunk, Overlaps, ShowsChanged, Searched, SortDiffers, SpanDiffers, SpanNames, Takes}
 use Rattle.change_records.proofs.MadeLaws.{name_put}
 
-same_key : (a b : Key) → key_same a b ≡ true → a ≡ b
-same_key a b is =
-    let first = and_parts (a.objectid == b.objectid) (a.kind == b.kind && a.offset == b.offset) is in
-    let rest = and_parts (a.kind == b.kind) (a.offset == b.offset) first.1 in
-    let e1 : a.objectid ≡ b.objectid = eqb-true _ _ first.0 in
-    let e2 : a.kind ≡ b.kind = eqb-true _ _ rest.0 in
-    let e3 : a.offset ≡ b.offset = eqb-true _ _ rest.1 in
-    λ i. record { objectid = e1 i; kind = e2 i; offset = e3 i }
-
 pub same_ref : (a b : ItemRef) → (a.tree == b.tree && key_same a.key b.key) ≡ true → a ≡ b
 same_ref a b is =
     let both = and_parts (a.tree == b.tree) (key_same a.key b.key) is in
     let e1 : a.tree ≡ b.tree = eqb-true _ _ both.0 in
-    let e2 : a.key ≡ b.key = same_key a.key b.key both.1 in
+    let e2 : a.key ≡ b.key = same_name a.key b.key both.1 in
     λ i. record { tree = e1 i; key = e2 i }
 
 pub taken : (k : Known) (span : Span) (name : ItemRef) (old new : set.BTreeSet ItemRef) → set.Updates ref_cmp old new name true → IsHit k span name
@@ -319,9 +312,6 @@ chunk_parts chunk until span is meets = elim meets.sort [
   | inl owned ↦ inl (owned, meets.ends, subst (λ u. span.first < u) (sym is) meets.begins)
   | inr shown ↦ inr (shown, meets.ends, subst (λ u. span.first < u) (sym is) meets.begins)
 ]
-
-some_chunk : (h g : Chunk) → Some h ≡ Some g → h ≡ g
-some_chunk h g is = ap (λ o. unwrap_or o h) is
 
 some_inode : (h g : Inode) → Some h ≡ Some g → h ≡ g
 some_inode h g is = ap (λ o. unwrap_or o h) is

@@ -6,6 +6,7 @@ use Rattle.std.specs.Option.{option_and_then}
 use Rattle.std.proofs.lemmas.List.{map-append, take_more}
 use Rattle.std.proofs.lemmas.List.Elements.{filter_map-append, recursion_from_All}
 use Rattle.std.proofs.lemmas.Option.{same_Some}
+use Rattle.lookup_bounds.proofs.BlocksChanges.{blocks_none}
 use Rattle.live_index.specs.declared.live.Live.{Live}
 use Rattle.records.specs.Contents.{super_record}
 use Rattle.records.specs.Part.{IsLawful, Located}
@@ -91,12 +92,6 @@ spans_more nodesize of changes i d now new item some inside so named is none mor
 
 -- ---- the records that a commit changes
 
--- the records of blocks have no span
-no_blocks : (nodesize : ℕ) (blocks : List Live) (items : List Located)
-    → filter_map (span_of nodesize) (map live_record blocks ++ items) ≡ filter_map (span_of nodesize) items
-no_blocks nodesize [] items = refl
-no_blocks nodesize (block ∷ blocks) items = no_blocks nodesize blocks items
-
 items_sound : (P : Located → Type 0) (blocks : List Live) (items : List Located) → AllByRecursion P (map live_record blocks ++ items)
     → AllByRecursion P items
 items_sound P [] items all = all
@@ -111,7 +106,7 @@ spans_done nodesize of changes i spans sup blocks all is sound =
     is (items_sound (Sound nodesize) blocks (picked of changes)
     (recursion_from_All (Sound nodesize) (super_record sup ∷ (map live_record blocks ++ picked of changes)) sound).1)
     ∙ ap (λ l. filter_map (span_of nodesize) (picked of l)) (take_all i changes all)
-    ∙ sym (no_blocks nodesize blocks (picked of changes))
+    ∙ sym (blocks_none nodesize blocks (picked of changes))
 
 pub gone_done : (nodesize : ℕ) (items : List ItemAt) (changes : List ItemChange) (i : ℕ) (spans : List Span) (sup : Super) (blocks : List Live)
     → length changes ≤ i → AreSpansOf nodesize (gone_of items) changes i spans

@@ -10,6 +10,7 @@ use Rattle.std.specs.declared.cmp.Ordering.{Ordering}
 use Rattle.std.specs.declared.cmp.Ordering.TheVariants.{Less, Equal, Greater}
 use Rattle.std.proofs.Math.Path.{fun_ext}
 use Rattle.std.proofs.lemmas.List.Sums.{sum_by-cons}
+use Rattle.commit_laws.proofs.WSpans.{times_cons}
 use Rattle.verdict.proofs.Truth.{then_tied}
 use Rattle.verdict.specs.declared.place.Chunk.{Chunk}
 use Rattle.account_tally.specs.Sums.{Frees, none_free, or_free}
@@ -72,10 +73,6 @@ same_turned x y = by (is_same x y) (is_same y x) refl refl
     by true false is turned = let same : is_same y x ≡ true = subst (λ (z : Span). is_same z x ≡ true) (same_is x y is) (same_itself x) in absurd (cc (same, turned))
     by false true is turned = let same : is_same x y ≡ true = subst (λ (z : Span). is_same z y ≡ true) (same_is y x turned) (same_itself y) in absurd (cc (same, is))
 
-times_more : (more : Span) (spans : List Span) (span : Span) → times_of_span (more ∷ spans) span ≡ cond (is_same span more) 1 0 + times_of_span spans span
-unfolding times_of_span
-times_more more spans span = sum_by-cons (λ (x : Span). cond (is_same span x) 1 0) more spans
-
 one_more : (b : Bool) (n later : ℕ) → cond b (n + 1) n + later ≡ n + (cond b 1 0 + later)
 one_more true n later = omega arith
 one_more false n later = omega arith
@@ -86,7 +83,7 @@ one_span table None spans span = refl
 one_span table (Some more) spans span =
     one_more (is_same more span) (table span) (times_of_span spans span)
     ∙ ap (λ (b : Bool). table span + (cond b 1 0 + times_of_span spans span)) (same_turned more span)
-    ∙ ap (λ (n : ℕ). table span + n) (sym (times_more more spans span))
+    ∙ ap (λ (n : ℕ). table span + n) (sym (times_cons more spans span))
 
 no_span : (span : Span) → times_of_span [] span ≡ 0
 unfolding times_of_span

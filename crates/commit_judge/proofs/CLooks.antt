@@ -4,6 +4,7 @@ use Rattle.std.specs.FinMap.{FinMap, empty}
 use Rattle.std.specs.List.{filter, filter_map, sum_by}
 use Rattle.std.specs.Ordering.{nat_cmp}
 use Rattle.std.proofs.lemmas.List.Sums.{count_by-le-length, length-filter, sum_by-cons}
+use Rattle.lookup_bounds.proofs.PostingsCounted.{posts_less, filter_less}
 use Rattle.account_tally.specs.Sums.{none_free}
 use Rattle.accounts.specs.Context.{Context}
 use Rattle.commit_laws.specs.Items.{items_of}
@@ -43,28 +44,12 @@ use Rattle.commit_judge.proofs.CReady.{all_alike, plain}
 
 -- ---- postings
 
-kept_less : {A : Type 0} (p : A → Bool) (xs : List A) → length (filter p xs) ≤ length xs
-kept_less p xs = let same = length-filter p xs in let less = count_by-le-length p xs in omega (arith, same, less)
-
 four_joined : {A : Type 0} (a b c d : List A) → length (a ++ (b ++ (c ++ d))) ≡ length a + (length b + (length c + length d))
 four_joined a b c d =
     let first = length-append a (b ++ (c ++ d)) in
     let second = length-append b (c ++ d) in
     let third = length-append c d in
     omega (arith, first, second, third)
-
--- a record posts no more but to sectors than in all
-posts_less : (context : Context) (one : Located) → length (posts_of context one) ≤ length (postings_of context one)
-posts_less context one =
-    let extents = extent_postings one.tree one.part in
-    let inodes = inode_postings one.tree one.part in
-    let dirs = dir_postings one.tree one.part in
-    let space = space_postings context one.tree one.part in
-    let rest = filter (λ posting. not (is_to_sector posting)) space in
-    let few = four_joined extents inodes dirs rest in
-    let all = four_joined extents inodes dirs space in
-    let less = kept_less (λ posting. not (is_to_sector posting)) space in
-    omega (arith, few, all, less)
 
 -- a block posts two, and the superblock one
 of_block : (context : Context) (block : WalkedBlock) → length (posts_of context (block_record block)) ≡ 2
@@ -73,7 +58,7 @@ of_block context block = refl
 
 of_super : (context : Context) (sup : Super) → length (posts_of context (super_record sup)) ≤ 1
 unfolding extent_postings inode_postings dir_postings space_postings
-of_super context sup = kept_less (λ posting. not (is_to_sector posting)) (space_postings context 0 (super_record sup).part)
+of_super context sup = filter_less (λ posting. not (is_to_sector posting)) (space_postings context 0 (super_record sup).part)
 
 posts_few : (context : Context) (seen : List Seen)
     → length (all_posts context (filter_map accounted seen)) ≤ 2 * length (live_in seen) + length (all_postings context (filter_map item_seen seen))

@@ -1,5 +1,6 @@
 -- What the walks of an image come to, by what is known of it once its chunk tree and its root tree were walked.
 use Rattle.std.proofs.Common.{◌≡◌, ℕ, List, ◌++◌, Result, Ok, Err, refl, ap, sym, ◌∙◌, subst, append_assoc}
+use Rattle.walk_laws.proofs.Trees.{step_ok}
 use Rattle.verdict.specs.Image.{range}
 use Rattle.verdict.specs.Rules.{and_then}
 use Rattle.verdict.specs.declared.finding.Finding.{Finding}
@@ -12,7 +13,6 @@ use Rattle.records.specs.Contents.{all_records, chunk_map_in, chunk_records, roo
 use Rattle.records.specs.Seen.{Seen}
 use Rattle.records.specs.Walk.{Records, behind, then_records}
 use Rattle.shared_trees.specs.LivePairs.{Walked, walked}
-use Rattle.shared_trees.proofs.Rooted.{step_ok}
 use Rattle.plain_check.specs.Opened.{Opened, named_records, opened, top_records}
 use Rattle.plain_check.proofs.Opening.{then_next}
 

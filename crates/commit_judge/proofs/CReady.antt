@@ -6,6 +6,7 @@ use Rattle.std.specs.Ordering.{nat_cmp}
 use Rattle.std.specs.FinMap.{FinMap, empty}
 use Rattle.std.specs.List.{list_any}
 use Rattle.std.proofs.lemmas.List.Sums.{sum_by-append}
+use Rattle.plain_check.proofs.Trees.{halted_told}
 use Rattle.verdict.specs.Rules.{and_then, finding_or}
 use Rattle.verdict.specs.declared.finding.Finding.{Finding}
 use Rattle.verdict.specs.declared.finding.Verdict.TheVariants.{Accept, Found as Refusal}
@@ -307,10 +308,6 @@ kept_both disk old between new first second = record {
   faults = second.faults ∙ first.faults;
 }
 
-no_memory : (told : Option (List ℕ)) → IfSome told (λ _. Unit {0})
-no_memory None = tt
-no_memory (Some image) = tt
-
 refused_told : (told : Option (List ℕ)) (m : FinMap nat_cmp ℕ) (finding : Finding) → m ≡ empty
     → IfSome told (λ image. full_check (overlaid m 0 image) ≡ Refusal finding) → IfSome told (λ image. full_check image ≡ Refusal finding)
 refused_told None m finding none is = tt
@@ -354,8 +351,8 @@ found_told told now m o tables finding same none is filled by =
 pub halted_open : {D : Type 0} (disk : Ghosts D) (at : D) (m : FinMap nat_cmp ℕ) (halt : Halt) → m ≡ empty
     → Gives {A = Opened} disk at m (Err halt) opened
     → IfSome (disk.bytes at) (λ image. IsRefusal image halt)
-halted_open disk at m Disk none gives = no_memory (disk.bytes at)
-halted_open disk at m NoMemory none gives = no_memory (disk.bytes at)
+halted_open disk at m Disk none gives = halted_told (disk.bytes at)
+halted_open disk at m NoMemory none gives = halted_told (disk.bytes at)
 halted_open disk at m (Found finding) none gives =
     refused_told (disk.bytes at) m finding none (unopened_told (disk.bytes at) m finding gives)
 
@@ -365,11 +362,11 @@ pub halted_tables : {D : Type 0} (disk : Ghosts D) (at later : D) (m : FinMap na
     → IfSome (disk.bytes at) (λ image. opened (overlaid m 0 image) ≡ Ok o)
     → Gives {A = Unit {0}} disk later m (Err halt) (named_walk o)
     → IfSome (disk.bytes at) (λ image. IsRefusal image halt)
-halted_tables disk at later m o Disk same none is gives = no_memory (disk.bytes at)
-halted_tables disk at later m o NoMemory same none is gives = no_memory (disk.bytes at)
+halted_tables disk at later m o Disk same none is gives = halted_told (disk.bytes at)
+halted_tables disk at later m o NoMemory same none is gives = halted_told (disk.bytes at)
 halted_tables disk at later m o (Found finding) same none is gives =
     refused_told (disk.bytes at) m finding none (unread_told (disk.bytes at) m o finding is (rw same at gives))
 
 -- memory was wanting
 pub halted_memory : (told : Option (List ℕ)) → IfSome told (λ image. IsRefusal image NoMemory)
-halted_memory told = no_memory told
+halted_memory told = halted_told told

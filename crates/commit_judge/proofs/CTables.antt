@@ -3,6 +3,9 @@ use Rattle.std.proofs.Common.{◌≡◌, ℕ, ◌+◌, List, [], ◌∷◌, ◌+
 use Rattle.std.specs.Ordering.{nat_cmp}
 use Rattle.std.specs.FinMap.{FinMap}
 use Rattle.std.specs.List.{filter_map, fold}
+use Rattle.plain_check.proofs.Keeping.{both_fold}
+use Rattle.plain_check.proofs.Sums.{fold_accounted}
+use Rattle.plain_check.proofs.Trees.{halted_told}
 use Rattle.verdict.specs.Rules.{and_then}
 use Rattle.verdict.specs.declared.finding.Finding.{Finding}
 use Rattle.account_tally.specs.Sums.{none_free}
@@ -74,31 +77,15 @@ unread : (told : Option (List ℕ)) (m : FinMap nat_cmp ℕ) (o : Opened) (start
 unread None m o start finding is = tt
 unread (Some image) m o start finding is = unread_case o (named_records o (overlaid m 0 image)) start finding is
 
-no_memory : (told : Option (List ℕ)) → IfSome told (λ _. Unit {0})
-no_memory None = tt
-no_memory (Some image) = tt
-
 -- they were not read to their end
 pub halted_reading : {D : Type 0} (disk : Ghosts D) (at : D) (m : FinMap nat_cmp ℕ) (o : Opened) (start : Made) (halt : Halt)
     → Gives {A = Made} disk at m (Err halt) (λ image. held_after with_made start (volume_records o image))
     → Gives {A = Unit {0}} disk at m (Err halt) (named_walk o)
 halted_reading disk at m o start Disk gives = tt
-halted_reading disk at m o start NoMemory gives = no_memory (disk.bytes at)
+halted_reading disk at m o start NoMemory gives = halted_told (disk.bytes at)
 halted_reading disk at m o start (Found finding) gives = unread (disk.bytes at) m o start finding gives
 
 -- ---- the tables
-
-both_fold : {A B : Type 0} (first : A → Seen → A) (second : B → Seen → B) (a : A) (b : B) (records : List Seen)
-    → fold (with_both first second) (a, b) records ≡ (fold first a records, fold second b records)
-both_fold first second a b [] = refl
-both_fold first second a b (one ∷ records) = both_fold first second (first a one) (second b one) records
-
-accounted_fold : {H : Type 0} (with : H → Located → H) (held : H) (records : List Seen)
-    → fold (with_accounted with) held records ≡ fold with held (filter_map accounted records)
-accounted_fold with held [] = refl
-accounted_fold with held (BlockSeen block ∷ records) = accounted_fold with _ records
-accounted_fold with held (PointerSeen pointer ∷ records) = accounted_fold with held records
-accounted_fold with held (ItemSeen one ∷ records) = accounted_fold with (with held one) records
 
 -- what each of the two made
 each_made : (o : Opened) (more : List Seen) (lives lives' : List Live) (filled filled' : Filled)
@@ -110,7 +97,7 @@ each_made o more lives lives' filled filled' is =
     let two : (fold with_live lives all, fold (with_accounted with_located) filled all) ≡ (lives', filled') =
     sym (both_fold with_live (with_accounted with_located) lives filled all) ∙ is in (
       ap (λ (both : Made). both.0) two,
-      sym (accounted_fold with_located filled all) ∙ ap (λ (both : Made). both.1) two,
+      sym (fold_accounted with_located filled all) ∙ ap (λ (both : Made). both.1) two,
     )
 
 nothing_more : (n : ℕ) → 0 + n ≡ n

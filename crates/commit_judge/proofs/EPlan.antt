@@ -3,6 +3,7 @@ use Rattle.std.proofs.Common.{◌≡◌, ℕ, suc, ◌+◌, ◌-◌, ◌*◌, �
 use Rattle.std.specs.Prelude.{Bool, true, Option, Some, None, Result, Ok, Err, IfOk, IfSome, IsErrAnd}
 use Rattle.std.specs.Ordering.{nat_cmp}
 use Rattle.std.specs.FinMap.{FinMap}
+use Rattle.commit_laws.proofs.GFlags.{ascend_items}
 use Rattle.verdict.specs.Image.{range}
 use Rattle.verdict.specs.declared.finding.Finding.{Finding}
 use Rattle.super_reader.specs.declared.Super.{Super}
@@ -31,7 +32,6 @@ use Rattle.change_records.specs.declared.changes.ItemChange.TheVariants.{Added, 
 use Rattle.change_records.specs.declared.item_ref.ItemRef.{ItemRef}
 use Rattle.commit_laws.specs.Commit.{AreTheAffected, Known, context_by}
 use Rattle.commit_laws.specs.Paired.{SayChanges, added_from, removed_from}
-use Rattle.commit_laws.proofs.SStep.{ascend_items}
 use Rattle.commit_judge.specs.Flags.{free_in, full_in}
 use Rattle.commit_judge.specs.Fresh.{IsFresh}
 use Rattle.commit_judge.specs.Index.{IndexStands, known}

@@ -3,6 +3,7 @@ use Rattle.std.proofs.Common.{◌≡◌, ℕ, ◌+◌, List, length, ap, sym, �
 use Rattle.std.specs.Prelude.{◌||◌, not, Ok}
 use Rattle.std.specs.List.{count_by}
 use Rattle.std.proofs.lemmas.List.Sorted.{length_permutation}
+use Rattle.commit_laws.proofs.VFrame.{same_held}
 use Rattle.live_index.specs.declared.live.Live.{Live}
 use Rattle.records.specs.Contents.{Contents, contents}
 use Rattle.shared_trees.specs.LivePairs.{Walked, live_in, walked}
@@ -17,19 +18,16 @@ use Rattle.commit_laws.specs.Same.{HeldLaw}
 use Rattle.commit_judge.specs.Counts.{blocks_between, hot_between, may_be_harmed, over_walks}
 use Rattle.commit_judge.specs.Judging.{CountsLaw, is_hot_by}
 
-ok_same : (image : List ℕ) (a b : Contents) → contents image ≡ Ok a → contents image ≡ Ok b → a ≡ b
-ok_same image a b first second = cc
-
 -- the superblock and the chunks that are known of an accepted image are those of its walks
 known_sup : HeldLaw → (image : List ℕ) (k : Known) (old : Walked) → IsKnown image k → walked image ≡ Ok old → k.sup ≡ old.sup
 known_sup held image k old known was =
     let h = held image old was in
-    known.bases.super_is ∙ ap (λ (x : Contents). x.sup) (ok_same image known.bases.held h.0 known.bases.holds h.1) ∙ h.2.sup
+    known.bases.super_is ∙ ap (λ (x : Contents). x.sup) (same_held image known.bases.held h.0 known.bases.holds h.1) ∙ h.2.sup
 
 known_chunks : HeldLaw → (image : List ℕ) (k : Known) (old : Walked) → IsKnown image k → walked image ≡ Ok old → k.chunks ≡ old.chunks
 known_chunks held image k old known was =
     let h = held image old was in
-    known.bases.chunks_are ∙ ap (λ (x : Contents). x.chunks) (ok_same image known.bases.held h.0 known.bases.holds h.1) ∙ h.2.chunks
+    known.bases.chunks_are ∙ ap (λ (x : Contents). x.chunks) (same_held image known.bases.held h.0 known.bases.holds h.1) ∙ h.2.chunks
 
 hot_by : (written : Written) (end : ℕ) (old new : Walked) (sup : Super) (before after : List Chunk) (lives : List Live)
     → sup ≡ old.sup → before ≡ old.chunks → after ≡ new.chunks

@@ -2,6 +2,7 @@
 use Rattle.std.proofs.Common.{◌≡◌, ℕ, ◌+◌, ◌<◌, ◌≤◌, List, [], ◌∷◌, length, sym, ap, ◌∙◌, subst, inl, inr, arith}
 use Rattle.std.specs.List.{All, Contains, filter_map}
 use Rattle.std.proofs.lemmas.List.Elements.{All-contains, Contains-push_cases}
+use Rattle.commit_laws.proofs.PFound.{all_of as each_of}
 use Rattle.accounts.specs.Context.{Context}
 use Rattle.accounts.specs.declared.postings.Posting.{Posting}
 use Rattle.change_records.specs.Search.{AreAlone, AreLawful, SpanNames}
@@ -20,7 +21,6 @@ use Rattle.commit_laws.specs.Commit.{Commit, Known, came_by, context_by, gone_by
 use Rattle.commit_laws.specs.Sectors.{AreInside, AreSound, CountedInside}
 use Rattle.commit_laws.specs.Sound.{IsSound, IsWhole, SpansStand}
 use Rattle.commit_laws.specs.Steps.{change_records, spans_of, step_posts}
-use Rattle.commit_laws.proofs.WNamed.{each_of}
 use Rattle.commit_laws.proofs.XWhole.{span_whole}
 use Rattle.commit_judge.specs.Moves.{AreOfChanged, AreSpansMoved, HaveNames, NameSpans, context_after}
 

@@ -4,6 +4,7 @@ use Rattle.std.specs.Prelude.{Result, Ok, Err}
 use Rattle.std.specs.List.{count_by}
 use Rattle.std.specs.Ordering.{nat_cmp}
 use Rattle.std.specs.FinMap.{FinMap}
+use Rattle.walk_laws.proofs.Trees.{step_ok}
 use Rattle.verdict.specs.declared.finding.Finding.{Finding}
 use Rattle.verdict.specs.declared.finding.Verdict.TheVariants.{Accept}
 use Rattle.verdict.specs.declared.place.Chunk.{Chunk}
@@ -15,7 +16,6 @@ use Rattle.records.specs.Contents.{Contents, all_records, chunk_map_in, contents
 use Rattle.records.specs.FullCheck.{checked, checked_with, full_check, verdict_of}
 use Rattle.records.specs.Seen.{Seen}
 use Rattle.shared_trees.specs.LivePairs.{Walked, live_in, walked}
-use Rattle.shared_trees.proofs.Rooted.{step_ok}
 use Rattle.touched_blocks.specs.Touched.{written_in}
 use Rattle.write_cache.specs.Cache.{overlaid}
 use Rattle.commit_laws.specs.Flags.{hot_of, is_hot}

@@ -4,6 +4,7 @@ use Rattle.std.specs.Prelude.{Option, Some, None, Ok, option_map}
 use Rattle.std.specs.Ordering.{nat_cmp}
 use Rattle.std.specs.FinMap.{FinMap}
 use Rattle.std.proofs.Math.Path.{fun_ext}
+use Rattle.commit_laws.proofs.VFrame.{same_held}
 use Rattle.verdict.specs.declared.finding.Finding.{Finding}
 use Rattle.accounts.specs.Broken.{broken_finding}
 use Rattle.accounts.specs.Sums.{total_of}
@@ -44,15 +45,12 @@ pub record Laws : Type 0 where
 back : (k g c : ℕ) → g ≤ k → (((k - g) + c) - c) + g ≡ k
 back k g c less = omega (arith, less)
 
-ok_same : (image : List ℕ) (a b : Contents) → contents image ≡ Ok a → contents image ≡ Ok b → a ≡ b
-ok_same image a b first second = cc
-
 -- the root items that are known of an accepted image ascend
 known_ascend : Laws → (image : List ℕ) (k : Known) → IsKnown image k → KeysAscend k.roots
 known_ascend laws image k known =
     let b = known.bases in
     let held = laws.held image b.trees b.walks in
-    subst KeysAscend (sym (b.roots_are ∙ ap (λ (h : Contents). map root_at h.roots) (ok_same image b.held held.0 b.holds held.1)))
+    subst KeysAscend (sym (b.roots_are ∙ ap (λ (h : Contents). map root_at h.roots) (same_held image b.held held.0 b.holds held.1)))
     (laws.ascend image b.trees held.0.roots b.walks held.2.roots)
 
 module _ (laws : Laws) (image : List ℕ) (pending : FinMap nat_cmp ℕ) (k : Known) (c : Commit) (roots : List RootAt) (moves : Moves) (sums : Sums)

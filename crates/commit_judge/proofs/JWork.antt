@@ -8,6 +8,8 @@ use Rattle.std.proofs.Math.Path.{fun_ext}
 use Rattle.std.proofs.lemmas.Bool.{and_from, and_parts, cases_lt, eq-eqb, eqb-true, lt-ltb, ltb-true, or_cases, or_left, or_right}
 use Rattle.std.proofs.lemmas.List.Elements.{All-contains}
 use Rattle.std.proofs.lemmas.List.Sums.{sum_by-cons}
+use Rattle.commit_laws.proofs.PNamed.{any_from}
+use Rattle.commit_laws.proofs.VFrame.{same_held}
 use Rattle.verdict.specs.declared.place.Chunk.{Chunk}
 use Rattle.super_reader.specs.declared.Super.{Super}
 use Rattle.write_cache.specs.Cache.{overlaid}
@@ -60,14 +62,6 @@ pub record Laws : Type 0 where
   pub pieces : PiecesLaw
 
 -- ---- members
-
--- one of some that passes a test
-one_that : {X : Type 0} (f : X → Bool) (xs : List X) → list_any f xs ≡ true → (x : X) × Contains xs x × (f x ≡ true)
-one_that f [] is = absurd (cc)
-one_that f (x ∷ xs) is = elim (or_cases (f x) (list_any f xs) is) [
-  | inl here ↦ (x, contains_first x xs, here)
-  | inr later ↦ let more = one_that f xs later in (more.0, contains_more x xs more.0 more.1, more.2)
-]
 
 -- ---- sectors
 
@@ -157,9 +151,6 @@ equal_le a b same = omega (arith, same)
 
 -- ---- a commit between two images
 
-same_ok : (image : List ℕ) (a b : Contents) → contents image ≡ Ok a → contents image ≡ Ok b → a ≡ b
-same_ok image a b first second = cc
-
 -- what is known of an image, by its walks
 record IsOfWalks (k : Known) (whole : Walked) : Type 0 where
   pub sup : k.sup ≡ whole.sup
@@ -170,7 +161,7 @@ of_walks : HeldLaw → (image : List ℕ) (k : Known) (known : IsKnown image k) 
 of_walks held image k known =
     let b = known.bases in
     let h = held image b.trees b.walks in
-    let same : h.0 ≡ b.held = same_ok image h.0 b.held h.1 b.holds in
+    let same : h.0 ≡ b.held = same_held image h.0 b.held h.1 b.holds in
     record {
       sup = b.super_is ∙ ap (λ (c : Contents). c.sup) (sym same) ∙ h.2.sup;
       chunks = b.chunks_are ∙ ap (λ (c : Contents). c.chunks) (sym same) ∙ h.2.chunks;
@@ -265,18 +256,18 @@ module _ (laws : Laws) (image : List ℕ) (pending : FinMap nat_cmp ℕ) (k : Kn
       elim (or_cases (any_counted (context_by k) (have_common span) gone) (any_counted (context_after k c) (have_common span) came
       || list_any (have_common span) few.found) is) [
         | inl was ↦
-            let one = one_that (λ (s : Span). counts (context_by k) s s.sort && have_common span s) gone was in
+            let one = any_from (λ (s : Span). counts (context_by k) s s.sort && have_common span s) gone was in
             let both = and_parts (counts (context_by k) one.0 one.0.sort) (have_common span one.0) one.2 in
             meets_one span one.0 whole.0 (gone_whole one.0 one.1) (λ address has. named.gone one.0 address one.1 both.0 has) both.1
         | inr rest ↦ elim (or_cases (any_counted (context_after k c) (have_common span) came) (list_any (have_common span) few.found) rest) [
           | inl now ↦
-              let one = one_that (λ (s : Span). counts (context_after k c) s s.sort && have_common span s) came now in
+              let one = any_from (λ (s : Span). counts (context_after k c) s s.sort && have_common span s) came now in
               let both = and_parts (counts (context_after k c) one.0 one.0.sort) (have_common span one.0) one.2 in
               meets_one span one.0 whole.0 (came_whole one.0 one.1)
               (λ address has. named.came one.0 address one.1
               (subst (λ (x : Context). counts x one.0 one.0.sort ≡ true) (sym context_is) both.0) has) both.1
           | inr found ↦
-              let one = one_that (have_common span) few.found found in
+              let one = any_from (have_common span) few.found found in
               let stands = few.found_stand one.0 one.1 in
               let name = few.found_named named.names one.0 one.1 in
               meets_one span one.0 whole.0 (stand.whole one.0 stands).0
@@ -295,7 +286,7 @@ module _ (laws : Laws) (image : List ℕ) (pending : FinMap nat_cmp ℕ) (k : Kn
       held_spans =
           let b = leads.known.bases in
           let h = laws.held (overlaid pending 0 image) new b.walks in
-          let same : h.0 ≡ b.held = same_ok (overlaid pending 0 image) h.0 b.held h.1 b.holds in
+          let same : h.0 ≡ b.held = same_held (overlaid pending 0 image) h.0 b.held h.1 b.holds in
           λ i. spans_of (now_is.sup i).nodesize ((ap (λ (x : Contents). x.records) (sym same) ∙ h.2.records) i)
 
   met : count_by (meets_changed k c few.found) few.spans ≤ count_by (is_met image pending old new) (spans_in new)

@@ -102,7 +102,7 @@ owned_use false field = or_none (field == 0)
     or_none true = refl
     or_none false = refl
 
-is_below : (n : ℕ) → n < 18446744073709551616 → nat_lt n 18446744073709551616 ≡ true
+pub is_below : (n : ℕ) → n < 18446744073709551616 → nat_lt n 18446744073709551616 ≡ true
 is_below n less = grind (arith, nat_tests)
 
 extent_counts : (context : Context) (of_data : Bool) (first bytes : ℕ) (home : Option Home) → bytes % 4096 ≡ 0 → first + bytes < 18446744073709551616

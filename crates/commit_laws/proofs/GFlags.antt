@@ -34,7 +34,7 @@ use Rattle.commit_laws.proofs.GWhole.{all_permuted}
 use Rattle.commit_laws.proofs.SFlat.{filter_map_alike, filter_map_permuted}
 
 -- items that ascend as they stand in images ascend as they are kept
-ascend_items : (found : List ItemAt) → AllPairs (λ a b. item_before a b ≡ true) (map located_item found) → Ascend found
+pub ascend_items : (found : List ItemAt) → AllPairs (λ a b. item_before a b ≡ true) (map located_item found) → Ascend found
 unfolding is_before
 ascend_items found all i j d less within =
     let long = length-map found located_item in

@@ -4,6 +4,7 @@ use Rattle.std.proofs.lemmas.Bool.{and_parts, eqb-true, or_parts}
 use Rattle.std.proofs.lemmas.List.Sorted.{sum_by-IsPermutation}
 use Rattle.std.proofs.lemmas.List.Sums.{length-filter}
 use Rattle.std.specs.List.{filter, list_any}
+use Rattle.commit_laws.proofs.Alike.{shared_is}
 use Rattle.verdict.specs.OnDisk.{key_same}
 use Rattle.live_index.specs.declared.live.Live.{Live}
 use Rattle.records.specs.Seen.{Seen}
@@ -47,24 +48,6 @@ pub record IsShared (old new : Walked) (written : Written) (end : ℕ) (live : L
   pub stands : stands_untouched (touches_old old written end) old.seen live ≡ true
   pub there : list_any (are_alike live) (live_in new.seen) ≡ true
   pub free : touches_block written old.chunks old.sup.nodesize end live.address ≡ false
-
-pub shared_is : (old new : Walked) (written : Written) (end : ℕ) (live : Live) → is_shared old new written end live ≡ true
-    → IsShared old new written end live
-unfolding is_shared_by
-shared_is old new written end live is =
-    let stays = stays_in_place old.chunks new.chunks old.sup.nodesize end live.address in
-    let stands = stands_untouched (touches_old old written end) old.seen live in
-    let there = list_any (are_alike live) (live_in new.seen) in
-    let one = and_parts (are_read_alike old.sup new.sup) (stays && (stands && there)) is in
-    let two = and_parts stays (stands && there) one.1 in
-    let three = and_parts stands there two.1 in
-    record {
-      alike = one.0;
-      stays = two.0;
-      stands = three.0;
-      there = three.1;
-      free = free_address (touches_old old written end) live old.seen three.0;
-    }
 
 not_hot : (old new : Walked) (written : Written) (end : ℕ) (live : Live) → is_shared old new written end live ≡ true
     → is_hot old new written end live ≡ false

@@ -9,6 +9,8 @@ use Rattle.std.proofs.lemmas.List.Sorted.{IsPermutation-append, IsPermutation-ap
 use Rattle.std.specs.Prelude.{Option, Some, None, Ok, map}
 use Rattle.std.specs.List.{AllByRecursion, AllPairs, cons_option, filter, filter_map}
 use Rattle.std.specs.List.Sorted.{IsPermutation}
+use Rattle.walk_laws.proofs.Trees.{step_ok}
+use Rattle.shared_trees.proofs.Mixing.{same_itself, apart_first}
 use Rattle.verdict.proofs.Lists.{all_later, filter_alike as filter_same, all_map as each_map}
 use Rattle.verdict.specs.OnDisk.{key_below, key_same}
 use Rattle.verdict.specs.Rules.{and_then, finding_or}
@@ -33,7 +35,6 @@ use Rattle.shared_trees.specs.TableLaw.{trees_in}
 use Rattle.shared_trees.specs.Unshared.{items_in}
 use Rattle.shared_trees.proofs.MergedLists.{roots_are_seen}
 use Rattle.shared_trees.proofs.Picking.{each_both}
-use Rattle.shared_trees.proofs.Rooted.{step_ok}
 use Rattle.shared_trees.proofs.Treed.{has_trees, steps_of, trees_walk}
 use Rattle.touched_blocks.specs.Touched.{written_in}
 use Rattle.tree_change.specs.Gathered.{located_item}
@@ -145,14 +146,8 @@ known_roots image whole roots is places has =
 abbrev Apart : RootAt → RootAt → Type 0
 Apart a b = key_same a.key b.key ≡ false
 
-apart_below : (a b : Key) → key_below a b ≡ true → key_same a b ≡ false
-apart_below a b less = grind (arith, common_steps, nat_tests)
-
 apart_turned : (a b : Key) → key_same a b ≡ false → key_same b a ≡ false
 apart_turned a b apart = grind (arith, common_steps, nat_tests)
-
-key_itself : (a : Key) → key_same a a ≡ true
-key_itself a = grind (arith, common_steps)
 
 heads_from : (x : RootAt) (xs : List RootAt) → ((k : ℕ) → k < length xs → Apart x (slice_index_or xs k x)) → AllByRecursion (Apart x) xs
 heads_from x [] h = tt
@@ -173,7 +168,7 @@ across (a ∷ gone) some all =
     (each_both (Apart a) (λ x. has_named gone x ≡ false) some (all_later (Apart a) gone some heads)
     (across gone some (λ i j d p q. all (suc i) (suc j) d (omega arith) (omega arith))))
 
-all_pass : {A : Type 0} (p : A → Bool) (xs : List A) → AllByRecursion (λ x. p x ≡ true) xs → filter p xs ≡ xs
+pub all_pass : {A : Type 0} (p : A → Bool) (xs : List A) → AllByRecursion (λ x. p x ≡ true) xs → filter p xs ≡ xs
 all_pass p [] all = refl
 all_pass p (x ∷ xs) all = rw all.0 (ap (λ ys. x ∷ ys) (all_pass p xs all.1))
 
@@ -186,7 +181,7 @@ left_of old gone some others apart perm same =
     let alike : (root : RootAt) → has_named others root ≡ has_named gone root =
     λ root. sym (list_any-IsPermutation (λ (one : RootAt). key_same one.key root.key) gone others same) in
     let none : filter stays gone ≡ [] =
-    filter_same stays left (λ root. ap not (alike root)) gone ∙ none_left (λ (a b : RootAt). key_same a.key b.key) (λ a. key_itself a.key) gone in
+    filter_same stays left (λ root. ap not (alike root)) gone ∙ none_left (λ (a b : RootAt). key_same a.key b.key) (λ a. same_itself a.key) gone in
     let all : filter stays some ≡ some =
     all_pass stays some
     (each_map (λ x. has_named gone x ≡ false) (λ x. stays x ≡ true) some
@@ -229,7 +224,7 @@ module _ (old new : Walked) (gone came : List Live) (went arrived : List Located
   stays : IsPermutation left rest
   stays =
       left_of (map root_at olds) (roots_among (items_in gone old.seen)) rest (roots_among went)
-      (λ i j d p q. apart_below (slice_index_or (map root_at olds) i d).key (slice_index_or (map root_at olds) j d).key (before.ascend i j d p q))
+      (λ i j d p q. apart_first (slice_index_or (map root_at olds) i d).key (slice_index_or (map root_at olds) j d).key (before.ascend i j d p q))
       (parted old gone same.same olds before.are same.old) (filter_map_permuted root_of (items_in gone old.seen) went goes)
 
   pub whole_is : IsPermutation (roots_left (map root_at olds) went arrived) (map root_at news)

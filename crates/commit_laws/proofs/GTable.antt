@@ -6,6 +6,9 @@ use Rattle.std.specs.Prelude.{Option, Some, None, Ok}
 use Rattle.std.specs.List.{AllByRecursion, filter, fold, list_any}
 use Rattle.std.specs.Ordering.{nat_cmp}
 use Rattle.std.specs.FinMap.{FinMap}
+use Rattle.commit_laws.proofs.Alike.{shared_is}
+use Rattle.live_index.proofs.PlaceLaws.{same_name}
+use Rattle.shared_trees.proofs.Shifting.{alike_some}
 use Rattle.verdict.proofs.Lists.{all_map as each_map}
 use Rattle.verdict.specs.OnDisk.{key_same}
 use Rattle.write_cache.specs.Cache.{overlaid}
@@ -21,13 +24,12 @@ use Rattle.shared_trees.specs.SharedLaw.{touches_old}
 use Rattle.shared_trees.specs.ShiftedLaw.{is_shifted}
 use Rattle.shared_trees.proofs.Images.{stored_alike}
 use Rattle.shared_trees.proofs.KeptImage.{nodesize_same}
-use Rattle.shared_trees.proofs.Ordering.{same_key}
 use Rattle.shared_trees.proofs.Picking.{each_both, is_there, one_of, table_some}
 use Rattle.touched_blocks.specs.Touched.{stays_in_place, written_in}
 use Rattle.tree_change.specs.Change.{IsChange}
 use Rattle.tree_change.specs.declared.change.Change.{Change}
 use Rattle.tree_change.proofs.Unordered.{all_filter}
-use Rattle.commit_laws.proofs.GHot.{IsShared, alike_place, shared_is}
+use Rattle.commit_laws.proofs.GHot.{IsShared, alike_place}
 use Rattle.commit_laws.proofs.GWhole.{IsLive, all_permuted, none_filter, none_passes, same_pair, some_filter, still_none, whole_lives}
 
 -- a table without the pair that stands where one does
@@ -131,22 +133,6 @@ module _ (tree address : ℕ) where
           let pick = one_of (IsLive table stored) there lives all some in
           elim (never (table tree address) pick.0 is (entry_there table pick.0 pick.1.entry pick.2)) [ ]
 
--- a pair of which a walk without a touched block is alike stands among the pairs
-alike_some : (touched : ℕ → Bool) (live : Live) (seen : List Seen) → stands_untouched touched seen live ≡ true
-    → list_any (λ one. are_alike one live) (live_in seen) ≡ true
-unfolding stands_untouched live_in
-alike_some touched live [] is = absurd (cc)
-alike_some touched live (BlockSeen block ∷ behind) is =
-    by (are_alike (live_of block behind) live) (not (at_or_below touched block behind)) (stands_untouched touched behind live) is
-    (alike_some touched live behind)
-  where
-    by : (a f s : Bool) → ((a && f) || s) ≡ true → (s ≡ true → list_any (λ one. are_alike one live) (live_in behind) ≡ true)
-        → (a || list_any (λ one. are_alike one live) (live_in behind)) ≡ true
-    by true f s is rest = refl
-    by false f s is rest = rest is
-alike_some touched live (PointerSeen one ∷ behind) is = alike_some touched live behind is
-alike_some touched live (ItemSeen one ∷ behind) is = alike_some touched live behind is
-
 -- a shared pair that is not shifted was the same
 not_shifted : (a b : Live) → are_alike a b ≡ true → (are_alike a b && not (a.parent == b.parent && key_same a.last b.last)) ≡ false
     → a.owner ≡ b.owner → a ≡ b
@@ -164,8 +150,8 @@ not_shifted a b alike shifted owner =
       address = place.1;
       level = eqb-true a.level b.level two.0;
       generation = eqb-true a.generation b.generation three.0;
-      first = same_key a.first b.first three.1;
-      last = same_key a.last b.last four.1;
+      first = same_name a.first b.first three.1;
+      last = same_name a.last b.last four.1;
       parent = eqb-true a.parent b.parent four.0;
       owner = owner;
     })

@@ -63,15 +63,15 @@ full_of : (image : List ℕ) (held : Contents) → contents image ≡ Ok held
 unfolding checked_with
 full_of image held holds = rw holds refl
 
-no_fault : (generation other : ℕ) (fault : Option Finding) → told generation fault ≡ Accept other → fault ≡ None
+pub no_fault : (generation other : ℕ) (fault : Option Finding) → told generation fault ≡ Accept other → fault ≡ None
 no_fault generation other None is = refl
 no_fault generation other (Some finding) is = absurd (cc)
 
-none_least : (o : Option Account) → option_map broken_finding o ≡ None → o ≡ None
+pub none_least : (o : Option Account) → option_map broken_finding o ≡ None → o ≡ None
 none_least None is = refl
 none_least (Some account) is = absurd (cc)
 
-none_broken : (postings : List Posting) → option_map broken_finding (least_broken postings) ≡ None → (account : Account) → is_broken_by postings account ≡ false
+pub none_broken : (postings : List Posting) → option_map broken_finding (least_broken postings) ≡ None → (account : Account) → is_broken_by postings account ≡ false
 none_broken postings is account =
     (subst (λ (o : Option Account). IsLeastBroken (is_broken_by postings) o) (none_least (least_broken postings) is) (least_is_least postings)) account
 
@@ -117,7 +117,7 @@ posts_block : (tree x m : ℕ) → Among (to (extent_form x METADATA_ITEM m) 1 1
 unfolding extent_postings
 posts_block tree x m = inr (inl refl)
 
-posts_range : (tree : ℕ) (range : FileExtent) → has_extent range ≡ true
+pub posts_range : (tree : ℕ) (range : FileExtent) → has_extent range ≡ true
     → Among (to (extent_form range.extent EXTENT_ITEM range.extent_length) 1 1) (extent_postings tree (FileExtentPart range))
 unfolding extent_postings
 posts_range tree range is = rw is (inr (inl refl))

@@ -4,16 +4,13 @@ use Rattle.std.specs.List.{AllPairs, Contains}
 use Rattle.std.proofs.lemmas.List.Elements.{Contains-append_cases, Contains-get_or, Contains-push_cases}
 use Rattle.records.specs.declared.owned.ItemAt.{ItemAt}
 use Rattle.change_records.specs.Changes.{Ascend, HaveOneKey, is_before}
-use Rattle.change_records.proofs.Merge.{contains_first, contains_more, contains_none}
+use Rattle.change_records.proofs.Merge.{contains_first, contains_more, contains_none, only_one}
 use Rattle.change_records.proofs.Order.{before_apart, before_irrefl, before_trans, like_right, one_key_back}
 
 -- ---- what is among a list
 
-only : {X : Type 0} (x y : X) → Contains (x ∷ []) y → x ≡ y
-only x y is = elim (Contains-push_cases [] x y is) [ inl never ↦ absurd (contains_none y never) | inr same ↦ same ]
-
 pub contains_cases : {X : Type 0} (x : X) (xs : List X) (y : X) → Contains (x ∷ xs) y → (x ≡ y) ⊎ Contains xs y
-contains_cases x xs y is = elim (Contains-append_cases (x ∷ []) xs y is) [ inl first ↦ inl (only x y first) | inr later ↦ inr later ]
+contains_cases x xs y is = elim (Contains-append_cases (x ∷ []) xs y is) [ inl first ↦ inl (only_one x y first) | inr later ↦ inr later ]
 
 -- ---- what holds of any two of a list, in their order
 

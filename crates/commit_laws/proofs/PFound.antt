@@ -175,7 +175,7 @@ module _ (Fits : Located → Type 0) where
 
 -- ---- what the names of affected items say of kept items
 
-all_of : {X : Type 0} (P : X → Type 0) (xs : List X) → ((x : X) → Contains xs x → P x) → All P xs
+pub all_of : {X : Type 0} (P : X → Type 0) (xs : List X) → ((x : X) → Contains xs x → P x) → All P xs
 all_of P xs each k d small = each (get_or xs k d) (Contains-get_or xs k d small)
 
 module _ (pairs : Pairs) (old new : Context) (named : ItemRef → Bool) (items : List Located) (refs : List ItemRef) (nodesize : ℕ)

@@ -4,6 +4,8 @@ use Rattle.std.specs.Prelude.{slice_get, Option, Some, None}
 use Rattle.std.specs.List.{Contains, list_any}
 use Rattle.std.proofs.lemmas.Bool.{and_from, and_parts, eq-eqb, eqb-true, or_cases, or_left, or_right}
 use Rattle.std.proofs.lemmas.Option.{get_or_from_slice_get, same_Some, slice_get-get_or, slice_get_within}
+use Rattle.live_index.proofs.PlaceLaws.{same_name}
+use Rattle.shared_trees.proofs.Mixing.{same_itself}
 use Rattle.verdict.specs.OnDisk.{key_same}
 use Rattle.verdict.specs.declared.key.Key.{Key}
 use Rattle.records.specs.Owned.{owned_part}
@@ -41,28 +43,15 @@ any_of p (y ∷ ys) x has is = elim (contains_cases y ys x has) [
 abbrev pub its_name : ItemAt → ItemRef
 its_name one = ref_to one.tree one.key
 
-key_of_same : (a b : Key) → key_same a b ≡ true → a ≡ b
-key_of_same a b is =
-    let first = and_parts _ _ is in
-    let rest = and_parts _ _ first.1 in
-    let e1 : a.objectid ≡ b.objectid = eqb-true _ _ first.0 in
-    let e2 : a.kind ≡ b.kind = eqb-true _ _ rest.0 in
-    let e3 : a.offset ≡ b.offset = eqb-true _ _ rest.1 in
-    λ i. record { objectid = e1 i; kind = e2 i; offset = e3 i }
-
-key_same_itself : (a : Key) → key_same a a ≡ true
-key_same_itself a =
-    and_from _ _ (eq-eqb a.objectid a.objectid refl) (and_from _ _ (eq-eqb a.kind a.kind refl) (eq-eqb a.offset a.offset refl))
-
 -- an item stands under a name: it has that name
 stands_from : (x : ItemAt) (o : Option ItemAt) → stands_at (its_name x) o ≡ true → (one : ItemAt) × (o ≡ Some one) × HaveOneKey one x
 stands_from x None is = absurd (cc)
 stands_from x (Some one) is =
     let both = and_parts _ _ is in
-    (one, refl, (eqb-true one.tree x.tree both.0, key_of_same one.key x.key both.1))
+    (one, refl, (eqb-true one.tree x.tree both.0, same_name one.key x.key both.1))
 
 pub stands_itself : (x : ItemAt) (o : Option ItemAt) → o ≡ Some x → stands_at (its_name x) o ≡ true
-stands_itself x o is = subst (λ p. stands_at (its_name x) p ≡ true) (sym is) (and_from _ _ (eq-eqb x.tree x.tree refl) (key_same_itself x.key))
+stands_itself x o is = subst (λ p. stands_at (its_name x) p ≡ true) (sym is) (and_from _ _ (eq-eqb x.tree x.tree refl) (same_itself x.key))
 
 pub one_name : (x y : ItemAt) → HaveOneKey x y → its_name x ≡ its_name y
 one_name x y same = let e1 = same.0 in let e2 = same.1 in λ i. record { tree = e1 i; key = e2 i }
@@ -93,7 +82,7 @@ has_or_none xs x = by (list_any (λ y. stands_at (its_name x) (Some y)) xs) refl
     by true is =
         let found = any_from (λ y. stands_at (its_name x) (Some y)) xs is in
         let both = and_parts _ _ found.2 in
-        inl (found.0, found.1, (eqb-true (found.0).tree x.tree both.0, key_of_same (found.0).key x.key both.1))
+        inl (found.0, found.1, (eqb-true (found.0).tree x.tree both.0, same_name (found.0).key x.key both.1))
     by false is = inr (λ k y at same.
         let here : stands_at (its_name x) (Some y) ≡ true = subst (λ n. stands_at n (Some y) ≡ true) (sym (one_name x y same)) (stands_itself y (Some y) refl) in
         let yes = any_of (λ z. stands_at (its_name x) (Some z)) xs y (has_at xs k y at) here in

@@ -7,13 +7,7 @@ use Rattle.std.proofs.lemmas.List.Sorted.{IsPermutation-keeps, IsPermutation-ref
 use Rattle.std.specs.Prelude.{Option, Some, None}
 use Rattle.std.specs.List.{filter, filter_map, flat_map, swap}
 use Rattle.std.specs.List.Sorted.{IsPermutation, SwapsInRange, apply_swaps}
-
--- the first of two parts and the second change places before a third
-pub swap_first : {Z : Type 0} (p q r : List Z) → IsPermutation (p ++ (q ++ r)) (q ++ (p ++ r))
-swap_first p q r =
-    subst (λ left. IsPermutation left (q ++ (p ++ r))) (append_assoc p q r)
-    (subst (λ right. IsPermutation ((p ++ q) ++ r) right) (append_assoc q p r)
-    (IsPermutation-append_left r (p ++ q) (q ++ p) (IsPermutation-append_comm p q)))
+use Rattle.commit_laws.proofs.Elements.{swap_first}
 
 -- two elements of a list change places, where a third is read past its end
 abbrev exchanged : {X : Type 0} → X → List X → ℕ → ℕ → List X

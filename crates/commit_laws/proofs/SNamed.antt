@@ -7,6 +7,8 @@ use Rattle.std.specs.Prelude.{Option, Some, None, slice_get}
 use Rattle.std.specs.List.{AllPairs, Contains, list_any}
 use Rattle.std.specs.List.Sorted.{IsPermutation}
 use Rattle.std.proofs.lemmas.List.Sorted.{Contains-permutation, IsPermutation-sym}
+use Rattle.commit_laws.proofs.PFound.{apart_turns}
+use Rattle.live_index.proofs.PlaceLaws.{same_name}
 use Rattle.verdict.proofs.Truth.{and_parts}
 use Rattle.verdict.specs.OnDisk.{key_same}
 use Rattle.records.specs.Part.{Located}
@@ -16,7 +18,6 @@ use Rattle.change_records.specs.Spans.{StandApart}
 use Rattle.change_records.specs.declared.changes.ItemChange.{ItemChange}
 use Rattle.change_records.specs.declared.changes.ItemChange.TheVariants.{Added, Altered, Removed}
 use Rattle.change_records.specs.declared.item_ref.ItemRef.{ItemRef}
-use Rattle.shared_trees.proofs.Ordering.{same_key}
 use Rattle.tree_change.specs.Gathered.{located_item}
 use Rattle.tree_change.proofs.Unordered.{permuted_pairs}
 use Rattle.commit_laws.specs.Paired.{name_of}
@@ -83,9 +84,6 @@ module _ {X : Type 0} (R : X → X → Type 0) where
       at_default (z ∷ zs) zero d e less = refl
       at_default (z ∷ zs) (suc k) d e less = at_default zs k d e (omega arith)
 
-turns : (a b : Located) → StandApart a b → StandApart b a
-turns a b apart tree key = apart (sym tree) (sym key)
-
 -- an item stands under no name of an item that it stands apart from
 apart_from : (x : ItemAt) (one : Located) → StandApart (located_item x) one → stands_at (name_of one) (Some x) ≡ false
 apart_from x one apart = by (x.tree == one.tree && key_same x.key one.key) refl
@@ -93,14 +91,14 @@ apart_from x one apart = by (x.tree == one.tree && key_same x.key one.key) refl
     by : (b : Bool) → (x.tree == one.tree && key_same x.key one.key) ≡ b → b ≡ false
     by true is =
         let both = and_parts (x.tree == one.tree) (key_same x.key one.key) is in
-        elim (apart (eqb-true x.tree one.tree both.0) (same_key x.key one.key both.1)) [ ]
+        elim (apart (eqb-true x.tree one.tree both.0) (same_name x.key one.key both.1)) [ ]
     by false is = refl
 
 -- Where an image's items are those of a list and others, no two under one name, none of the list's stands under the name of another.
 pub none_stands : (all left others : List Located) (items : List ItemAt) → AllPairs StandApart all → IsPermutation all (left ++ others)
     → IsPermutation left (map located_item items) → (one : Located) → Contains others one → NoneStands (name_of one) items
 none_stands all left others items distinct perm are one has k x is =
-    let pairs = permuted_pairs StandApart turns all (left ++ others) perm distinct in
+    let pairs = permuted_pairs StandApart apart_turns all (left ++ others) perm distinct in
     let there : Contains left (located_item x) =
     Contains-permutation (map located_item items) left (located_item x) (IsPermutation-sym left (map located_item items) are)
     (got located_item items k x is) in

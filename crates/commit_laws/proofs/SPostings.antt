@@ -5,6 +5,7 @@ use Rattle.std.proofs.lemmas.List.Elements.{filter-append}
 use Rattle.std.proofs.lemmas.List.Sorted.{IsPermutation-append_left, IsPermutation-append_right, IsPermutation-trans}
 use Rattle.std.specs.List.{AllByRecursion, filter, flat_map}
 use Rattle.std.specs.List.Sorted.{IsPermutation}
+use Rattle.commit_laws.proofs.Elements.{swap_first}
 use Rattle.accounts.specs.Context.{Context}
 use Rattle.accounts.specs.declared.postings.Posting.{Posting}
 use Rattle.records.specs.DirPostings.{dir_postings}
@@ -15,7 +16,7 @@ use Rattle.records.specs.Part.Part.{BlockPart}
 use Rattle.records.specs.Postings.{postings_of}
 use Rattle.records.specs.SpacePostings.{is_to_sector, rest_postings, space_postings}
 use Rattle.records.proofs.SectorSums.{IsToOther, dir_others, extent_others, inode_others}
-use Rattle.commit_laws.proofs.SFlat.{flat_append, flat_parts, flat_permuted, swap_first}
+use Rattle.commit_laws.proofs.SFlat.{flat_append, flat_parts, flat_permuted}
 
 -- what a record posts in any context, and all that it posts but to sectors
 abbrev pub first_posts : Located → List Posting

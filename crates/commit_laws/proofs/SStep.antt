@@ -8,6 +8,8 @@ use Rattle.std.proofs.lemmas.List.Sorted.{IsPermutation-append_comm, IsPermutati
 use Rattle.std.proofs.lemmas.List.Sorted.{IsPermutation-cons, IsPermutation-sym, IsPermutation-trans}
 use Rattle.std.specs.List.{All, AllByRecursion, AllPairs, Contains, filter}
 use Rattle.std.specs.List.Sorted.{IsPermutation}
+use Rattle.commit_laws.proofs.GRoots.{all_pass}
+use Rattle.commit_laws.proofs.GFlags.{ascend_items}
 use Rattle.accounts.specs.Context.{Context}
 use Rattle.live_index.specs.declared.live.Live.{Live}
 use Rattle.records.specs.Contents.{super_record}
@@ -37,26 +39,7 @@ use Rattle.commit_laws.proofs.SNamed.{none_named, none_stands}
 use Rattle.commit_laws.proofs.SPostings.{block_posts}
 use Rattle.commit_laws.proofs.SRecords.{HoldApart, IsBlock, hold_apart, records_changed}
 
--- items that ascend as they stand in images ascend as they are kept
-pub ascend_items : (items : List ItemAt) → AllPairs (λ a b. item_before a b ≡ true) (map located_item items) → Ascend items
-unfolding is_before
-ascend_items items all i j d less within =
-    let long = length-map items located_item in
-    subst (λ one. item_before one (located_item (slice_index_or items j d)) ≡ true) (at items i d)
-    (subst (λ one. item_before (slice_index_or (map located_item items) i (located_item d)) one ≡ true) (at items j d)
-    (all i j (located_item d) less (omega arith)))
-  where
-    at : (some : List ItemAt) (k : ℕ) (e : ItemAt) → slice_index_or (map located_item some) k (located_item e) ≡ located_item (slice_index_or some k e)
-    at [] k e = refl
-    at (x ∷ some) zero e = refl
-    at (x ∷ some) (suc k) e = at some k e
-
 -- ---- what is kept
-
--- all pass, or none does
-all_pass : {X : Type 0} (test : X → Bool) (xs : List X) → AllByRecursion (λ x. test x ≡ true) xs → filter test xs ≡ xs
-all_pass test [] all = refl
-all_pass test (x ∷ xs) all = rw all.0 (ap (λ ys. x ∷ ys) (all_pass test xs all.1))
 
 none_passes : {X : Type 0} (test : X → Bool) (xs : List X) → AllByRecursion (λ x. test x ≡ false) xs → filter test xs ≡ []
 none_passes test [] all = refl

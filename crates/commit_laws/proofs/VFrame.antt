@@ -152,7 +152,7 @@ module _ (image other : List ℕ) (size : length other ≡ length image) where
           refl,
         )
 
-same_held : (image : List ℕ) (a b : Contents) → contents image ≡ Ok a → contents image ≡ Ok b → a ≡ b
+pub same_held : (image : List ℕ) (a b : Contents) → contents image ≡ Ok a → contents image ≡ Ok b → a ≡ b
 same_held image a b x y = cc
 
 same_check : (image other : List ℕ) → contents other ≡ contents image → full_check other ≡ full_check image

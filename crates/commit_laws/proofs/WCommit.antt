@@ -4,6 +4,7 @@ use Rattle.std.specs.Prelude.{Option, Some, None, Result, Ok, option_map}
 use Rattle.std.specs.Ordering.{nat_cmp}
 use Rattle.std.specs.FinMap.{FinMap}
 use Rattle.std.proofs.Math.Path.{fun_ext}
+use Rattle.commit_laws.proofs.IBlocks.{none_broken, none_least, no_fault}
 use Rattle.verdict.specs.Rules.{and_then, finding_or}
 use Rattle.verdict.specs.declared.finding.Finding.{Finding}
 use Rattle.verdict.specs.declared.finding.Verdict.{Verdict}
@@ -54,23 +55,10 @@ full_of image held fault holds is =
     and_then (finding_or (account_fault (context_of h) h.records) (tt {0})) (λ _. Ok h.sup.generation)))) holds
     ∙ ap (told held.sup.generation) is
 
-pub no_fault : (generation other : ℕ) (fault : Option Finding) → told generation fault ≡ Accept other → fault ≡ None
-no_fault generation other None is = refl
-no_fault generation other (Some finding) is = absurd (cc)
-
 pub same_fault : (image : List ℕ) (whole : Walked) (held : Contents) → HoldsWalked image whole held
     → account_fault (context_of held) held.records ≡ account_fault (context_at whole) (records_of whole)
 same_fault image whole held is =
     λ i. account_fault (record { chunks = is.chunks i; nodesize = (is.sup i).nodesize; sum_free = has_sum_free (is.records i); full = no_full }) (is.records i)
-
-none_least : (o : Option Account) → option_map broken_finding o ≡ None → o ≡ None
-none_least None is = refl
-none_least (Some account) is = absurd (cc)
-
--- where the accounts have no finding no account is broken
-pub none_broken : (postings : List Posting) → option_map broken_finding (least_broken postings) ≡ None → (account : Account) → is_broken_by postings account ≡ false
-none_broken postings is account =
-    (subst (λ (o : Option Account). IsLeastBroken (is_broken_by postings) o) (none_least (least_broken postings) is) (least_is_least postings)) account
 
 -- nor is one by what is posted but to sectors
 none_among : (context : Context) (records : List Located) → ((account : Account) → is_broken_by (all_postings context records) account ≡ false)

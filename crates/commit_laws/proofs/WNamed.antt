@@ -6,6 +6,7 @@ use Rattle.std.specs.List.Sorted.{IsPermutation}
 use Rattle.std.proofs.lemmas.Bool.{eqb-true}
 use Rattle.std.proofs.lemmas.List.Elements.{All-cons, All-contains, All-from_recursion, Contains-append_cases, Contains-append_left, Contains-append_right, filter_map-append, recursion_from_All}
 use Rattle.std.proofs.lemmas.List.Sorted.{Contains-permutation, IsPermutation-sym}
+use Rattle.commit_laws.proofs.PFilters.{made_one}
 use Rattle.verdict.proofs.Answers.{some_is}
 use Rattle.verdict.specs.declared.key.Key.{Key}
 use Rattle.verdict.specs.declared.kinds.TheConstants.{EXTENT_DATA, EXTENT_ITEM}
@@ -44,7 +45,7 @@ use Rattle.commit_laws.specs.Same.{records_of}
 use Rattle.commit_laws.specs.Sectors.{AreInside, AreSound}
 use Rattle.commit_laws.specs.Steps.{spans_of}
 use Rattle.commit_laws.proofs.PAlike.{contains_cases}
-use Rattle.commit_laws.proofs.PFound.{one_alone}
+use Rattle.commit_laws.proofs.PFound.{one_alone, all_of}
 use Rattle.commit_laws.proofs.WSpans.{there}
 
 -- ---- records and items
@@ -100,23 +101,6 @@ map_in {X} {Y} f (y ∷ ys) x has = by (contains_cases y ys x has) (map_in f ys 
 option_in : {Y : Type 0} (o : Option Y) (ys : List Y) (y : Y) → Contains ys y → Contains (cons_option o ys) y
 option_in None ys y has = has
 option_in (Some z) ys y has = contains_more z ys y has
-
-given_in : {X Y : Type 0} (h : X → Option Y) (xs : List X) (x : X) (y : Y) → Contains xs x → h x ≡ Some y → Contains (filter_map h xs) y
-given_in h [] x y has gives = absurd (contains_none x has)
-given_in {X} {Y} h (z ∷ zs) x y has gives = by (contains_cases z zs x has) (λ more. given_in h zs x y more gives)
-  where
-    by : (z ≡ x) ⊎ Contains zs x → (Contains zs x → Contains (filter_map h zs) y) → Contains (cons_option (h z) (filter_map h zs)) y
-    by (inl here) later =
-        let is : h z ≡ Some y = ap h here ∙ gives in
-        subst (λ o. Contains (cons_option o (filter_map h zs)) y) (sym is) (contains_first y (filter_map h zs))
-    by (inr more) later = option_in (h z) (filter_map h zs) y (later more)
-
-pub each_of : {X : Type 0} (P : X → Type 0) (xs : List X) → ((x : X) → Contains xs x → P x) → All P xs
-each_of {X} P xs each = All-from_recursion P xs (by xs each)
-  where
-    by : (ys : List X) → ((x : X) → Contains ys x → P x) → AllByRecursion P ys
-    by [] all = tt
-    by (y ∷ ys) all = (all y (contains_first y ys), by ys (λ x has. all x (contains_more y ys x has)))
 
 -- ---- the names of spans
 
@@ -208,13 +192,13 @@ module _ (pairs : Pairs) (whole : Walked) (refs : List ItemRef) (stand : ItemsSt
             (All-contains (HasOwnName pairs) (items_of whole) one own has).own
             (subst PostsOtherwise same other.3) gives,
         there (spans_of size (records_of whole)) span
-            (subst (λ spans. Contains spans span) (sym (spans_are size whole)) (given_in (span_of size) (items_of whole) one span has gives)),
+            (subst (λ spans. Contains spans span) (sym (spans_are size whole)) (made_one (span_of size) (items_of whole) one span has gives)),
       )
 
   all_named : All (IsSpanNamed pairs size table refs) (records_of whole)
   all_named =
       records_all (IsSpanNamed pairs size table refs) (λ sup span gives. absurd (cc)) (λ block span gives. absurd (cc)) whole
-      (each_of (IsSpanNamed pairs size table refs) (items_of whole) item_named)
+      (all_of (IsSpanNamed pairs size table refs) (items_of whole) item_named)
 
   inside_parts : (runs : List Run) (gone found staying : List Located) → IsPermutation (records_of whole) (gone ++ (found ++ staying))
       → map name_of found ≡ refs

@@ -6,6 +6,7 @@ use Rattle.std.specs.List.Sorted.{IsPermutation}
 use Rattle.std.proofs.Math.Path.{fun_ext}
 use Rattle.std.proofs.lemmas.List.Sorted.{sum_by-IsPermutation}
 use Rattle.std.proofs.lemmas.List.Sums.{sum_by-append, sum_by-cons}
+use Rattle.touched_accounts.proofs.Moved.{total_by, total_permuted}
 use Rattle.accounts.specs.Broken.{is_broken}
 use Rattle.accounts.specs.Context.{Context}
 use Rattle.accounts.specs.Kinds.{sector}
@@ -24,7 +25,7 @@ use Rattle.commit_laws.proofs.PAlike.{contains_cases}
 
 -- ---- how often a span stands in a list
 
-times_cons : (y : Span) (ys : List Span) (x : Span) → times_of_span (y ∷ ys) x ≡ cond (is_same x y) 1 0 + times_of_span ys x
+pub times_cons : (y : Span) (ys : List Span) (x : Span) → times_of_span (y ∷ ys) x ≡ cond (is_same x y) 1 0 + times_of_span ys x
 unfolding times_of_span
 times_cons y ys x = sum_by-cons (λ z. cond (is_same x z) 1 0) y ys
 
@@ -118,15 +119,6 @@ times_moved before after gone came is s =
     moved_by (sum_by once before) (sum_by once after) (sum_by once gone) (sum_by once came) (sum_by once is.same)
     (sym (sum_by-IsPermutation once before (gone ++ is.same) is.old) ∙ sum_by-append once gone is.same)
     (sym (sum_by-IsPermutation once after (came ++ is.same) is.new) ∙ sum_by-append once came is.same)
-
-total_by : (ps : List Posting) (account : Account) (n : ℕ) → total_of ps account n ≡ sum_by (λ (p : Posting). added p account n) ps
-unfolding total_of
-total_by [] account n = refl
-total_by (p ∷ ps) account n = ap (λ k. added p account n + k) (total_by ps account n) ∙ sym (sum_by-cons (λ (q : Posting). added q account n) p ps)
-
-pub total_permuted : (ps qs : List Posting) (account : Account) (n : ℕ) → IsPermutation ps qs → total_of ps account n ≡ total_of qs account n
-total_permuted ps qs account n is =
-    total_by ps account n ∙ sym (sum_by-IsPermutation (λ (p : Posting). added p account n) ps qs is) ∙ sym (total_by qs account n)
 
 pub total_moved : (before after gone came : List Posting) → PostTheSame before after gone came → (account : Account) (field : ℕ)
     → total_of after account field ≡ (total_of before account field - total_of gone account field) + total_of came account field

@@ -5,6 +5,7 @@ use Rattle.std.specs.List.{All, Contains}
 use Rattle.std.specs.Ordering.{nat_cmp}
 use Rattle.std.specs.FinMap.{FinMap}
 use Rattle.std.proofs.Math.Path.{fun_ext}
+use Rattle.commit_laws.proofs.PFound.{all_of as each_of}
 use Rattle.verdict.specs.declared.finding.Verdict.TheVariants.{Accept}
 use Rattle.accounts.specs.Context.{Context, no_full}
 use Rattle.accounts.specs.Sums.{total_of}
@@ -39,7 +40,7 @@ use Rattle.commit_laws.specs.Same.{HeldLaw, records_of}
 use Rattle.commit_laws.specs.Sectors.{RunsLaw, SectorsLaw}
 use Rattle.commit_laws.specs.Steps.{IsStep, PostsLaw, SpansLaw, StepLaw, WholeStepLaw, all_posts, change_records, spans_of}
 use Rattle.commit_laws.specs.Tables.{TableMovedLaw}
-use Rattle.commit_laws.proofs.WNamed.{AreOtherwise, each_of, times_are}
+use Rattle.commit_laws.proofs.WNamed.{AreOtherwise, times_are}
 
 -- the other laws
 pub record Laws : Type 0 where

@@ -8,6 +8,8 @@ use Rattle.std.specs.FinMap.{FinMap}
 use Rattle.std.proofs.lemmas.List.Elements.{All-contains, Contains-append_left}
 use Rattle.std.proofs.lemmas.List.Sorted.{Contains-permutation, IsPermutation-sym, sum_by-IsPermutation}
 use Rattle.std.proofs.lemmas.List.Sums.{sum_by-append}
+use Rattle.commit_laws.proofs.PFound.{all_of as each_of}
+use Rattle.touched_accounts.proofs.Moved.{total_permuted}
 use Rattle.accounts.specs.Sums.{total_of}
 use Rattle.accounts.specs.declared.account.Account.{Account}
 use Rattle.accounts.specs.declared.postings.Posting.{Posting}
@@ -29,8 +31,7 @@ use Rattle.commit_laws.specs.Sectors.{AreSound}
 use Rattle.commit_laws.specs.Sound.{IsSound, SoundLaw}
 use Rattle.commit_laws.specs.Steps.{ShowTheSame, all_posts, spans_of, step_posts}
 use Rattle.commit_laws.proofs.WCommit.{known_same, ok_same}
-use Rattle.commit_laws.proofs.WNamed.{each_of, sound_of}
-use Rattle.commit_laws.proofs.WSpans.{total_permuted}
+use Rattle.commit_laws.proofs.WNamed.{sound_of}
 use Rattle.commit_laws.proofs.WStep.{Between, Laws, Stepped, commit_at, context_at, known_at, new_stand, old_stand, stepped}
 
 -- ---- what is taken away

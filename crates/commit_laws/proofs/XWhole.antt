@@ -5,8 +5,9 @@ use Rattle.std.specs.List.{All}
 use Rattle.std.proofs.lemmas.Nat.{div-add-mod'}
 use Rattle.std.proofs.lemmas.Bool.{and_parts, eqb-true}
 use Rattle.std.proofs.lemmas.List.Elements.{All-contains}
+use Rattle.change_records.proofs.PostingLaws.{one_span}
 use Rattle.change_records.specs.Spans.{AreItemsOf, IsLawfulIn, extent_bytes, extent_span, is_written, shown_span, span_in, sums_span}
-use Rattle.change_records.proofs.ItemLaws.{are_alone, are_lawful, item_of, lawful_of, one_span}
+use Rattle.change_records.proofs.ItemLaws.{are_alone, are_lawful, item_of, lawful_of}
 use Rattle.fs_items.specs.SumsRow.{SumFields}
 use Rattle.fs_items.specs.declared.file_extent.FileExtent.{FileExtent}
 use Rattle.records.specs.Part.{AreSectors, IsLawful, Located, Part}

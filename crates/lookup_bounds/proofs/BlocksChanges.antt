@@ -116,7 +116,7 @@ few_changes pair all false old new changes old_ascend new_ascend says = subst (A
 
 -- ---- only an item has a span
 
-blocks_none : (nodesize : ℕ) (blocks : List Live) (found : List Located)
+pub blocks_none : (nodesize : ℕ) (blocks : List Live) (found : List Located)
     → filter_map (span_of nodesize) (map live_record blocks ++ found) ≡ filter_map (span_of nodesize) found
 blocks_none nodesize [] found = refl
 blocks_none nodesize (live ∷ blocks) found = blocks_none nodesize blocks found

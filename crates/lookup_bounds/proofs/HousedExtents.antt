@@ -3,6 +3,7 @@ use Rattle.std.proofs.Common.{◌≡◌, ℕ, ◌<◌, ◌==◌, ◌||◌, Bool,
 use Rattle.std.proofs.lemmas.Bool.{eqb-true, leb-true, lt-ltb}
 use Rattle.std.specs.Prelude.{◌≤◌, Option, Some, None, nat_le, nat_lt}
 use Rattle.std.specs.List.{filter_map}
+use Rattle.commit_laws.proofs.IBlocks.{posts_range}
 use Rattle.verdict.proofs.Truth.{true_of_not, implied}
 use Rattle.verdict.specs.declared.kinds.TheConstants.{EXTENT_ITEM}
 use Rattle.extent_items.specs.ExtentRow.{ExtentFields}
@@ -92,11 +93,6 @@ extent_at address bytes one (ExtentPart item) at is =
     data_kind : (k : ℕ) → k ≡ EXTENT_ITEM → (k == EXTENT_ITEM) ≡ true
     data_kind k is = rw is refl
 extent_at address bytes one other at is = elim is [ ]
-
-posts_range : (tree : ℕ) (range : FileExtent) → has_extent range ≡ true
-    → Among (to (extent_form range.extent EXTENT_ITEM range.extent_length) 1 1) (extent_postings tree (FileExtentPart range))
-unfolding extent_postings
-posts_range tree range is = rw is (inr (inl refl))
 
 posts_outside : (context : Context) (tree : ℕ) (item : ExtentFields) → home_of context item.key.objectid (extent_length context item) ≡ None
     → Among (to (outside item.key.objectid) 0 1) (space_postings context tree (ExtentPart item))

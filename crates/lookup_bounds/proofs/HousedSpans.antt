@@ -6,6 +6,7 @@ use Rattle.std.proofs.lemmas.List.Elements.{recursion_from_All}
 use Rattle.std.proofs.lemmas.Nat.{div-add-mod', mod_below}
 use Rattle.std.specs.Prelude.{◌≤◌, ◌⊎◌, Option, Some, None, IsSome, option_map}
 use Rattle.std.specs.List.{Contains}
+use Rattle.change_records.proofs.PostingLaws.{one_span}
 use Rattle.verdict.proofs.Truth.{false_of_not, or_right}
 use Rattle.verdict.proofs.Numbers.{not_zero}
 use Rattle.verdict.specs.Chunks.{home}
@@ -31,7 +32,6 @@ use Rattle.change_records.specs.Homes.{StandApart, is_kept}
 use Rattle.change_records.specs.Looks.{IsHoused, LiesInExtent, home_of_span, is_empty_shown, is_gone, is_of_extent, is_reached}
 use Rattle.change_records.specs.Spans.{IsLawfulExtent, IsLawfulIn, IsLawfulRange, extent_bytes, extent_span, is_written, shown_span, span_in}
 use Rattle.change_records.specs.Spans.{span_of, sums_span}
-use Rattle.change_records.proofs.ItemLaws.{one_span}
 use Rattle.change_records.proofs.Merge.{from_one}
 use Rattle.commit_laws.specs.Items.{ItemsStand, items_of}
 use Rattle.commit_laws.specs.Same.{records_of}

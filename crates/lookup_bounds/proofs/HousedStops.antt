@@ -7,6 +7,7 @@ use Rattle.std.specs.Ordering.{is_eq}
 use Rattle.std.proofs.lemmas.Bool.{and_from, and_parts, eq-eqb, eqb-true, or_left, or_right}
 use Rattle.std.proofs.lemmas.List.Elements.{Contains-append_cases}
 use Rattle.std.proofs.lemmas.List.Sums.{count_by-le-length, sum_by-append, sum_by-cons}
+use Rattle.commit_laws.proofs.PFound.{all_of}
 use Rattle.verdict.proofs.Lists.{filter_map_less}
 use Rattle.verdict.proofs.Answers.{some_is}
 use Rattle.accounts.specs.declared.postings.Posting.{Posting}
@@ -18,7 +19,6 @@ use Rattle.change_records.proofs.Merge.{contains_first, contains_more, from_one}
 use Rattle.commit_laws.proofs.Elements.{Among}
 use Rattle.commit_laws.proofs.IBSums.{among_left, among_right}
 use Rattle.commit_laws.proofs.PFilters.{filter_in}
-use Rattle.commit_laws.proofs.WNamed.{each_of}
 use Rattle.lookup_bounds.proofs.HousedPosts.{among_of, any_among, filter_among, flat_among}
 
 -- ---- the first of a list that passes a test
@@ -156,7 +156,7 @@ module _ (spans : List Span) (postings : List Posting) (reached met : Span → B
           (and_from _ _ is (and_from _ _ parts.0 (eq-eqb span.first found.0.first (sym (eqb-true _ _ parts.1))))))
 
   pub stops_stand : HaveStops spans stops
-  stops_stand = each_of (λ (span : Span). list_any (stands_for span) stops ≡ true) spans has_stop
+  stops_stand = all_of (λ (span : Span). list_any (stands_for span) stops ≡ true) spans has_stop
 
   pub stops_few : count_by reached stops ≤ count_by met spans + 2 * length postings
   stops_few =

@@ -7,6 +7,7 @@ use Rattle.std.specs.FinMap.{FinMap}
 use Rattle.std.proofs.Math.Path.{fun_ext}
 use Rattle.std.proofs.lemmas.List.Elements.{All-contains}
 use Rattle.std.proofs.lemmas.List.Sorted.{Contains-permutation, IsPermutation-sym}
+use Rattle.commit_laws.proofs.GFlags.{ascend_items}
 use Rattle.accounts.specs.Context.{Context}
 use Rattle.accounts.specs.declared.postings.Posting.{Posting}
 use Rattle.live_index.specs.declared.live.Live.{Live}
@@ -49,7 +50,6 @@ use Rattle.commit_laws.proofs.IBSums.{among_left, among_right}
 use Rattle.commit_laws.proofs.PFilters.{filter_in}
 use Rattle.commit_laws.proofs.PFound.{one_alone}
 use Rattle.commit_laws.proofs.SRecords.{HoldApart, hold_apart}
-use Rattle.commit_laws.proofs.SStep.{ascend_items}
 use Rattle.commit_laws.proofs.WCommit.{ok_same}
 use Rattle.commit_laws.proofs.WNamed.{times_are}
 use Rattle.lookup_bounds.specs.Named.{AreSectorsNamed, NamedLaw, is_named_sector}

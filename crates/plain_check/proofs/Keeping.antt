@@ -15,7 +15,7 @@ use Rattle.plain_check.specs.Kept.{kept_seen, with_kept}
 use Rattle.plain_check.specs.declared.kept.KeptRecord.{KeptRecord}
 
 -- each makes its own
-both_fold : {A B : Type 0} (first : A → Seen → A) (second : B → Seen → B) (a : A) (b : B) (records : List Seen)
+pub both_fold : {A B : Type 0} (first : A → Seen → A) (second : B → Seen → B) (a : A) (b : B) (records : List Seen)
     → fold (with_both first second) (a, b) records ≡ (fold first a records, fold second b records)
 both_fold first second a b [] = refl
 both_fold first second a b (one ∷ records) = both_fold first second (first a one) (second b one) records

@@ -16,7 +16,7 @@ use Rattle.shared_trees.specs.ArrayMoves.{ArrayApartLaw, LieApartOrSame}
 use Rattle.shared_trees.proofs.ArrayPlaces.{array_is}
 use Rattle.shared_trees.proofs.ArrayTree.{array_has}
 use Rattle.shared_trees.proofs.Picking.{one_of}
-use Rattle.shared_trees.proofs.Premises.{chunks_apart}
+use Rattle.shared_trees.proofs.Premises.{chunks_apart, flip}
 use Rattle.shared_trees.proofs.Treed.{map_kept, steps_of}
 
 -- two chunks hold the same addresses at the same places
@@ -69,10 +69,6 @@ are_same c d x a b =
 apart_as : (c d x y : Chunk) → Agree c x → Agree d y → LieApart x y → LieApart c d
 apart_as c d x y a b (inl before) = inl (rw (a.start, a.length_is, b.start) before)
 apart_as c d x y a b (inr behind) = inr (rw (b.start, b.length_is, a.start) behind)
-
-flip : (c d : Chunk) → LieApart c d → LieApart d c
-flip c d (inl is) = inr is
-flip c d (inr is) = inl is
 
 two : (c d : Chunk) (chunks : List Chunk) → AreApart chunks → list_any (same_chunk c) chunks ≡ true → list_any (same_chunk d) chunks ≡ true
     → LieApartOrSame c d

@@ -5,6 +5,7 @@ use Rattle.std.proofs.lemmas.Bool.Decides.{nat_tests}
 use Rattle.std.proofs.lemmas.Grind.{common_steps}
 use Rattle.std.specs.Prelude.{Option, Some, None, Ok, is_none, is_some}
 use Rattle.std.specs.List.{AllByRecursion, list_any}
+use Rattle.shared_trees.proofs.Mixing.{same_itself}
 use Rattle.verdict.proofs.Lists.{all_map as each_map}
 use Rattle.verdict.proofs.Numbers.{same_there}
 use Rattle.verdict.proofs.Truth.{and_parts, or_right}
@@ -157,7 +158,7 @@ module _ (sup : Super) (touched : ℕ → Bool) (marked : Marks) (pairs : Pairs)
       ∙ (ap (λ b. (comes_there sup live.tree live.address tree && f) || b) (fresh_trees live trees all.1)
       ∙ share (comes_there sup live.tree live.address tree) (list_any (comes_there sup live.tree live.address) trees) f)
 
-alike_itself : (live : Live) → are_alike live live ≡ true
+pub alike_itself : (live : Live) → are_alike live live ≡ true
 alike_itself live = grind (arith, common_steps, nat_tests)
 
 -- and is alike to one
@@ -214,9 +215,6 @@ turn a b c d x = by (a == b) (b == a) (c == d) (d == c) (swap a b) (swap c d)
     by true false r s pq rs = absurd (cc)
     by false true r s pq rs = absurd (cc)
 
-key_itself : (key : Key) → key_same key key ≡ true
-key_itself key = grind (arith, common_steps, nat_tests)
-
 only_if : (a f : Bool) → (a ≡ true → f ≡ true) → (a && f) ≡ (a && true)
 only_if true f same = same refl
 only_if false f same = refl
@@ -228,7 +226,7 @@ alike_there a b tree address first =
     let both : (a.tree == b.tree && a.address == b.address) ≡ true =
     rw (same_there a.tree b.tree tree, same_there a.address b.address address) refl in
     ap (λ x. x && (a.level == b.level && (a.generation == b.generation && key_same a.first b.first))) both
-    ∙ (ap (λ x. a.level == b.level && (a.generation == b.generation && x)) (ap (key_same a.first) (sym first) ∙ key_itself a.first)
+    ∙ (ap (λ x. a.level == b.level && (a.generation == b.generation && x)) (ap (key_same a.first) (sym first) ∙ same_itself a.first)
     ∙ turn a.level b.level a.generation b.generation true)
 
 module _ (stays touched : ℕ → Bool) (old new : Walked) (pairs : Pairs) (marked : Marks) (under : Under) (stored : Stored) (root : Expect) where

@@ -3,6 +3,7 @@ use Rattle.std.proofs.Common.{◌≡◌, ℕ, zero, suc, ◌-◌, ◌==◌, Bool
 use Rattle.std.proofs.lemmas.Bool.Decides.{nat_tests}
 use Rattle.std.proofs.lemmas.Grind.{common_steps}
 use Rattle.std.specs.Prelude.{Option, Some, None, Ok, Err}
+use Rattle.touched_blocks.proofs.Among.{some_same}
 use Rattle.verdict.proofs.Lists.{append_none}
 use Rattle.verdict.proofs.Truth.{and_parts}
 use Rattle.verdict.specs.OnDisk.{key_below, key_same}
@@ -143,9 +144,6 @@ node_own sup e bytes entries node is =
     let here : Ok (pointer_records e (pointers_of bytes)) ≡ entry_records sup e bytes = rw node refl in
     let same : pointer_records e (pointers_of bytes) ≡ entries = ok_same (pointer_records e (pointers_of bytes)) entries (here ∙ is) in
     subst (λ es. item_keys (es ++ []) ≡ []) same (node_keys e (pointers_of bytes))
-
-some_live : (a b : Live) → Some a ≡ Some b → a ≡ b
-some_live a b is = cc
 
 module _ (pairs : Pairs) (marked : Marks) (moved : ℕ → Bool) (under : Under) (sup : Super) (old new : Stored) (moving : Marks) where
   abbrev pub A : Expect → Type 0
@@ -311,7 +309,7 @@ lasts pairs marked moving touched moved under sup old new root now last one stan
     ∙ (ap (under v.tree) w.same.block.address ∙ (here.lists ∙ ap (starts_at v.level (moving v.tree)) a.is)) in
     let was_entry : pairs now.tree now.address ≡ Some (live_at sup old v) =
     ap (λ t. pairs t now.address) w.same.block.tree ∙ (ap (pairs v.tree) w.same.block.address ∙ here.known) in
-    let live : live_at sup old v ≡ one = some_live (live_at sup old v) one (sym was_entry ∙ entry) in
+    let live : live_at sup old v ≡ one = some_same (live_at sup old v) one (sym was_entry ∙ entry) in
     last_block pairs marked moved under sup old new moving v.level now v level refl w.same.block a is w.all more
     ∙ (ap (λ n. last_anew sup new (n - 1) now (starts_at v.level (moving v.tree) (Ok a.bytes)) (last_in (walk_of sup old v))) (sym level)
     ∙ (ap (λ starts. last_anew sup new (now.level - 1) now starts (last_in (walk_of sup old v))) (sym lists)

@@ -123,12 +123,12 @@ low_fits sup stored e a = by e.low (λ is. needs_some (nat_lt (room_of a.bytes e
     by None some same = tt
     by (Some low) some same = (some refl, twice (key_same low (entry_key a.bytes (entry_size e.level) 0)) same)
 
-first_of_each : {A : Type 0} (entry : ℕ → A) (n : ℕ) → (n == 0) ≡ false → (rest : List A) × (each_from entry 0 n ≡ entry 0 ∷ rest)
+pub first_of_each : {A : Type 0} (entry : ℕ → A) (n : ℕ) → (n == 0) ≡ false → (rest : List A) × (each_from entry 0 n ≡ entry 0 ∷ rest)
 unfolding each_from
 first_of_each entry zero is = absurd (cc)
 first_of_each entry (suc n) is = (each_from entry 1 n, refl)
 
-same_sym : (a b : Key) → key_same a b ≡ true → key_same b a ≡ true
+pub same_sym : (a b : Key) → key_same a b ≡ true → key_same b a ≡ true
 same_sym a b same = grind (arith, common_steps)
 
 -- below a bound that is above all items is the first key of a block that has one

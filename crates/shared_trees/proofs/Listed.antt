@@ -13,6 +13,7 @@ use Rattle.touched_blocks.specs.declared.marks.PairPlace.{PairPlace}
 use Rattle.touched_blocks.specs.Marks.{by_pair, is_pair, marked_in, pair_place, with_mark}
 use Rattle.touched_blocks.proofs.MarkLaws.{tied}
 use Rattle.std.specs.BTreeMap as map
+use Rattle.touched_blocks.proofs.Among.{some_same}
 use Rattle.verdict.proofs.Answers.{ok_follows}
 use Rattle.verdict.proofs.Lists.{all_map}
 use Rattle.verdict.proofs.Numbers.{itself}
@@ -120,9 +121,6 @@ put_order start (one ∷ starts) order = by (is_before one start) (is_before sta
         ((later, all_map (λ other. is_before one other ≡ true) (λ other. is_before start other ≡ true) starts (λ other behind. before_trans start one other later behind) order.0), order)
     by false false first later rest = order
 
-some_live : (a b : Live) → Some a ≡ Some b → a ≡ b
-some_live a b is = cc
-
 -- marks and one more
 more_marked : (marked : Marks) (t a tree address : ℕ) → marked tree address ≡ true → with_mark marked t a tree address ≡ true
 more_marked marked t a tree address is = by (is_pair t a tree address)
@@ -214,7 +212,7 @@ module _ (pairs : Pairs) (marked : Marks) (under : Under) (t a : ℕ) where
         where
           other : (live : Live) → t ≡ tree → pairs t a ≡ Some live → live.parent ≡ address → ⊥
           other live in_tree known below =
-              let lives : here.live ≡ live = some_live here.live live (sym here.known ∙ (ap (pairs t) some.0 ∙ known)) in
+              let lives : here.live ≡ live = some_same here.live live (sym here.known ∙ (ap (pairs t) some.0 ∙ known)) in
               let at : parent ≡ address = sym here.parent ∙ (ap (λ (l : Live). l.parent) lives ∙ below) in
               apart (is_pair t parent tree address) (rw (in_tree, at, itself tree, itself address) refl) same
 

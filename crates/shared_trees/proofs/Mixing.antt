@@ -145,13 +145,13 @@ module _ {X : Type 0} (before same : X → X → Bool) (apart : TellsApart befor
   filter_gone a b whole m all = filter_mixed (is_in b) a b whole m (mixed_apart a b whole m all) (itself_all b)
 
 -- keys tell items apart
-apart_first : (a b : Key) → key_below a b ≡ true → key_same a b ≡ false
+pub apart_first : (a b : Key) → key_below a b ≡ true → key_same a b ≡ false
 apart_first a b less = grind (arith, common_steps)
 
 apart_later : (a b : Key) → key_below a b ≡ true → key_same b a ≡ false
 apart_later a b less = grind (arith, common_steps)
 
-same_itself : (k : Key) → key_same k k ≡ true
+pub same_itself : (k : Key) → key_same k k ≡ true
 same_itself k = grind (arith, common_steps)
 
 pub by_key : {X : Type 0} (key : X → Key) → TellsApart (λ a b. key_below (key a) (key b)) (λ a b. key_same (key a) (key b))

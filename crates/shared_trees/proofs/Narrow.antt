@@ -6,6 +6,7 @@ use Rattle.std.proofs.lemmas.List.Elements.{All-drop, All-take}
 use Rattle.std.specs.Prelude.{Option, Some, None, Ok, Err, Result, is_some, map, if◌then◌else◌}
 use Rattle.std.specs.List.{All, AllByRecursion, list_any}
 use Rattle.std.specs.Result.{IsOk}
+use Rattle.shared_trees.proofs.Climbing.{ok_same}
 use Rattle.verdict.proofs.Lists.{all_map as each_map}
 use Rattle.verdict.proofs.Numbers.{same_of_not}
 use Rattle.verdict.proofs.Truth.{and_parts}
@@ -68,16 +69,13 @@ range_bytes image at n h = All-take (λ byte. byte < 256) n (drop at image) (All
 abbrev pub copied : List ℕ → Result (List ℕ) CopyFault
 copied bytes = Ok bytes
 
-copied_same : (p q : List ℕ) → copied p ≡ copied q → p ≡ q
-copied_same p q is = cc
-
 place_bytes : (image : List ℕ) (n : ℕ) (at : Place) (bytes : List ℕ) → IsBytes image → bytes_at n image at ≡ Ok bytes → IsBytes bytes
 place_bytes image n Nowhere bytes h is = absurd (cc)
-place_bytes image n (One first) bytes h is = subst IsBytes (copied_same (range first n image) bytes is) (range_bytes image first n h)
+place_bytes image n (One first) bytes h is = subst IsBytes (ok_same (range first n image) bytes is) (range_bytes image first n h)
 place_bytes image n (Two first second) bytes h is = by (least_difference (range first n image) (range second n image)) is
   where
     by : (found : Option ℕ) → alike (range first n image) found ≡ Ok bytes → IsBytes bytes
-    by None is = subst IsBytes (copied_same (range first n image) bytes is) (range_bytes image first n h)
+    by None is = subst IsBytes (ok_same (range first n image) bytes is) (range_bytes image first n h)
     by (Some place) is = absurd (cc)
 
 stored_bytes : (image : List ℕ) (chunks : List Chunk) (n : ℕ) → IsBytes image → AreBytes (stored_in image chunks n)

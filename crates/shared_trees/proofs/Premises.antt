@@ -28,7 +28,7 @@ use Rattle.shared_trees.proofs.MarkedTrees.{marks_image, moves_image}
 use Rattle.shared_trees.proofs.Picking.{each_both}
 use Rattle.shared_trees.proofs.Treed.{map_kept, steps_of, trees_walk}
 
-flip : (c d : Chunk) → LieApart c d → LieApart d c
+pub flip : (c d : Chunk) → LieApart c d → LieApart d c
 flip c d (inl is) = inr is
 flip c d (inr is) = inl is
 

@@ -4,6 +4,7 @@ use Rattle.std.proofs.lemmas.Bool.{eqb-true}
 use Rattle.std.proofs.lemmas.List.Folds.{list_any-append}
 use Rattle.std.specs.Prelude.{Option, Some, None, Result, Ok, Err, map}
 use Rattle.std.specs.List.{AllByRecursion, fold, list_any}
+use Rattle.walk_laws.proofs.Trees.{step_ok}
 use Rattle.verdict.proofs.Truth.{neither}
 use Rattle.verdict.specs.Rules.{and_then, finding_or, first_failing, or_found}
 use Rattle.verdict.specs.declared.finding.Finding.{Finding}
@@ -40,10 +41,6 @@ use Rattle.shared_trees.specs.TableLaw.{AreApart, TableLaw, Tree, is_other, tree
 use Rattle.shared_trees.proofs.Forest.{of_root, tables_stand, walks}
 use Rattle.shared_trees.proofs.Lives.{ok_same}
 use Rattle.shared_trees.proofs.Trails.{Matches, Tells, Trail, Visit, all_own, tells, trail_of}
-
-pub step_ok : {A B : Type 0} (step : Result A Finding) (next : A → Result B Finding) (value : B) → and_then step next ≡ Ok value → (a : A) × (step ≡ Ok a) × (next a ≡ Ok value)
-step_ok (Err finding) next value is = absurd (cc)
-step_ok (Ok a) next value is = (a, refl, is)
 
 -- a root item has an id that one may have, with some set of features
 abbrev pub HasRootId : RootItem → Type 0

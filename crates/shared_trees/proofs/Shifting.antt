@@ -41,7 +41,7 @@ abbrev pub differ : Live → Live → Bool
 differ one live = not (one.parent == live.parent && key_same one.last live.last)
 
 -- a pair of which a walk without a touched block is alike stands among the pairs
-alike_some : (touched : ℕ → Bool) (live : Live) (seen : List Seen) → stands_untouched touched seen live ≡ true
+pub alike_some : (touched : ℕ → Bool) (live : Live) (seen : List Seen) → stands_untouched touched seen live ≡ true
     → list_any (λ one. are_alike one live) (live_in seen) ≡ true
 unfolding stands_untouched live_in
 alike_some touched live [] is = absurd (cc)

@@ -4,6 +4,7 @@ use Rattle.std.proofs.Common.{◌≡◌, ℕ, zero, suc, Bool, true, false, not,
 use Rattle.std.proofs.lemmas.List.Folds.{list_any-append}
 use Rattle.std.specs.Prelude.{Ok, Err}
 use Rattle.std.specs.List.{list_any}
+use Rattle.walk_laws.proofs.Trees.{step_ok}
 use Rattle.verdict.proofs.Truth.{or_assoc}
 use Rattle.verdict.proofs.Lists.{append_append}
 use Rattle.super_reader.specs.declared.Super.{Super}
@@ -25,7 +26,6 @@ use Rattle.shared_trees.specs.TableLaw.{AreApart, Tree}
 use Rattle.shared_trees.proofs.Accepted.{Accepts, accepts, visit_of, walk_accepted}
 use Rattle.shared_trees.proofs.Forest.{others_after, stops_none, then_ok, walks}
 use Rattle.shared_trees.proofs.Lives.{Inside, NoBlocks, Placed, PlacedAll, Stops, Under, entries_none, inside_append, inside_none, live_is, ok_same, placed, placed_append, placed_none, records_until, stops_less, under_placed, walk_told}
-use Rattle.shared_trees.proofs.Rooted.{step_ok}
 use Rattle.shared_trees.proofs.Tables.{Any, any_each}
 use Rattle.shared_trees.proofs.Trails.{Matches, Tells, Trail, Visit, after, all_own, all_own_append, tells, then_trail, trail_and, trail_below, trail_of, trails}
 use Rattle.shared_trees.proofs.Visiting.{Visits, visits_from, visits_then_first, visits_then_later}

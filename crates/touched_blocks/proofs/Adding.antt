@@ -8,6 +8,7 @@ use Rattle.std.proofs.lemmas.Bool.Decides.{nat_tests}
 use Rattle.std.proofs.lemmas.List.Folds.{list_any-append, list_any_at, list_any_more}
 use Rattle.std.proofs.lemmas.List.Sorted.{length_permutation, list_any-IsPermutation}
 use Rattle.std.proofs.lemmas.List.Sums.{sum_by_more}
+use Rattle.touched_blocks.proofs.Joining.{has_in}
 use Rattle.verdict.proofs.Truth.{and_left, and_right, and_true, or_cases, or_left, or_right}
 use Rattle.verdict.specs.Chunks.{home, holds_range, place_in, place_of_copies}
 use Rattle.verdict.specs.declared.place.Chunk.{Chunk}
@@ -113,9 +114,6 @@ common at m from n h = elim (cases_lt at from) [
     two : at < from + n
     two = grind (arith, nat_tests)
 
-has_at : (o : ℕ) (spot : Spot) → spot.at ≤ o → o < spot.at + spot.len → has_offset o spot ≡ true
-has_at o spot low high = grind (arith, nat_tests)
-
 in_chunks_copy : (chunk : Chunk) (copy a n o : ℕ) → holds_range chunk a n ≡ true → o < copy + (a - chunk.start) + n → o < copy + chunk.length
 in_chunks_copy chunk copy a n o holds high = grind (arith, nat_tests)
 
@@ -172,7 +170,7 @@ spot_touches pending spot chunk copy range of written low high meets a within pl
     (copy_touched (written_in pending.cache.now) chunk.first chunk.second (a - chunk.start) pending.nodesize pending.end copy of.1
     (subst (λ o. has_place (place_in o a pending.nodesize pending.end) ≡ true) is placed)
     (one_written (written_in pending.cache.now) (copy + (a - chunk.start)) pending.nodesize at.0 at.3 at.4
-    (written at.0 (omega (arith, at.3)) (in_chunks_copy chunk copy a pending.nodesize at.0 holds at.4) (has_at at.0 spot at.1 at.2))))
+    (written at.0 (omega (arith, at.3)) (in_chunks_copy chunk copy a pending.nodesize at.0 holds at.4) (has_in at.0 spot at.1 at.2))))
   where
     above : range.from ≤ a
     above = grind (arith, nat_tests)

@@ -21,7 +21,7 @@ use Rattle.touched_blocks.specs.Marks.{AreAmong, Marked, by_pair, count_of, in_l
 use Rattle.touched_blocks.specs.OneTree.{chosen, in_chosen, is_chosen}
 use Rattle.touched_blocks.proofs.Choosing.{there_chosen}
 use Rattle.touched_blocks.proofs.MarkLaws.{tied}
-use Rattle.touched_blocks.proofs.Marking.{above_is, same_address, same_tree}
+use Rattle.touched_blocks.proofs.Marking.{above_is, same_address, same_tree, no_up}
 
 -- ---- marks are different places
 
@@ -114,10 +114,7 @@ all_few pairs (live ∷ lives) =
 itself : (t a : ℕ) → is_pair t a t a ≡ true
 itself t a = grind (arith, nat_tests)
 
-no_up : (o : Option Live) (up : Live) → o ≡ None → o ≡ Some up → ⊥
-no_up o up e f = cc
-
-some_same : (one other : Live) → Some one ≡ Some other → one ≡ other
+pub some_same : (one other : Live) → Some one ≡ Some other → one ≡ other
 some_same one other same = cc
 
 climbed_has : (pairs : Pairs) (one : Live) (t to from n : ℕ) (low : Live) → AreLow pairs → ClimbsTo pairs t to from → pairs t from ≡ Some low → 8 ≤ n + low.level

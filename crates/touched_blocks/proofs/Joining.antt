@@ -91,7 +91,7 @@ low_out o from (spot ∷ spots) are low =
 has_first : (spot : Spot) → 0 < spot.len → has_offset spot.at spot ≡ true
 has_first spot some = grind (arith, nat_tests)
 
-has_in : (o : ℕ) (spot : Spot) → spot.at ≤ o → o < spot.at + spot.len → has_offset o spot ≡ true
+pub has_in : (o : ℕ) (spot : Spot) → spot.at ≤ o → o < spot.at + spot.len → has_offset o spot ≡ true
 has_in o spot low high = grind (arith, nat_tests)
 
 has_past : (o : ℕ) (spot : Spot) → spot.at + spot.len ≤ o → has_offset o spot ≡ false

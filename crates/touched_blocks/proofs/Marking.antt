@@ -27,7 +27,7 @@ moved_pair P t a tree address e h = subst (λ x. P tree x) (same_address t a tre
 put_here : (marked : Marked) (t a tree address : ℕ) → is_pair t a tree address ≡ true → with_mark marked t a tree address ≡ true
 put_here marked t a tree address e = ap (λ b. cond b true (marked tree address)) e
 
-put_kept : (marked : Marked) (t a tree address : ℕ) → marked tree address ≡ true → with_mark marked t a tree address ≡ true
+pub put_kept : (marked : Marked) (t a tree address : ℕ) → marked tree address ≡ true → with_mark marked t a tree address ≡ true
 put_kept marked t a tree address e =
     elim (is_pair t a tree address) as (λ b. cond b true (marked tree address) ≡ true) [ true ↦ refl | false ↦ e ]
 
@@ -55,7 +55,7 @@ marked_before pairs live old new same had =
     unmarked pairs (is_pair live.tree live.address) old new same
     (λ t a is some. moved_pair (λ x y. old x y ≡ true) live.tree live.address t a is had)
 
-no_up : (o : Option Live) (up : Live) → o ≡ None → o ≡ Some up → ⊥
+pub no_up : (o : Option Live) (up : Live) → o ≡ None → o ≡ Some up → ⊥
 no_up o up e f = cc
 
 is_there : (o : Option Live) (live : Live) → o ≡ Some live → is_some o ≡ true

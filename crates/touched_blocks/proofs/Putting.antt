@@ -10,7 +10,7 @@ use Rattle.live_index.specs.declared.live.Live.{Live}
 use Rattle.touched_blocks.specs.declared.marks.PairPlace.{PairPlace}
 use Rattle.touched_blocks.specs.Going.{same_pair}
 use Rattle.touched_blocks.specs.Marks.{AreAmong, Marked, in_lives, is_pair, left_of, marked_in, pair_place, with_mark}
-use Rattle.touched_blocks.proofs.Marking.{same_address, same_tree}
+use Rattle.touched_blocks.proofs.Marking.{same_address, same_tree, put_kept}
 use Rattle.touched_blocks.proofs.Ranges.{same_laws, same_symm}
 
 -- one place more
@@ -96,13 +96,6 @@ put_start old places count = record {
     none true = refl
     none false = refl
 
-with_old : (marked : Marked) (u b t a : ℕ) → marked t a ≡ true → with_mark marked u b t a ≡ true
-with_old marked u b t a had = by (is_pair u b t a)
-  where
-    by : (c : Bool) → cond c true (marked t a) ≡ true
-    by true = refl
-    by false = had
-
 with_itself : (marked : Marked) (t a : ℕ) → with_mark marked t a t a ≡ true
 with_itself marked t a = ap (λ b. cond b true (marked t a)) (same_laws.refl (pair_place t a))
 
@@ -130,7 +123,7 @@ new_more : (old mid now : Marked) (t a before count next : ℕ) → ((u b : ℕ)
 new_more old mid now t a before count next put had more are = by (mid t a) refl
   where
     kept : (u b : ℕ) → mid u b ≡ true → now u b ≡ true
-    kept u b is = put u b ∙ with_old mid t a u b is
+    kept u b is = put u b ∙ put_kept mid t a u b is
 
     was_none : (b : Bool) → old t a ≡ b → mid t a ≡ false → old t a ≡ false
     was_none false is none = is

@@ -4,6 +4,7 @@ use Rattle.std.specs.List.{All, Contains, flat_map}
 use Rattle.std.proofs.lemmas.List.{length-map, get_or-map}
 use Rattle.std.proofs.lemmas.Bool.Decides.{nat_tests}
 use Rattle.std.proofs.lemmas.List.Elements.{All-nil, All-cons, All-append, All-weaker, All-contains, All-from_get_or, Contains-append_left, Contains-append_right}
+use Rattle.trace_reader.proofs.Filling.{are_bytes}
 use Rattle.verdict.specs.declared.machine.Event.{Event}
 use Rattle.verdict.specs.declared.machine.Event.TheVariants.{Write}
 use Rattle.verdict.specs.Events.{begin_of, length_of, meets_superblock}
@@ -55,10 +56,6 @@ has_some g few blocks copy a b among m = record {
   placed = All-weaker (IsWriteOf g few copy) (IsWriteOf g blocks copy)
       (λ e w. record { block = w.block; one = among w.block w.one; new = w.new; place = w.place; size = w.size }) m.more m.placed;
 }
-
--- the elements of a list of bytes are bytes
-pub are_bytes : (xs : List ℕ) → ((i : ℕ) → get_or xs i 0 < 256) → IsBytes xs
-are_bytes xs h = All-from_get_or (λ b. b < 256) xs 0 (λ i b. h i)
 
 behind_superblock : (at len : ℕ) → 69632 ≤ at → meets_superblock at len ≡ false
 behind_superblock at len h = grind (arith, nat_tests)

@@ -4,6 +4,7 @@ use Rattle.std.proofs.lemmas.Bool.{eqb-true}
 use Rattle.std.specs.Prelude.{Option, Some, None, IfSome, Result, Ok}
 use Rattle.std.specs.List.{AllByRecursion, list_any}
 use Rattle.std.specs.Result.{IsOk}
+use Rattle.shared_trees.proofs.Meeting.{block_is}
 use Rattle.verdict.proofs.Lists.{all_map as each_map}
 use Rattle.verdict.proofs.Truth.{and_parts, neither}
 use Rattle.verdict.specs.declared.key.Key.{Key}
@@ -19,7 +20,6 @@ use Rattle.shared_trees.specs.Keeping.{AreListed, AreMarked, AreUntouched, IsKno
 use Rattle.shared_trees.specs.LivePairs.{live_in, table_of}
 use Rattle.shared_trees.proofs.Accepted.{accepts}
 use Rattle.shared_trees.proofs.Forest.{of_root, tree_table}
-use Rattle.shared_trees.proofs.OldStops.{block_is}
 use Rattle.shared_trees.proofs.Picking.{each_both}
 use Rattle.shared_trees.proofs.Sharing.{found}
 use Rattle.shared_trees.proofs.Tables.{Any, any_each}

@@ -4,6 +4,7 @@ use Rattle.std.proofs.Common.{◌≡◌, ℕ, ◌-◌, ◌==◌, Bool, true, fal
 use Rattle.std.proofs.lemmas.Bool.{eqb-true}
 use Rattle.std.specs.Prelude.{Option, Some, None, is_some, Result, Ok, map, if◌then◌else◌}
 use Rattle.std.specs.List.{AllByRecursion, cons_option, filter, filter_map, fold}
+use Rattle.touched_blocks.proofs.Among.{some_same}
 use Rattle.verdict.proofs.Numbers.{itself}
 use Rattle.verdict.proofs.Lists.{all_map}
 use Rattle.verdict.specs.OnDisk.{key_same}
@@ -31,7 +32,6 @@ use Rattle.shared_trees.specs.Skips.{Anew, Kept, is_below, nothing, skip_of, unk
 use Rattle.shared_trees.specs.Stops.{stops_of}
 use Rattle.shared_trees.specs.Unshared.{AreOfPairs, pair_seen}
 use Rattle.shared_trees.specs.declared.keeps.Ended.{Ended}
-use Rattle.shared_trees.proofs.Climbing.{some_live}
 use Rattle.shared_trees.proofs.Forest.{tree_table}
 use Rattle.shared_trees.proofs.MeetingStops.{meets, no_walk}
 use Rattle.shared_trees.proofs.OldBlocks.{unshared_are}
@@ -160,7 +160,7 @@ module _ (pairs : Pairs) (kept : Kept) (anew : Anew) (lasts : Lasts) (shared : L
       ∙ last_told sup stored w.address (last_in (walk_of sup stored w)) no_key walked
       (all_map Good (λ x. x.address ≡ w.address → last_in (walk_of sup stored x) ≡ last_in (walk_of sup stored w)) walked
       (λ x g same. ap (λ (live : Live). live.last)
-      (some_live (live_at sup stored x) (live_at sup stored w)
+      (some_same (live_at sup stored x) (live_at sup stored w)
       (sym g.known ∙ (ap (λ t. table t x.address) (g.of ∙ sym good.of) ∙ (ap (table w.tree) same ∙ good.known))))) goods)
       one
 
