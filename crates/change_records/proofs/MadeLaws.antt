@@ -170,14 +170,6 @@ listed_insert m n inodes k free (Err e) there updates same listed = listed_same 
 
 -- ---- each inode is on the list once
 
-pub once_none : (m : map.BTreeMap Inode Bool) (inodes : List Inode) → inodes ≡ [] → AreOnce m inodes 0
-once_none m inodes none =
-    subst (λ l. AreOnce m l 0) (sym none) (record {
-      distinct = λ i j d below small. absurd (omega (arith, small));
-      flagged = λ inode among. absurd (let small = among.1 in omega (arith, small));
-      few = omega arith;
-    })
-
 pub once_same : (m n : map.BTreeMap Inode Bool) (xs ys : List Inode) → n ≡ m → ys ≡ xs → (most : ℕ) → AreOnce m xs most → AreOnce n ys (most + 1)
 once_same m n xs ys same_map same most had =
     subst (λ z. AreOnce z ys (most + 1)) (sym same_map) (subst (λ l. AreOnce m l (most + 1)) (sym same) (record {

@@ -121,14 +121,6 @@ BeginsBy now (Some after) = after.first ≤ now
 abbrev pub IsWalked : SortName → ℕ → ℕ → ℕ → Option Span → Span → Type 0
 IsWalked sort from until now after span = Overlaps sort from until span × (is_ahead now after span ≡ false)
 
-pub walk_none : (k : Known) (table : Table) (sort : SortName) (from until : ℕ) (refs : set.BTreeSet ItemRef)
-    → Searched k table (IsWalked sort from until from None) refs refs
-walk_none k table sort from until refs = record {
-  stay = λ at had. had;
-  hold = λ at had. inl had;
-  all = λ span at stands reached hit. absurd (both_ways _ reached.1 (and_from _ _ (lt-ltb from (end_of span) reached.0.1) refl));
-}
-
 met : (sort : SortName) (now : ℕ) (after : Option Span) (span : Span) → is_sort sort span.sort ≡ true → is_ahead now after span ≡ true
     → is_met sort now after span ≡ true
 unfolding is_met
@@ -220,13 +212,6 @@ walk_behind k table sort from until now after next start old least behind search
 abbrev pub IsRead : ℕ → ℕ → Option ℕ → Span → Type 0
 IsRead tree ino after span = IsShownBy tree ino span × (is_behind after (offset_of span.sort) ≡ false)
 
-pub file_none : (k : Known) (table : Table) (tree ino : ℕ) (refs : set.BTreeSet ItemRef) → Searched k table (IsRead tree ino None) refs refs
-file_none k table tree ino refs = record {
-  stay = λ at had. had;
-  hold = λ at had. inl had;
-  all = λ span at stands reached hit. absurd (both_ways true reached.1 refl);
-}
-
 shows : (tree ino : ℕ) (after : Option ℕ) (sort : SpanSort) → shows_behind tree ino None sort ≡ true → is_behind after (offset_of sort) ≡ true → shows_behind tree ino after sort ≡ true
 shows tree ino after (Owned d) shown behind = absurd (cc)
 shows tree ino after Summed shown behind = absurd (cc)
@@ -265,19 +250,6 @@ file_more k table tree ino after next start old new alone least searched takes =
         let gone : table span ≡ 0 = least.2 span (shows tree ino after span.sort reached.0 behind) (or_left _ _ (lt-ltb _ _ sooner)) in absurd (omega (arith, gone, stands))
     by span at stands reached hit true behind (inr (inr later)) = absurd (both_ways _ reached.1 (lt-ltb _ _ later))
 
-pub file_all : (k : Known) (table : Table) (tree ino : ℕ) (after : Option ℕ) (start old : set.BTreeSet ItemRef) → IsNextShown table tree ino after None
-    → Searched k table (IsRead tree ino after) start old → Searched k table (IsShownBy tree ino) start old
-file_all k table tree ino after start old none searched = record {
-  stay = searched.stay;
-  hold = searched.hold;
-  all = λ span at stands reached hit. by span at stands reached hit (is_behind after (offset_of span.sort)) refl;
-}
-  where
-    by : (span : Span) (at : ItemRef) → 0 < table span → IsShownBy tree ino span → IsHit k span at → (b : Bool) → is_behind after (offset_of span.sort) ≡ b → Has old at
-    by span at stands reached hit false behind = searched.all span at stands (reached, behind) hit
-    by span at stands reached hit true behind =
-        let gone : table span ≡ 0 = none span (shows tree ino after span.sort reached behind) in absurd (omega (arith, gone, stands))
-
 -- ---- searches one after the other
 
 pub searched_less : (k : Known) (table : Table) (P Q : Span → Type 0) (old new : set.BTreeSet ItemRef) → ((span : Span) → Q span → P span) → Searched k table P old new
@@ -297,13 +269,6 @@ searched_both k table P Q R old mid new parts first second = record {
     | inl one ↦ second.stay at (first.all span at stands one hit)
     | inr other ↦ second.all span at stands other hit
   ];
-}
-
-pub searched_none : (k : Known) (table : Table) (P : Span → Type 0) (old : set.BTreeSet ItemRef) → ((span : Span) → P span → ⊥) → Searched k table P old old
-searched_none k table P old none = record {
-  stay = λ at had. had;
-  hold = λ at had. inl had;
-  all = λ span at stands reached hit. absurd (none span reached);
 }
 
 pub chunk_parts : (chunk : Chunk) (until : ℕ) (span : Span) → until ≡ min (chunk.start + chunk.length) (2 ^ 64 - 1) → MeetsChunk chunk span
@@ -340,9 +305,6 @@ chunk_kept_more chunks searched i d span within kept m = elim (cases_lt m.at i) 
   | inr late ↦ absurd (both_ways _ kept (ap searched (sym (chunk_here chunks searched i d span m within late)) ∙ m.gone))
 ]
 
-pub chunk_first : (chunks : List Chunk) (searched : Chunk → Bool) (span : Span) → MeetsChanged chunks searched 0 span → ⊥
-chunk_first chunks searched span m = let small = m.small in omega (arith, small)
-
 inode_early : (inodes : List Inode) (before after : ℕ → ℕ → Bool) (i : ℕ) (span : Span) (m : ShowsChanged inodes before after (i + 1) span) → m.at < i
     → ShowsChanged inodes before after i span
 inode_early inodes before after i span m small = record { inode = m.inode; at = m.at; small = small; among = m.among; other = m.other; shown = m.shown }
@@ -368,9 +330,6 @@ inode_same_more inodes before after i d span within same m = elim (cases_lt m.at
   | inr late ↦
       absurd (m.other (subst (λ n. after n.tree n.ino ≡ before n.tree n.ino) (sym (inode_here inodes before after i d span m within late)) same))
 ]
-
-pub inode_first : (inodes : List Inode) (before after : ℕ → ℕ → Bool) (span : Span) → ShowsChanged inodes before after 0 span → ⊥
-inode_first inodes before after span m = let small = m.small in omega (arith, small)
 
 pub beq_same : (a b : Bool) → not (beq a b) ≡ false → a ≡ b
 beq_same true true is = refl

@@ -45,9 +45,6 @@ is_in run address from until = or_left _ false (and_from _ _ (le-leb run.from ad
 abbrev pub StayInside : List Run → List Run → Type 0
 StayInside runs others = (address : ℕ) → is_inside runs address ≡ true → is_inside others address ≡ true
 
-pub inside_stays : (runs others : List Run) (spans : List Span) → StayInside runs others → AreInside runs spans → AreInside others spans
-inside_stays runs others spans stay are span address among has = stay address (are span address among has)
-
 pub runs_more : (now new : List Run) (some : Option Run) → All IsRun now → IfSome some IsRun → new ≡ now ++ option_to_list some → All IsRun new
 runs_more now new some are is more = subst (λ l. All IsRun l) (sym more) (by some is)
   where
@@ -108,9 +105,6 @@ few_more {X} now new some old i few more = by some (ap length more ∙ length-ap
 -- of runs behind others each sector passes a test, or is one of the others
 abbrev pub AddOnly : List Run → List Run → (ℕ → Bool) → Type 0
 AddOnly old new has = (address : ℕ) → is_inside new address ≡ true → address % 4096 ≡ 0 → (is_inside old address || has address) ≡ true
-
-pub only_none : (old : List Run) (has : ℕ → Bool) → AddOnly old old has
-only_none old has address is whole = or_left (is_inside old address) (has address) is
 
 pub only_more : (test : ℕ → Span → Bool) (spans : List Span) (i : ℕ) (d : Span) (old now new : List Run) (some : Option Run) → i < length spans
     → AddOnly old now (λ address. list_any (test address) (take i spans))

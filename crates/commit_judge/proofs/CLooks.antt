@@ -44,13 +44,6 @@ use Rattle.commit_judge.proofs.CReady.{all_alike, plain}
 
 -- ---- postings
 
-four_joined : {A : Type 0} (a b c d : List A) → length (a ++ (b ++ (c ++ d))) ≡ length a + (length b + (length c + length d))
-four_joined a b c d =
-    let first = length-append a (b ++ (c ++ d)) in
-    let second = length-append b (c ++ d) in
-    let third = length-append c d in
-    omega (arith, first, second, third)
-
 -- a block posts two, and the superblock one
 of_block : (context : Context) (block : WalkedBlock) → length (posts_of context (block_record block)) ≡ 2
 unfolding extent_postings inode_postings dir_postings space_postings

@@ -23,24 +23,6 @@ alike_place a b is =
     let both = and_parts (a.tree == b.tree) (a.address == b.address) place.0 in
     (eqb-true a.tree b.tree both.0, eqb-true a.address b.address both.1)
 
--- the address of a pair which is alike to a block that no test passes does not pass it
-free_address : (touched : ℕ → Bool) (live : Live) (seen : List Seen) → stands_untouched touched seen live ≡ true → touched live.address ≡ false
-unfolding stands_untouched
-free_address touched live [] is = absurd (cc)
-free_address touched live (BlockSeen block ∷ behind) is =
-    by (are_alike (live_of block behind) live) (at_or_below touched block behind) (stands_untouched touched behind live) refl refl is
-    (free_address touched live behind)
-  where
-    by : (a f s : Bool) → are_alike (live_of block behind) live ≡ a → at_or_below touched block behind ≡ f → ((a && not f) || s) ≡ true
-        → (s ≡ true → touched live.address ≡ false) → touched live.address ≡ false
-    by true true s near free is rest = rest is
-    by true false s near free is rest =
-        let none = or_parts (touched block.address) (list_any (is_block_where touched) (records_in block behind)) free in
-        subst (λ a. touched a ≡ false) (alike_place (live_of block behind) live near).1 none.0
-    by false f s near free is rest = rest is
-free_address touched live (PointerSeen one ∷ behind) is = free_address touched live behind is
-free_address touched live (ItemSeen one ∷ behind) is = free_address touched live behind is
-
 -- what is known of a shared pair
 pub record IsShared (old new : Walked) (written : Written) (end : ℕ) (live : Live) : Type 0 where
   pub alike : are_read_alike old.sup new.sup ≡ true

@@ -98,10 +98,6 @@ map_in {X} {Y} f (y ∷ ys) x has = by (contains_cases y ys x has) (map_in f ys 
     by (inl here) later = subst (λ z. Contains (f y ∷ map f ys) (f z)) here (contains_first (f y) (map f ys))
     by (inr more) later = contains_more (f y) (map f ys) (f x) (later more)
 
-option_in : {Y : Type 0} (o : Option Y) (ys : List Y) (y : Y) → Contains ys y → Contains (cons_option o ys) y
-option_in None ys y has = has
-option_in (Some z) ys y has = contains_more z ys y has
-
 -- ---- the names of spans
 
 -- an item posts otherwise by two contexts

@@ -45,14 +45,6 @@ unfolding behind
 behind_none (Err finding) = refl
 behind_none (Ok records) = refl
 
--- what the first made of the records of an image
-pub first_told : {A B : Type 0} (told : Option (List ℕ)) (m : FinMap nat_cmp ℕ) (first : A → Seen → A) (second : B → Seen → B) (a : A) (b : B) (records : List ℕ → Records) (made : Result (A × B) Finding)
-    → IfSome told (λ image. held_after (with_both first second) (a, b) (records (overlaid m 0 image)) ≡ made)
-    → IfSome told (λ image. held_after first a (records (overlaid m 0 image)) ≡ and_then {A = A × B} {B = A} made (λ both. Ok both.0))
-first_told None m first second a b records made is = tt
-first_told (Some image) m first second a b records made is =
-    first_held first second a b (records (overlaid m 0 image)) ∙ ap (λ r. and_then r (λ both. Ok both.0)) is
-
 -- what the second kept of them
 pub second_told : {A : Type 0} (told : Option (List ℕ)) (m : FinMap nat_cmp ℕ) (first : A → Seen → A) (a : A) (kept : List Seen) (records : List ℕ → Records) (made : Result (A × List Seen) Finding)
     → IfSome told (λ image. held_after (with_both first with_kept) (a, kept) (records (overlaid m 0 image)) ≡ made)

@@ -25,9 +25,6 @@ use Rattle.shared_trees.specs.Stops.{is_stop, stops_and, stops_below, stops_of, 
 use Rattle.shared_trees.specs.VisitsLaw.{AmongLeadsLaw, AreAtRest, AreMoving, IsLed, LeadsLaw, LeadsOn, OldLeadsLaw, StopsRestLaw}
 use Rattle.shared_trees.proofs.OldStops.{all_append}
 
-some_key : (a b : Key) → Some a ≡ Some b → a ≡ b
-some_key a b is = cc
-
 -- what is kept did not move, and is the pair of a table
 abbrev pub IsAtRest : Pairs → (ℕ → Bool) → Under → Kept → Type 0
 IsAtRest pairs moved under kept =

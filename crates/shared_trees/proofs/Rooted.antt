@@ -245,9 +245,6 @@ roots_are sup chunks image roots is =
     by (Ok records) w rs is =
         subst (AllByRecursion HasRootId) (ok_of (fold with_root [] records) rs is) (fold_fits records [] (walk_fits sup (stored_in image chunks sup.nodesize) (root_tree_root sup) records refl w) tt)
 
-ok_lists : (a b : List Chunk) → finding_or {A = List Chunk} None a ≡ Ok b → a ≡ b
-ok_lists a b is = cc
-
 pub all_walks : (sup : Super) (array chunks : List Chunk) (roots : List RootItem) (image : List ℕ) → walks sup (trees_in sup array chunks roots image) ≡ all_records sup array chunks roots image
 unfolding all_records walk_in
 all_walks sup array chunks roots image = rw (named_walks (stored_in image chunks sup.nodesize) sup chunks image refl roots) refl

@@ -91,10 +91,6 @@ pub if_made : {E : Type 0} (P : List ℕ → Type 0) (r : Result (List ℕ) E) (
 if_made P (Ok b) s e h = subst P (sym e) h
 if_made P (Err x) s e h = tt
 
--- the writes of data, where there is some
-pub some_data : (k sector : ℕ) (op : Operation) (events : List Event) (write : Event) → events ≡ write ∷ [] → write ≡ Write 1 (22020096 + 4096 * sector) (data_of k op) → IsDataOf k op sector events
-some_data k sector op events write e h = inr (e ∙ ap (λ (w : Event). w ∷ []) h)
-
 leaf_stands : (t : Tree) (leaf : Block) → Contains t.leaves.items leaf → Contains (blocks_of t) leaf.at
 leaf_stands t leaf (k, within, is) =
     let at_of : Block → BlockAt = λ b. b.at in
