@@ -3,7 +3,7 @@ use Rattle.std.proofs.Common.{◌≡◌, ℕ, ◌<◌, ◌==◌, ◌||◌, Bool,
 use Rattle.std.proofs.lemmas.Bool.{eqb-true, leb-true, lt-ltb}
 use Rattle.std.specs.Prelude.{◌≤◌, Option, Some, None, nat_le, nat_lt}
 use Rattle.std.specs.List.{filter_map}
-use Rattle.commit_laws.proofs.IBlocks.{posts_range}
+use Rattle.commit_laws.proofs.accepted.Blocks.{posts_range}
 use Rattle.verdict.proofs.Truth.{true_of_not, implied}
 use Rattle.verdict.specs.declared.kinds.TheConstants.{EXTENT_ITEM}
 use Rattle.extent_items.specs.ExtentRow.{ExtentFields}
@@ -31,8 +31,8 @@ use Rattle.shared_trees.specs.Unshared.{item_seen}
 use Rattle.commit_laws.specs.Items.{items_of}
 use Rattle.commit_laws.specs.Same.{records_of}
 use Rattle.commit_laws.proofs.Elements.{Among}
-use Rattle.commit_laws.proofs.IBPostings.{IsForm, Says, all_say}
-use Rattle.commit_laws.proofs.IBSums.{all_among, among_left, among_right, at_least, counted, given, posted}
+use Rattle.commit_laws.proofs.accepted.Postings.{IsForm, Says, all_say}
+use Rattle.commit_laws.proofs.accepted.Sums.{all_among, among_left, among_right, at_least, counted, given, posted}
 
 -- ---- items among records
 

@@ -36,7 +36,7 @@ use Rattle.change_records.proofs.Merge.{from_one}
 use Rattle.commit_laws.specs.Items.{ItemsStand, items_of}
 use Rattle.commit_laws.specs.Same.{records_of}
 use Rattle.commit_laws.proofs.Elements.{Among}
-use Rattle.commit_laws.proofs.IBSums.{all_among}
+use Rattle.commit_laws.proofs.accepted.Sums.{all_among}
 use Rattle.lookup_bounds.specs.Work.{context_in, has_named, items_that_count, posts_otherwise, spans_in, stands_in}
 use Rattle.lookup_bounds.proofs.HousedExtents.{HasExtent, extent_home, item_of_record, range_extent, record_of_item}
 use Rattle.lookup_bounds.proofs.HousedPosts.{among_of, filter_among, flat_among, gone_otherwise, made_of, names_span, posts_sector}

@@ -7,7 +7,7 @@ use Rattle.std.specs.Ordering.{is_eq}
 use Rattle.std.proofs.lemmas.Bool.{and_from, and_parts, eq-eqb, eqb-true, or_left, or_right}
 use Rattle.std.proofs.lemmas.List.Elements.{Contains-append_cases}
 use Rattle.std.proofs.lemmas.List.Sums.{count_by-le-length, sum_by-append, sum_by-cons}
-use Rattle.commit_laws.proofs.PFound.{all_of}
+use Rattle.commit_laws.proofs.named_items.Found.{all_of}
 use Rattle.verdict.proofs.Lists.{filter_map_less}
 use Rattle.verdict.proofs.Answers.{some_is}
 use Rattle.accounts.specs.declared.postings.Posting.{Posting}
@@ -17,8 +17,8 @@ use Rattle.span_index.specs.declared.span.Span.{Span}
 use Rattle.change_records.specs.Looks.{HaveStops, is_empty_shown, stands_for}
 use Rattle.change_records.proofs.Merge.{contains_first, contains_more, from_one}
 use Rattle.commit_laws.proofs.Elements.{Among}
-use Rattle.commit_laws.proofs.IBSums.{among_left, among_right}
-use Rattle.commit_laws.proofs.PFilters.{filter_in}
+use Rattle.commit_laws.proofs.accepted.Sums.{among_left, among_right}
+use Rattle.commit_laws.proofs.named_items.Filters.{filter_in}
 use Rattle.lookup_bounds.proofs.HousedPosts.{among_of, any_among, filter_among, flat_among}
 
 -- ---- the first of a list that passes a test

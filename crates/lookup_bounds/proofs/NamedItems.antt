@@ -34,9 +34,9 @@ use Rattle.super_reader.specs.declared.Super.{Super}
 use Rattle.commit_laws.specs.Paired.{came_items, came_of, gone_items, gone_of}
 use Rattle.commit_laws.specs.Same.{live_record}
 use Rattle.commit_laws.specs.Steps.{change_records}
-use Rattle.commit_laws.proofs.PAlike.{contains_cases}
-use Rattle.commit_laws.proofs.PNamed.{has_at}
-use Rattle.commit_laws.proofs.WNamed.{map_in}
+use Rattle.commit_laws.proofs.named_items.Alike.{contains_cases}
+use Rattle.commit_laws.proofs.named_items.Named.{has_at}
+use Rattle.commit_laws.proofs.whole_commits.Named.{map_in}
 
 -- ---- the name of an item and that of its span
 

@@ -28,8 +28,8 @@ use Rattle.records.specs.Postings.{all_postings, postings_of}
 use Rattle.records.specs.SpacePostings.{extent_length, is_data, is_to_sector, place_postings, shown_postings, space_postings}
 use Rattle.change_records.specs.Spans.{IsLawfulIn, extent_bytes, extent_span, is_written, shown_span, span_in, span_of, sums_span}
 use Rattle.commit_laws.proofs.Elements.{Among}
-use Rattle.commit_laws.proofs.ESectors.{adds_in, record_adds, is_below}
-use Rattle.commit_laws.proofs.IBSums.{Posted, posted}
+use Rattle.commit_laws.proofs.at_sectors.Posted.{adds_in, record_adds, is_below}
+use Rattle.commit_laws.proofs.accepted.Sums.{Posted, posted}
 use Rattle.lookup_bounds.specs.Named.{names_sector}
 use Rattle.lookup_bounds.proofs.HousedPosts.{among_of, any_among, flat_among}
 

@@ -29,9 +29,9 @@ use Rattle.commit_laws.specs.Items.{items_of}
 use Rattle.commit_laws.specs.Kept.{placed_postings}
 use Rattle.commit_laws.specs.Same.{live_record}
 use Rattle.commit_laws.specs.Steps.{all_posts, change_records, posts_of, step_posts}
-use Rattle.commit_laws.proofs.PFilters.{filter_in, in_filter}
-use Rattle.commit_laws.proofs.SFlat.{flat_append}
-use Rattle.commit_laws.proofs.SPostings.{left_posts, rest_posts}
+use Rattle.commit_laws.proofs.named_items.Filters.{filter_in, in_filter}
+use Rattle.commit_laws.proofs.steps_between.Flat.{flat_append}
+use Rattle.commit_laws.proofs.steps_between.Postings.{left_posts, rest_posts}
 use Rattle.lookup_bounds.specs.Work.{are_same_postings, items_that_count, posts_otherwise, stands_in}
 use Rattle.lookup_bounds.proofs.HousedPosts.{same_lists}
 use Rattle.lookup_bounds.proofs.PostingsApart.{no_more}

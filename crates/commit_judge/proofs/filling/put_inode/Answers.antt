@@ -1,7 +1,7 @@
 use Rattle.std.proofs.Common.{ap, sym, ◌∙◌}
 use Rattle.account_tally.specs.Sums.{or_free}
 use Rattle.commit_judge.specs.Flags.{free_in}
-use Rattle.commit_judge.proofs.CFilling.{inode_put}
+use Rattle.commit_judge.proofs.starts.Filling.{inode_put}
 use Rattle.commit_judge.proofs.filling.put_inode.Goals as goal
 
 pub returns : goal.returns
