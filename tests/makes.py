@@ -189,8 +189,8 @@ def commits_of(trace):
         fail('a made trace', 'it has another end')
 
 
-def workload(seed, words, commits):
-    """A make of so many commits: its image is the base image, each commit leaves the files of the plan, and each passes. Its trace."""
+def workload(seed, words, commits, step=1):
+    """A make of so many commits: its image is the base image, each commit passes, and each so many leave the files of the plan. Its trace."""
     row = ' '.join(['make', *words])
     with open(device.path, 'wb') as out:
         out.write(b'\xa5' * made.LENGTH + b'\x3c' * 700)
@@ -212,7 +212,7 @@ def workload(seed, words, commits):
             image[place:place + len(data)] = data
         if len(writes[-1][1]) != 4096 or number_at(image, SUPERBLOCK + 0x48) != commit + 1:
             fail(row, f'the superblock of commit {commit}')
-        if files_in(image) != planned:
+        if commit % step == 0 and files_in(image) != planned:
             fail(row, f'commit {commit}, {operation}: other files')
         wanted.append(f'commit {commit} passed generation {commit + 1} blocks ')
     status, lines = device.run('replay', trace=trace)
@@ -228,8 +228,8 @@ def workload(seed, words, commits):
     return trace
 
 
-for seed in 0, 7, 2 ** 64 - 1:
-    workload(seed, [str(seed), '200'], 200)
+for seed, step in (0, 10), (7, 1), (2 ** 64 - 1, 10):
+    workload(seed, [str(seed), '200'], 200, step)
 one = workload(7, ['7', '1'], 1)
 if workload(7, ['007', '01'], 1) != one:
     fail('make 007 01', 'it has another trace than make 7 1')
