@@ -21,6 +21,8 @@ use Rattle.std.specs.Bool.{beq}
 use Rattle.std.proofs.Common.{◌-◌, not, min, max, length, get_or, nat_lt}
 use Rattle.std.proofs.lemmas.Bool.Decides.{nat_tests}
 use Rattle.std.proofs.lemmas.Bool.{and_from, and_parts, lt-ltb, ltb-true, or_left, both_ways, cases_lt, cases_order, eqb-true, or_cases, or_right}
+use Rattle.verdict.proofs.Numbers.{at_least}
+use Rattle.verdict.proofs.Truth.{is_less}
 use Rattle.accounts.specs.Context.{Context}
 use Rattle.verdict.specs.OnDisk.{key_same}
 use Rattle.verdict.specs.declared.key.Key.{Key}
@@ -97,11 +99,6 @@ taken_named k pairs span name old same its named = record {
 
 -- ---- spans in their order
 
-less_by : (o : Ordering) → is_lt o ≡ true → o ≡ Less
-less_by Less is = refl
-less_by Equal is = absurd (cc)
-less_by Greater is = absurd (cc)
-
 -- of two spans one is below the other, or they are one
 below_by : (s t : Span) (o : Ordering) → span_cmp t s ≡ o → is_lt (ordering_reverse o) ≡ false → is_lt o ≡ false → s ≡ t
 below_by s t Less e first second = absurd (cc)
@@ -153,17 +150,14 @@ some_sort n first sectors (Shown t i o e l) before after lawful differs = differ
 
 not_both : (x y : Span) → is_below y x ≡ true → is_below x y ≡ false
 unfolding is_below
-not_both x y less = ap is_lt (span_total.antisymm x y ∙ ap ordering_reverse (less_by (span_cmp y x) less))
-
-not_less : (a b : ℕ) → nat_lt a b ≡ false → b ≤ a
-not_less a b is = grind (arith, nat_tests)
+not_both x y less = ap is_lt (span_total.antisymm x y ∙ ap ordering_reverse (is_less (span_cmp y x) less))
 
 -- one above another that ends where that begins has none
 none_left : (now : ℕ) (next span : Span) → is_below next span ≡ true → now < end_of span → nat_lt (max now next.first) (end_of span) ≡ false → span.sectors ≡ 0
 none_left now next span above ends passed = elim (cases_lt span.first next.first) [
   | inl sooner ↦ absurd (both_ways _ (not_both next span (below_first span next sooner)) above)
   | inr later ↦
-      let low : end_of span ≤ max now next.first = not_less (max now next.first) (end_of span) passed in
+      let low : end_of span ≤ max now next.first = at_least (max now next.first) (end_of span) passed in
       omega (arith, later, low, ends)
 ]
 

@@ -11,20 +11,11 @@ use Rattle.std.specs.declared.ops.Bound.TheVariants.{Included, Unbounded}
 use Rattle.std.proofs.lemmas.Bool.{cases_lt, leb-true, and_parts, both_ways, ne_eqb}
 use Rattle.std.proofs.lemmas.Bool.Decides.{nat_tests}
 use Rattle.std.proofs.lemmas.Map.Keys.{le_from_not_gt, ge_from_not_lt}
+use Rattle.verdict.proofs.Numbers.{same_or_not, not_above}
 use Rattle.verdict.specs.Chunks.{holds_range}
 use Rattle.verdict.specs.declared.place.Chunk.{Chunk}
 use Rattle.chunk_map.specs.Order.{copy_from, Has, AreTurned, AreOutside, NoneFrom, IsLast, IsOnlyCopy, IsFree}
 use Rattle.chunk_map.proofs.Meets.{apart_no_common, common_sym}
-
-same_or_not : (a b : ℕ) → (a ≡ b) ⊎ (a ≢ b)
-same_or_not a b =
-    elim (cases_lt a b) [
-      | inl h ↦ inr (omega arith)
-      | inr h ↦ elim (cases_lt b a) [ inl g ↦ inr (omega arith) | inr g ↦ inl (omega arith) ]
-    ]
-
-upto : (k to : ℕ) → k ≤ to → is_gt (nat_cmp k to) ≡ false
-upto k to h = grind (arith, nat_tests)
 
 -- what the ordered map finds at an offset
 from_found : (copies : List (ℕ × Chunk)) (k : ℕ) (o : Option Chunk) → lookup (is_at (nat_cmp k)) copies ≡ o → copy_from copies k ≡ o
@@ -43,11 +34,11 @@ last_found m to r range e t is =
     record {
       low = le_from_not_gt e.0 to inside.0.1;
       here = from_found m.entries e.0 (Some e.1) inside.1;
-      last = λ k low high. none_above m e k _ refl low (λ some. range.4 e t is k (tt, upto k to high) some);
+      last = λ k low high. none_above m e k _ refl low (λ some. range.4 e t is k (tt, not_above k to high) some);
     }
 
 pub none_found : (m : BTreeMap ℕ Chunk) (to : ℕ) (r : List (ℕ × Chunk)) → IsRangeOf nat_cmp Unbounded (Included to) m r → r ≡ [] → NoneFrom m.entries to
-none_found m to r range is k high = from_found m.entries k None (range.5 is k (tt, upto k to high))
+none_found m to r range is k high = from_found m.entries k None (range.5 is k (tt, not_above k to high))
 
 -- the last copy begins at an offset or behind each that begins there or before
 under_last : (copies : List (ℕ × Chunk)) (to at k : ℕ) (last copy : Chunk) → IsLast copies to at last → copy_from copies k ≡ Some copy → k ≤ to → k ≤ at

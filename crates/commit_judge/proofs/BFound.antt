@@ -10,6 +10,7 @@ use Rattle.std.proofs.lemmas.Bool.Decides.{nat_tests}
 use Rattle.std.proofs.lemmas.List.{take_more}
 use Rattle.std.proofs.lemmas.Option.{same_Some}
 use Rattle.std.proofs.lemmas.List.Elements.{Contains-append_cases, Contains-append_left, Contains-get_or, Contains-push, Contains-push_cases}
+use Rattle.verdict.proofs.Numbers.{less_is, less_from, equal_from}
 use Rattle.live_index.specs.Pairs.{Pairs}
 use Rattle.span_index.specs.Order.{is_below}
 use Rattle.span_index.specs.Spans.{IsMeeting, Table, is_met}
@@ -24,17 +25,8 @@ use Rattle.commit_judge.specs.Moves.{HaveNames, NameSpans}
 
 -- ---- what an extent owns
 
-less_is : (a b : ℕ) → nat_cmp a b ≡ Less → a < b
-less_is a b is = grind (arith, nat_tests)
-
 equal_is : (a b : ℕ) → nat_cmp a b ≡ Equal → a ≡ b
 equal_is a b is = grind (arith, nat_tests)
-
-less_from : (a b : ℕ) → a < b → nat_cmp a b ≡ Less
-less_from a b less = grind (arith, nat_tests)
-
-equal_from : (a b : ℕ) → a ≡ b → nat_cmp a b ≡ Equal
-equal_from a b same = grind (arith, nat_tests)
 
 then_less : (o p : Ordering) → is_lt (ordering_then o p) ≡ true → (o ≡ Less) ⊎ ((o ≡ Equal) × (is_lt p ≡ true))
 then_less Less p is = inl refl

@@ -8,6 +8,7 @@ use Rattle.std.proofs.lemmas.List.{get_or_default, length-append, take_more}
 use Rattle.std.proofs.lemmas.List.Elements.{All-append, All-head, All-nil, All-push, All-tail, Contains-push_cases}
 use Rattle.std.proofs.lemmas.List.Folds.{list_any-append, list_any_more}
 use Rattle.std.proofs.lemmas.List.Sorted.{length_permutation, list_any-IsPermutation}
+use Rattle.verdict.proofs.Truth.{or_with_false}
 use Rattle.accounts.specs.Context.{Context}
 use Rattle.span_index.specs.Sectors.{AreRunsFrom, IsRun, counts, has_sector, is_inside}
 use Rattle.span_index.specs.declared.span.Run.{Run}
@@ -30,13 +31,9 @@ inside_right xs ys address is = list_any-append (covers address) xs ys ∙ or_ri
 inside_parts : (xs ys : List Run) (address : ℕ) → is_inside (xs ++ ys) address ≡ true → (is_inside xs address ≡ true) ⊎ (is_inside ys address ≡ true)
 inside_parts xs ys address is = or_cases _ _ (sym (list_any-append (covers address) xs ys) ∙ is)
 
-or_false : (b : Bool) → (b || false) ≡ true → b ≡ true
-or_false true is = refl
-or_false false is = is
-
 inside_is : (run : Run) (address : ℕ) → is_inside (run ∷ []) address ≡ true → (run.from ≤ address) × (address < run.until)
 inside_is run address is =
-    let both = and_parts (nat_le run.from address) (nat_lt address run.until) (or_false _ is) in
+    let both = and_parts (nat_le run.from address) (nat_lt address run.until) (or_with_false _ is) in
     (leb-true run.from address both.0, ltb-true address run.until both.1)
 
 is_in : (run : Run) (address : ℕ) → run.from ≤ address → address < run.until → is_inside (run ∷ []) address ≡ true

@@ -10,6 +10,7 @@ use Rattle.std.specs.declared.cmp.Ordering.{Ordering}
 use Rattle.std.specs.declared.cmp.Ordering.TheVariants.{Less, Equal, Greater}
 use Rattle.std.proofs.Math.Path.{fun_ext}
 use Rattle.std.proofs.lemmas.List.Sums.{sum_by-cons}
+use Rattle.verdict.proofs.Truth.{then_tied}
 use Rattle.verdict.specs.declared.place.Chunk.{Chunk}
 use Rattle.account_tally.specs.Sums.{Frees, none_free, or_free}
 use Rattle.account_tally.proofs.Taken.{or_all}
@@ -104,11 +105,6 @@ spans_after (one ∷ more) held span =
 pub free_after : (records : List Located) (held : Filled) → (fold with_located held records).free ≡ or_all held.free records
 free_after [] held = refl
 free_after (one ∷ more) held = free_after more (with_located held one)
-
-then_tied : (o p : Ordering) → is_eq (ordering_then o p) ≡ (is_eq o && is_eq p)
-then_tied Less p = refl
-then_tied Equal p = refl
-then_tied Greater p = refl
 
 tied_inode : (k : Inode) (tree ino : ℕ) → is_at (inode_cmp k) (record { tree = tree; ino = ino }) ≡ (k.tree == tree && k.ino == ino)
 tied_inode k tree ino =

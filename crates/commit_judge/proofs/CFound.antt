@@ -6,6 +6,7 @@ use Rattle.std.proofs.Math.Path.{fun_ext}
 use Rattle.std.proofs.lemmas.Grind.{common_steps}
 use Rattle.std.proofs.lemmas.List.Elements.{recursion_from_All}
 use Rattle.std.proofs.lemmas.List.Sums.{sum_by-cons}
+use Rattle.verdict.proofs.Numbers.{not_below}
 use Rattle.verdict.specs.declared.finding.Finding.{Finding}
 use Rattle.accounts.specs.Broken.{is_broken}
 use Rattle.accounts.specs.Context.{Context}
@@ -34,16 +35,13 @@ not_behind : (a b c : Bool) → b ≡ false → (a && (b && c)) ≡ false
 not_behind true b c is = ap (λ (x : Bool). x && c) is
 not_behind false b c is = refl
 
-no_less : (m n : ℕ) → n ≤ m → nat_lt m n ≡ false
-no_less m n less = grind arith
-
 ends : (first sectors address : ℕ) → first % 4096 ≡ 0 → first + sectors * 4096 < 2 ^ 64 → 2 ^ 64 - 4096 ≤ address → first + sectors * 4096 ≤ address
 ends first sectors address begins fits behind = omega (arith, begins, fits, behind)
 
 no_sector : (span : Span) (address : ℕ) → IsWhole span → 2 ^ 64 - 4096 ≤ address → has_sector span address ≡ false
 no_sector span address whole behind =
     not_behind (nat_le span.first address) (nat_lt address (end_of span)) (span.first % 4096 == address % 4096)
-    (no_less address (end_of span) (ends span.first span.sectors address whole.0 whole.1 behind))
+    (not_below address (end_of span) (ends span.first span.sectors address whole.0 whole.1 behind))
 
 no_adds : (context : Context) (address field : ℕ) (span : Span) → has_sector span address ≡ false → adds context address field span ≡ 0
 unfolding adds

@@ -5,6 +5,7 @@ use Rattle.std.specs.Prelude.{Ok, bytes_eq}
 use Rattle.std.specs.List.{list_any}
 use Rattle.std.specs.Ordering.{nat_cmp}
 use Rattle.std.specs.FinMap.{FinMap}
+use Rattle.verdict.proofs.Truth.{false_of_not, or_right, and_parts}
 use Rattle.verdict.specs.Rules.{no_key}
 use Rattle.write_cache.specs.Cache.{overlaid}
 use Rattle.super_reader.specs.Superblock.{item_place}
@@ -24,7 +25,6 @@ use Rattle.shared_trees.specs.MergedLaw.{items}
 use Rattle.shared_trees.specs.Shared.{are_alike, are_read_alike, at_or_below, is_block_where, is_shared, is_shared_by, stands_untouched}
 use Rattle.shared_trees.specs.Skips.{own_of}
 use Rattle.shared_trees.proofs.Accepted.{IsAs}
-use Rattle.shared_trees.proofs.Bounds.{and_parts}
 use Rattle.shared_trees.proofs.Climbing.{copied}
 use Rattle.shared_trees.proofs.Images.{stored_alike}
 use Rattle.shared_trees.proofs.KeptImage.{nodesize_same}
@@ -84,17 +84,9 @@ records_alike a b same = λ i. record {
   part = BlockPart (same.address i) (same.level i);
 }
 
-turned : (b : Bool) → not b ≡ true → b ≡ false
-turned true is = absurd (cc)
-turned false is = refl
-
 first_false : (a b : Bool) → (a || b) ≡ false → a ≡ false
 first_false true b is = absurd (cc)
 first_false false b is = refl
-
-or_right : (a b : Bool) → b ≡ true → (a || b) ≡ true
-or_right true b is = refl
-or_right false b is = is
 
 -- no write touches the block of a pair that is alike to an untouched one
 untouched_at : (touched : ℕ → Bool) (seen : List Seen) (live : Live) → stands_untouched touched seen live ≡ true → touched live.address ≡ false

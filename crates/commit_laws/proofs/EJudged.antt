@@ -5,6 +5,8 @@ use Rattle.std.specs.List.{AllByRecursion, filter_map, sum_by}
 use Rattle.std.proofs.Math.Path.{fun_ext}
 use Rattle.std.proofs.lemmas.Bool.{eqb-true}
 use Rattle.std.proofs.lemmas.List.Elements.{recursion_from_All}
+use Rattle.verdict.proofs.Numbers.{above_zero}
+use Rattle.verdict.proofs.Truth.{false_either_way as either}
 use Rattle.verdict.specs.Items.{is_multiple}
 use Rattle.fs_items.specs.declared.file_extent.FileExtent.{FileExtent}
 use Rattle.accounts.specs.declared.account.Account.{Account}
@@ -34,7 +36,7 @@ use Rattle.change_records.specs.Spans.{IsLawfulIn, shown_span, span_in, span_of}
 use Rattle.commit_laws.specs.Judged.{IsLeastBad, JudgedLaw}
 use Rattle.commit_laws.specs.Sectors.{AreSound}
 use Rattle.commit_laws.specs.Steps.{all_posts, posts_of, spans_of}
-use Rattle.commit_laws.proofs.ESectors.{adds_in, four, same_rest, sectors, some_extent, space_alone, sum_more}
+use Rattle.commit_laws.proofs.ESectors.{adds_in, four, same_rest, sectors, space_alone, sum_more}
 
 -- ---- what is posted but to sectors
 
@@ -105,7 +107,7 @@ adds_off context address field span begin off =
 shown_begin : (tree : ℕ) (range : FileExtent) (s h : Bool) → (range.extent == 0) ≡ h → IsLawful (FileExtentPart range)
     → IfSome (cond (s && not h) (Some (shown_span tree range)) None) (λ span. is_multiple span.first ≡ true)
 shown_begin tree range true true is lawful = tt
-shown_begin tree range true false is lawful = (lawful (some_extent range.extent is)).0
+shown_begin tree range true false is lawful = (lawful (above_zero range.extent is)).0
 shown_begin tree range false h is lawful = tt
 
 -- the span of a sound record begins at a sector
@@ -137,10 +139,6 @@ keeps_off context records address sound off =
     ∙ unposted (sector address)
 
 -- ---- the least of both
-
-either : (broken m : Bool) → (m ≡ false → broken ≡ false) → (m ≡ true → broken ≡ false) → broken ≡ false
-either broken true off on = on refl
-either broken false off on = off refl
 
 least_sector : (context : Context) (records : List Located) (bad : Option ℕ) → AreSound context.nodesize records
     → IsLeastBad (is_bad context (spans_of context.nodesize records)) bad → IsLeastSector (sector_sum context (spans_of context.nodesize records)) bad

@@ -8,6 +8,7 @@ use Rattle.std.proofs.lemmas.Bool.{and_parts}
 use Rattle.std.proofs.lemmas.List.Elements.{All-contains_itself, All-weaker, recursion_from_All}
 use Rattle.std.proofs.lemmas.List.Sorted.{All-permutation, sum_by-IsPermutation}
 use Rattle.std.proofs.lemmas.List.Sums.{sum_by-append, sum_by-cons}
+use Rattle.verdict.proofs.Lists.{all_later}
 use Rattle.accounts.specs.Broken.{is_broken}
 use Rattle.accounts.specs.Context.{Context}
 use Rattle.accounts.specs.Kinds.{sector}
@@ -115,10 +116,6 @@ staying_weights before after address field (one ∷ more) size sound same =
         ∙ ap (λ ps. total_of ps (sector address) field) (sym same.0)
         ∙ record_adds before one address field sound.0
 
-all_right : {A : Type 0} (P : A → Type 0) (xs ys : List A) → AllByRecursion P (xs ++ ys) → AllByRecursion P ys
-all_right P [] ys all = all
-all_right P (x ∷ xs) ys all = all_right P xs ys all.1
-
 zero_and : (a b c d : ℕ) → a ≡ 0 → c ≡ 0 → b ≡ d → a + b ≡ c + d
 zero_and a b c d first later same = omega (arith, first, later, same)
 
@@ -164,8 +161,8 @@ module _ (before after : Context) (olds news gone came : List Located) (runs : L
       ∙ ap (weights after after.nodesize address field) alike
       ∙ sym (anywhere_weights after after.nodesize address field (found ++ staying))
       ∙ kept before after found staying runs address field out size inside_found
-      (all_right (λ (one : Located). IsLawfulIn before.nodesize one one.part × IsLawful one.part) found staying
-      (all_right (λ (one : Located). IsLawfulIn before.nodesize one one.part × IsLawful one.part) gone (found ++ staying)
+      (all_later (λ (one : Located). IsLawfulIn before.nodesize one one.part × IsLawful one.part) found staying
+      (all_later (λ (one : Located). IsLawfulIn before.nodesize one one.part × IsLawful one.part) gone (found ++ staying)
       (recursion_from_All (λ (one : Located). IsLawfulIn before.nodesize one one.part × IsLawful one.part) (gone ++ (found ++ staying))
       (All-permutation (λ (one : Located). IsLawfulIn before.nodesize one one.part × IsLawful one.part) olds (gone ++ (found ++ staying)) old sound))))
       (recursion_from_All (λ (one : Located). postings_of before one ≡ postings_of after one) staying same)

@@ -6,6 +6,7 @@ use Rattle.std.proofs.lemmas.Bool.{eqb-true}
 use Rattle.std.proofs.lemmas.Bool.Decides.{nat_tests}
 use Rattle.std.proofs.lemmas.List.Elements.{recursion_from_All}
 use Rattle.std.proofs.lemmas.List.Sums.{sum_by-cons}
+use Rattle.verdict.proofs.Numbers.{whole_sectors, above_zero}
 use Rattle.verdict.specs.Items.{is_multiple}
 use Rattle.volume_items.specs.declared.chunk.Stripe.{Stripe}
 use Rattle.fs_items.specs.declared.file_extent.FileExtent.{FileExtent}
@@ -101,16 +102,13 @@ owned_use false field = or_none (field == 0)
     or_none true = refl
     or_none false = refl
 
-whole_bytes : (n : ℕ) → n % 4096 ≡ 0 → n / 4096 * 4096 ≡ n
-whole_bytes n whole = omega arith
-
 is_below : (n : ℕ) → n < 18446744073709551616 → nat_lt n 18446744073709551616 ≡ true
 is_below n less = grind (arith, nat_tests)
 
 extent_counts : (context : Context) (of_data : Bool) (first bytes : ℕ) (home : Option Home) → bytes % 4096 ≡ 0 → first + bytes < 18446744073709551616
     → home_of context first bytes ≡ home → counts context (span_at first (bytes / 4096) (Owned of_data)) (Owned of_data) ≡ is_some home
 extent_counts context of_data first bytes home whole fits is =
-    let same = whole_bytes bytes whole in
+    let same = whole_sectors bytes whole in
     let less : bytes < 18446744073709551616 = omega arith in
     (λ i. nat_lt (same i) 18446744073709551616 && is_some (home_of context first (same i)))
     ∙ (λ i. is_below bytes less i && is_some (is i))
@@ -124,9 +122,6 @@ extent_case context of_data first bytes (Some home) address field whole fits beg
     run_adds context (cond of_data Data Block) (Owned of_data) first (bytes / 4096) address field begin
     (extent_counts context of_data first bytes (Some home) whole fits is) (owned_use of_data field)
 
-pub some_extent : (n : ℕ) → (n == 0) ≡ false → 0 < n
-some_extent n is = grind (arith, nat_tests)
-
 range_case : (context : Context) (tree : ℕ) (range : FileExtent) (address field : ℕ) (s h f : Bool) (place : Option Home)
     → (range.extent == 0) ≡ h → context.sum_free tree range.key.objectid ≡ f → home_of context range.extent range.extent_length ≡ place
     → IsLawful (FileExtentPart range)
@@ -134,7 +129,7 @@ range_case : (context : Context) (tree : ℕ) (range : FileExtent) (address fiel
     ≡ adds_in context address field (cond (s && not h) (Some (shown_span tree range)) None)
 range_case context tree range address field true false false (Some home) hole free is lawful =
     run_adds context ShownUse (Shown tree range.key.objectid range.key.offset range.extent range.extent_length)
-    (range.extent + range.offset) (range.length / 4096) address field (lawful (some_extent range.extent hole)).0
+    (range.extent + range.offset) (range.length / 4096) address field (lawful (above_zero range.extent hole)).0
     (λ i. not (free i) && is_some (is i)) refl
 range_case context tree range address field true false false None hole free is lawful =
     run_none context (Shown tree range.key.objectid range.key.offset range.extent range.extent_length)

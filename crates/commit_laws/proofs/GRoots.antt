@@ -9,6 +9,7 @@ use Rattle.std.proofs.lemmas.List.Sorted.{IsPermutation-append, IsPermutation-ap
 use Rattle.std.specs.Prelude.{Option, Some, None, Ok, map}
 use Rattle.std.specs.List.{AllByRecursion, AllPairs, cons_option, filter, filter_map}
 use Rattle.std.specs.List.Sorted.{IsPermutation}
+use Rattle.verdict.proofs.Lists.{all_later, filter_alike as filter_same, all_map as each_map}
 use Rattle.verdict.specs.OnDisk.{key_below, key_same}
 use Rattle.verdict.specs.Rules.{and_then, finding_or}
 use Rattle.verdict.specs.declared.key.Key.{Key}
@@ -31,7 +32,7 @@ use Rattle.shared_trees.specs.Shared.{unshared_in}
 use Rattle.shared_trees.specs.TableLaw.{trees_in}
 use Rattle.shared_trees.specs.Unshared.{items_in}
 use Rattle.shared_trees.proofs.MergedLists.{roots_are_seen}
-use Rattle.shared_trees.proofs.Picking.{each_both, each_map}
+use Rattle.shared_trees.proofs.Picking.{each_both}
 use Rattle.shared_trees.proofs.Rooted.{step_ok}
 use Rattle.shared_trees.proofs.Treed.{has_trees, steps_of, trees_walk}
 use Rattle.touched_blocks.specs.Touched.{written_in}
@@ -157,10 +158,6 @@ heads_from : (x : RootAt) (xs : List RootAt) → ((k : ℕ) → k < length xs �
 heads_from x [] h = tt
 heads_from x (y ∷ ys) h = (h 0 (omega arith), heads_from x ys (λ k p. h (suc k) (omega arith)))
 
-later_all : {A : Type 0} (P : A → Type 0) (xs ys : List A) → AllByRecursion P (xs ++ ys) → AllByRecursion P ys
-later_all P [] ys all = all
-later_all P (x ∷ xs) ys all = later_all P xs ys all.1
-
 none_named : (some : List RootAt) → AllByRecursion (λ x. has_named [] x ≡ false) some
 none_named [] = tt
 none_named (x ∷ some) = (refl, none_named some)
@@ -173,13 +170,8 @@ across (a ∷ gone) some all =
     heads_from a (gone ++ some) (λ k p. all 0 (suc k) a (omega arith) (omega arith)) in
     each_map (λ x. Apart a x × (has_named gone x ≡ false)) (λ x. has_named (a ∷ gone) x ≡ false) some
     (λ x h. or_from (key_same a.key x.key) (has_named gone x) h.0 h.1)
-    (each_both (Apart a) (λ x. has_named gone x ≡ false) some (later_all (Apart a) gone some heads)
+    (each_both (Apart a) (λ x. has_named gone x ≡ false) some (all_later (Apart a) gone some heads)
     (across gone some (λ i j d p q. all (suc i) (suc j) d (omega arith) (omega arith))))
-
-filter_same : {A : Type 0} (p q : A → Bool) → ((x : A) → p x ≡ q x) → (xs : List A) → filter p xs ≡ filter q xs
-filter_same p q same [] = refl
-filter_same p q same (x ∷ xs) =
-    ap (λ b. cond b (x ∷ filter p xs) (filter p xs)) (same x) ∙ ap (λ ys. cond (q x) (x ∷ ys) ys) (filter_same p q same xs)
 
 all_pass : {A : Type 0} (p : A → Bool) (xs : List A) → AllByRecursion (λ x. p x ≡ true) xs → filter p xs ≡ xs
 all_pass p [] all = refl

@@ -6,6 +6,7 @@ use Rattle.std.specs.Prelude.{Option, Some, None, Ok}
 use Rattle.std.specs.List.{AllByRecursion, filter, fold, list_any}
 use Rattle.std.specs.Ordering.{nat_cmp}
 use Rattle.std.specs.FinMap.{FinMap}
+use Rattle.verdict.proofs.Lists.{all_map as each_map}
 use Rattle.verdict.specs.OnDisk.{key_same}
 use Rattle.write_cache.specs.Cache.{overlaid}
 use Rattle.live_index.specs.Pairs.{Pairs, with_pair, without_pair}
@@ -21,7 +22,7 @@ use Rattle.shared_trees.specs.ShiftedLaw.{is_shifted}
 use Rattle.shared_trees.proofs.Images.{stored_alike}
 use Rattle.shared_trees.proofs.KeptImage.{nodesize_same}
 use Rattle.shared_trees.proofs.Ordering.{same_key}
-use Rattle.shared_trees.proofs.Picking.{each_both, each_map, is_there, one_of, table_some}
+use Rattle.shared_trees.proofs.Picking.{each_both, is_there, one_of, table_some}
 use Rattle.touched_blocks.specs.Touched.{stays_in_place, written_in}
 use Rattle.tree_change.specs.Change.{IsChange}
 use Rattle.tree_change.specs.declared.change.Change.{Change}

@@ -6,6 +6,7 @@ use Rattle.std.proofs.lemmas.List.Sorted.{All-permutation}
 use Rattle.std.specs.Prelude.{Some, Ok, map}
 use Rattle.std.specs.List.{AllByRecursion, filter, list_any}
 use Rattle.std.specs.List.Sorted.{IsPermutation}
+use Rattle.verdict.proofs.Lists.{all_append, all_map}
 use Rattle.super_reader.specs.declared.Super.{Super}
 use Rattle.live_index.specs.Pairs.{Pairs}
 use Rattle.live_index.specs.declared.live.Live.{Live}
@@ -18,17 +19,13 @@ use Rattle.shared_trees.specs.LivePairs.{Walked, live_in, table_of, walked}
 use Rattle.shared_trees.specs.TableLaw.{Tree, trees_in}
 use Rattle.shared_trees.proofs.Forest.{all_lives, lives_all, lives_of, tables_stand}
 use Rattle.shared_trees.proofs.KeptImage.{IsOfImage, of_image}
-use Rattle.shared_trees.proofs.Picking.{each_both, each_map}
+use Rattle.shared_trees.proofs.Picking.{each_both}
 use Rattle.shared_trees.proofs.Treed.{has_trees, steps_of, trees_walk}
 
 -- a table has a pair, and what is stored at its address names its owner
 pub record IsLive (table : Pairs) (stored : Stored) (live : Live) : Type 0 where
   pub entry : table live.tree live.address ≡ Some live
   pub owner : live.owner ≡ owner_in (stored live.address)
-
-pub all_append : {A : Type 0} (P : A → Type 0) (a b : List A) → AllByRecursion P a → AllByRecursion P b → AllByRecursion P (a ++ b)
-all_append P [] b x y = y
-all_append P (one ∷ a) b x y = (x.0, all_append P a b x.1 y)
 
 module _ (sup : Super) (table : Pairs) (stored : Stored) where
   -- a tree for which the table stands, by what is stored
@@ -62,7 +59,7 @@ whole_lives image whole is =
     let Has = λ (tree : Tree). Stands table whole.sup tree.0 tree.1 in
     subst (AllByRecursion Is) (sym (lives_all whole.sup trees whole.seen told.0 told.1))
     (whole_trees whole.sup table stored trees
-    (each_map (λ (tree : Tree). Has tree × IsOfImage image whole tree) (IsTree whole.sup table stored) trees
+    (all_map (λ (tree : Tree). Has tree × IsOfImage image whole tree) (IsTree whole.sup table stored) trees
     (λ tree h. record { stands = h.0; stored_is = h.1.stored })
     (each_both Has (IsOfImage image whole) trees (tables_stand whole.sup trees whole.seen told.0 told.1) (of_image image whole trees has))))
 

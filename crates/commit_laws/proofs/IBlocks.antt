@@ -6,6 +6,7 @@ use Rattle.std.proofs.lemmas.Bool.Decides.{nat_tests}
 use Rattle.std.proofs.lemmas.List.Elements.{All-contains, All-from_recursion}
 use Rattle.std.specs.Prelude.{Option, Some, None, Ok, ◌≤◌, is_some, nat_le, nat_lt, option_map}
 use Rattle.std.specs.List.{AllByRecursion, Contains, filter_map}
+use Rattle.verdict.proofs.Truth.{true_of_not, implied}
 use Rattle.verdict.specs.Rules.{and_then, finding_or}
 use Rattle.verdict.specs.declared.finding.Finding.{Finding}
 use Rattle.verdict.specs.declared.finding.Verdict.{Verdict}
@@ -76,23 +77,15 @@ none_broken postings is account =
 
 -- ---- what rules say of sums
 
-turned : (b : Bool) → not b ≡ false → b ≡ true
-turned true is = refl
-turned false is = absurd (cc)
-
-gives_true : (a b : Bool) → (not a || b) ≡ true → a ≡ true → b ≡ true
-gives_true true b whole is = whole
-gives_true false b whole is = absurd (cc)
-
 extent_keeps_is : (a b c : ℕ) → not (nat_le a 1 && (gives (a == 1) (b == c && nat_le 1 b) && gives (a == 0) (c == 0))) ≡ false → 0 < a
     → (a ≤ 1) × (0 < c)
 extent_keeps_is a b c is some =
     let rest = gives (a == 1) (b == c && nat_le 1 b) && gives (a == 0) (c == 0) in
-    let p = and_parts (nat_le a 1) rest (turned (nat_le a 1 && rest) is) in
+    let p = and_parts (nat_le a 1) rest (true_of_not (nat_le a 1 && rest) is) in
     let q = and_parts (gives (a == 1) (b == c && nat_le 1 b)) (gives (a == 0) (c == 0)) p.1 in
     let low : a ≤ 1 = leb-true _ _ p.0 in
     let one : a ≡ 1 = omega arith in
-    let both = and_parts (b == c) (nat_le 1 b) (gives_true (a == 1) (b == c && nat_le 1 b) q.0 (eq-eqb a 1 one)) in
+    let both = and_parts (b == c) (nat_le 1 b) (implied (a == 1) (b == c && nat_le 1 b) q.0 (eq-eqb a 1 one)) in
     let same : b ≡ c = eqb-true b c both.0 in
     let more : 1 ≤ b = leb-true _ _ both.1 in
     (low, omega (arith, same, more))
@@ -105,10 +98,10 @@ balanced k f low some is = by (k == 1) refl
 
     by : (b : Bool) → (k == 1) ≡ b → f 0 ≡ f 1
     by true at =
-        subst (λ n. not (line_of n (lines f)) ≡ false → f 0 ≡ f 1) (sym (eqb-true k 1 at)) (λ h. eqb-true (f 0) (f 1) (turned (f 0 == f 1) h)) is
+        subst (λ n. not (line_of n (lines f)) ≡ false → f 0 ≡ f 1) (sym (eqb-true k 1 at)) (λ h. eqb-true (f 0) (f 1) (true_of_not (f 0 == f 1) h)) is
     by false at =
         subst (λ n. not (line_of n (lines f)) ≡ false → f 0 ≡ f 1) (sym (two_of k low some at))
-        (λ h. eqb-true (f 0) (f 1) (turned (f 0 == f 1) h)) is
+        (λ h. eqb-true (f 0) (f 1) (true_of_not (f 0 == f 1) h)) is
 
 -- an extent has one form
 one_form : (a b : Account) (part : Part) → IsForm a part → IsForm b part → a ≡ b
@@ -180,8 +173,8 @@ module _ (context : Context) (records : List Located) (fine : (account : Account
   unfolding is_broken
   form_rule x kind form some =
       let f = total_of all (extent_form x kind form) in
-      let keeps = turned (gives (nat_lt 0 (f 1)) (nat_le 1 (f 0))) (fine (extent_form x kind form)) in
-      let more : 1 ≤ f 0 = leb-true _ _ (gives_true (nat_lt 0 (f 1)) (nat_le 1 (f 0)) keeps (lt-ltb 0 (f 1) some)) in
+      let keeps = true_of_not (gives (nat_lt 0 (f 1)) (nat_le 1 (f 0))) (fine (extent_form x kind form)) in
+      let more : 1 ≤ f 0 = leb-true _ _ (implied (nat_lt 0 (f 1)) (nat_le 1 (f 0)) keeps (lt-ltb 0 (f 1) some)) in
       more
 
   extent_rule : (x : ℕ) → 0 < total_of all (extent x) 0 → (total_of all (extent x) 0 ≤ 1) × (0 < total_of all (extent x) 2)

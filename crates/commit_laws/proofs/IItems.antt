@@ -3,6 +3,7 @@ use Rattle.std.proofs.Common.{◌≡◌, ℕ, ◌==◌, Bool, true, false, List,
 use Rattle.std.proofs.lemmas.List.Elements.{All-from_recursion}
 use Rattle.std.specs.Prelude.{Result, Ok, Err, nat_lt, length}
 use Rattle.std.specs.List.{AllByRecursion, flat_map}
+use Rattle.verdict.proofs.Lists.{all_map}
 use Rattle.verdict.specs.Image.{range}
 use Rattle.verdict.specs.Rules.{and_then, finding_or, first_failing, image_finding}
 use Rattle.verdict.specs.Trees.{is_node_size}
@@ -26,7 +27,6 @@ use Rattle.records.specs.Walk.{Records, behind, each, entry_records, just, leaf_
 use Rattle.shared_trees.specs.LivePairs.{Walked, walked}
 use Rattle.shared_trees.specs.MergedLaw.{items}
 use Rattle.shared_trees.proofs.Merged.{read_of}
-use Rattle.shared_trees.proofs.Picking.{each_map}
 use Rattle.shared_trees.proofs.Trails.{Visit}
 use Rattle.shared_trees.proofs.Treed.{steps_of}
 use Rattle.change_records.specs.Spans.{IsLawfulIn}
@@ -122,9 +122,9 @@ items_stand image whole is =
     record {
       distinct = stand_apart whole.sup f.trees whole.seen f.apart f.walk;
       lawful = All-from_recursion (λ (one : Located). IsLawfulIn n one one.part) found
-          (each_map (IsKept n) (λ (one : Located). IsLawfulIn n one one.part) found (λ one k. k.0) all);
+          (all_map (IsKept n) (λ (one : Located). IsLawfulIn n one one.part) found (λ one k. k.0) all);
       sound = All-from_recursion (λ (one : Located). IsLawful one.part) found
-          (each_map (IsKept n) (λ (one : Located). IsLawful one.part) found (λ one k. k.1.0) all);
+          (all_map (IsKept n) (λ (one : Located). IsLawful one.part) found (λ one k. k.1.0) all);
       places = All-from_recursion (λ (one : Located). FitsPlace one.tree one.key one.part) found
-          (each_map (IsKept n) (λ (one : Located). FitsPlace one.tree one.key one.part) found (λ one k. k.1.1.0) all);
+          (all_map (IsKept n) (λ (one : Located). FitsPlace one.tree one.key one.part) found (λ one k. k.1.1.0) all);
     }

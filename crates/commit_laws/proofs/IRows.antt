@@ -4,6 +4,7 @@ use Rattle.std.proofs.Common.{drop, inl, inr, refl, ap, sym, subst, ◌∙◌, a
 use Rattle.std.proofs.lemmas.Bool.{and_parts, eqb-true, ltb-false, or_parts}
 use Rattle.std.proofs.lemmas.Bool.Decides.{nat_tests}
 use Rattle.std.specs.Prelude.{Result, Ok, Err, None, ◌≤◌, ◌⊎◌, nat_lt}
+use Rattle.verdict.proofs.Numbers.{above_zero, rule_of_some, not_zero}
 use Rattle.verdict.specs.Items.{is_multiple, passes_64}
 use Rattle.verdict.specs.Rules.{TableRow, finding_or, first_failing}
 use Rattle.verdict.specs.Trees.{is_node_size, sort_of}
@@ -87,10 +88,6 @@ multiple n kept = eqb-true (n % 4096) 0 (turned (is_multiple n) kept)
     turned true is = refl
     turned false is = absurd (cc)
 
-some_of : (n : ℕ) → (n == 0) ≡ false → 0 < n
-some_of zero is = absurd (cc)
-some_of (suc n) is = omega arith
-
 size_whole : (n : ℕ) → is_node_size n ≡ true → n % 4096 ≡ 0
 size_whole n is = by (n == 4096) (n == 8192) (n == 16384) (n == 32768) (n == 65536) refl refl refl refl refl is
   where
@@ -121,7 +118,7 @@ extent_range true at key bytes size kept =
     or_parts (not (is_multiple key.objectid) || not (is_multiple key.offset) || key.offset == 0) (passes_64 key.objectid key.offset) whole in
     let three = or_parts (not (is_multiple key.objectid) || not (is_multiple key.offset)) (key.offset == 0) four.0 in
     let two = or_parts (not (is_multiple key.objectid)) (not (is_multiple key.offset)) three.0 in
-    (multiple key.offset two.1, (some_of key.offset three.1, omega (arith, ltb-false _ _ four.1)))
+    (multiple key.offset two.1, (above_zero key.offset three.1, omega (arith, ltb-false _ _ four.1)))
 extent_range false at key bytes size kept =
     let whole = kept_at 1 (block_head_rows at key bytes) kept in
     let three = or_parts (not (is_multiple key.objectid) || nat_lt 7 key.offset) (passes_64 key.objectid at.nodesize) whole in
@@ -147,14 +144,6 @@ range_kept true head first disk range extent kept some = absurd (omega arith)
 range_kept false head first disk range extent kept some =
     ((joined_none disk range (joined_none head (disk ++ range) kept).1).1, refl)
 
--- a rule that speaks of what is no hole
-no_hole : (extent : ℕ) (fails : Bool) → 0 < extent → (not (extent == 0) && fails) ≡ false → fails ≡ false
-no_hole extent fails some kept = grind (arith, nat_tests)
-
-not_hole : (extent : ℕ) → not (extent == 0) ≡ true → 0 < extent
-not_hole zero is = absurd (cc)
-not_hole (suc n) is = omega arith
-
 abbrev AreInside : FileExtent → Type 0
 AreInside range = (range.extent + range.extent_length < 2 ^ 64) × (range.offset + range.length ≤ range.extent_length)
 
@@ -168,8 +157,8 @@ range_inside at key bytes range is some =
     range_kept (type_of bytes == 0) (file_head_rows at key bytes) (inline_rows at key bytes) (disk_rows at key bytes) (range_rows at key bytes)
     (disk_bytenr bytes) both.0 there in
     let extent : 0 < disk_bytenr bytes = subst (λ b. 0 < cond b 0 (disk_bytenr bytes)) rows.1 there in
-    let ends = ltb-false _ _ (no_hole _ _ extent (kept_at 2 (range_rows at key bytes) rows.0)) in
-    let part = ltb-false _ _ (no_hole _ _ extent (kept_at 3 (range_rows at key bytes) rows.0)) in
+    let ends = ltb-false _ _ (rule_of_some _ _ extent (kept_at 2 (range_rows at key bytes) rows.0)) in
+    let part = ltb-false _ _ (rule_of_some _ _ extent (kept_at 3 (range_rows at key bytes) rows.0)) in
     let whole : (cond (type_of bytes == 0) 0 (disk_bytenr bytes) + cond (type_of bytes == 0) 0 (disk_num_bytes bytes) < 2 ^ 64)
     × (cond (type_of bytes == 0) 0 (offset_in_extent bytes) + cond (type_of bytes == 0) 0 (num_bytes bytes)
     ≤ cond (type_of bytes == 0) 0 (disk_num_bytes bytes)) =
@@ -183,7 +172,7 @@ file_kept n tree block at key bytes range kind is =
     let both = finding_or-ok (first_failing (file_extent_rows at key bytes)) (file_extent_fields key bytes) range is in
     let own : range.key ≡ key = ap (λ (r : FileExtent). r.key) both.1 in (
       (λ written.
-          let some : 0 < range.extent = not_hole range.extent (and_parts (range.sort == 1) (not (range.extent == 0)) written).1 in
+          let some : 0 < range.extent = not_zero range.extent (and_parts (range.sort == 1) (not (range.extent == 0)) written).1 in
           let inside = range_inside at key bytes range is some in
           record { key = sym own; kind = ap (λ (k : Key). k.kind) own ∙ kind; fits = inside.0; inside = inside.1 }),
       ((λ some. range_sectors at key bytes range is some), ((own, kind), tt)),

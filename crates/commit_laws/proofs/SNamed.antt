@@ -7,6 +7,7 @@ use Rattle.std.specs.Prelude.{Option, Some, None, slice_get}
 use Rattle.std.specs.List.{AllPairs, Contains, list_any}
 use Rattle.std.specs.List.Sorted.{IsPermutation}
 use Rattle.std.proofs.lemmas.List.Sorted.{Contains-permutation, IsPermutation-sym}
+use Rattle.verdict.proofs.Truth.{and_parts}
 use Rattle.verdict.specs.OnDisk.{key_same}
 use Rattle.records.specs.Part.{Located}
 use Rattle.records.specs.declared.owned.ItemAt.{ItemAt}
@@ -15,7 +16,6 @@ use Rattle.change_records.specs.Spans.{StandApart}
 use Rattle.change_records.specs.declared.changes.ItemChange.{ItemChange}
 use Rattle.change_records.specs.declared.changes.ItemChange.TheVariants.{Added, Altered, Removed}
 use Rattle.change_records.specs.declared.item_ref.ItemRef.{ItemRef}
-use Rattle.shared_trees.proofs.Bounds.{and_parts}
 use Rattle.shared_trees.proofs.Ordering.{same_key}
 use Rattle.tree_change.specs.Gathered.{located_item}
 use Rattle.tree_change.proofs.Unordered.{permuted_pairs}

@@ -2,6 +2,7 @@
 use Rattle.std.proofs.Common.{◌≡◌, ℕ, true, List, [], ◌∷◌, length, refl, ap, sym, subst, ◌∙◌, if◌then◌else◌}
 use Rattle.std.specs.Prelude.{Some, Ok, Err, is_some, map, nat_lt}
 use Rattle.std.specs.List.{AllByRecursion}
+use Rattle.verdict.proofs.Lists.{all_map as each_map}
 use Rattle.verdict.specs.Chunks.{place}
 use Rattle.verdict.specs.Items.{is_multiple}
 use Rattle.verdict.specs.Rules.{and_then, finding_or, image_finding}
@@ -29,7 +30,7 @@ use Rattle.shared_trees.specs.Keeping.{Stands, live_at}
 use Rattle.shared_trees.specs.LivePairs.{Walked, live_in, table_of, walked}
 use Rattle.shared_trees.specs.TableLaw.{Tree}
 use Rattle.shared_trees.proofs.ArrayPlaces.{as_by_all}
-use Rattle.shared_trees.proofs.Picking.{each_both, each_map}
+use Rattle.shared_trees.proofs.Picking.{each_both}
 use Rattle.shared_trees.proofs.Rooted.{table_stands}
 use Rattle.shared_trees.proofs.Treed.{Steps, steps_of}
 use Rattle.commit_laws.specs.Frame.{FrameLaw, HaveSame, HaveSameCopies}

@@ -6,6 +6,7 @@ use Rattle.std.specs.List.Sorted.{IsPermutation}
 use Rattle.std.proofs.lemmas.Bool.{eqb-true}
 use Rattle.std.proofs.lemmas.List.Elements.{All-cons, All-contains, All-from_recursion, Contains-append_cases, Contains-append_left, Contains-append_right, filter_map-append, recursion_from_All}
 use Rattle.std.proofs.lemmas.List.Sorted.{Contains-permutation, IsPermutation-sym}
+use Rattle.verdict.proofs.Answers.{some_is}
 use Rattle.verdict.specs.declared.key.Key.{Key}
 use Rattle.verdict.specs.declared.kinds.TheConstants.{EXTENT_DATA, EXTENT_ITEM}
 use Rattle.accounts.specs.Context.{Context}
@@ -139,9 +140,6 @@ owned_name pairs false first sectors at known other = other refl
 
 whole_bytes : (n : ℕ) → n % 4096 ≡ 0 → n ≡ n / 4096 * 4096
 whole_bytes n whole = omega (arith, whole)
-
-some_is : {X : Type 0} (a b : X) → Some a ≡ Some b → a ≡ b
-some_is a b same = cc
 
 shown_name : (pairs : Pairs) (n tree block : ℕ) (key : Key) (range : FileExtent) (span : Span) (b : Bool) → is_written range ≡ b
     → IsLawfulIn n (record { tree = tree; block = block; key = key; part = FileExtentPart range }) (FileExtentPart range)

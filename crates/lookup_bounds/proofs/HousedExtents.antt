@@ -3,6 +3,7 @@ use Rattle.std.proofs.Common.{◌≡◌, ℕ, ◌<◌, ◌==◌, ◌||◌, Bool,
 use Rattle.std.proofs.lemmas.Bool.{eqb-true, leb-true, lt-ltb}
 use Rattle.std.specs.Prelude.{◌≤◌, Option, Some, None, nat_le, nat_lt}
 use Rattle.std.specs.List.{filter_map}
+use Rattle.verdict.proofs.Truth.{true_of_not, implied}
 use Rattle.verdict.specs.declared.kinds.TheConstants.{EXTENT_ITEM}
 use Rattle.extent_items.specs.ExtentRow.{ExtentFields}
 use Rattle.fs_items.specs.declared.file_extent.FileExtent.{FileExtent}
@@ -68,14 +69,6 @@ item_of_record whole one item at (inr later) = extent_in whole.seen one item at 
 
 -- ---- what rules say
 
-turned : (b : Bool) → not b ≡ false → b ≡ true
-turned true is = refl
-turned false is = absurd (cc)
-
-gives_true : (a b : Bool) → (not a || b) ≡ true → a ≡ true → b ≡ true
-gives_true true b whole is = whole
-gives_true false b whole is = absurd (cc)
-
 -- the item of an extent at an address with so many bytes
 pub record IsExtentAt (address bytes : ℕ) (one : Located) : Type 0 where
   pub item : ExtentFields
@@ -128,14 +121,14 @@ module _ (context : Context) (records : List Located) (fine : (account : Account
 
   outside_rule : (x : ℕ) → total_of all (outside x) 0 ≡ 0
   unfolding is_broken
-  outside_rule x = eqb-true _ _ (turned (total_of all (outside x) 0 == 0) (fine (outside x)))
+  outside_rule x = eqb-true _ _ (true_of_not (total_of all (outside x) 0 == 0) (fine (outside x)))
 
   form_rule : (x kind form : ℕ) → 0 < total_of all (extent_form x kind form) 1 → 0 < total_of all (extent_form x kind form) 0
   unfolding is_broken
   form_rule x kind form some =
       let f = total_of all (extent_form x kind form) in
-      let keeps = turned (gives (nat_lt 0 (f 1)) (nat_le 1 (f 0))) (fine (extent_form x kind form)) in
-      let more : 1 ≤ f 0 = leb-true _ _ (gives_true (nat_lt 0 (f 1)) (nat_le 1 (f 0)) keeps (lt-ltb 0 (f 1) some)) in
+      let keeps = true_of_not (gives (nat_lt 0 (f 1)) (nat_le 1 (f 0))) (fine (extent_form x kind form)) in
+      let more : 1 ≤ f 0 = leb-true _ _ (implied (nat_lt 0 (f 1)) (nat_le 1 (f 0)) keeps (lt-ltb 0 (f 1) some)) in
       more
 
   -- each extent has a home

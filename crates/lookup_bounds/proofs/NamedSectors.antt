@@ -4,6 +4,7 @@ use Rattle.std.specs.Prelude.{Option, Some, None, is_some, nat_lt}
 use Rattle.std.specs.List.{Contains}
 use Rattle.std.proofs.lemmas.Bool.{and_from, eq-eqb}
 use Rattle.std.proofs.lemmas.Bool.Decides.{nat_tests}
+use Rattle.verdict.proofs.Numbers.{whole_sectors}
 use Rattle.extent_items.specs.ExtentRow.{ExtentFields}
 use Rattle.fs_items.specs.declared.file_extent.FileExtent.{FileExtent}
 use Rattle.accounts.specs.Context.{Context, home_of}
@@ -91,9 +92,6 @@ no_home : (o : Option Home) → is_some o ≡ false → o ≡ None
 no_home None is = refl
 no_home (Some home) is = absurd (cc)
 
-whole_bytes : (n : ℕ) → n % 4096 ≡ 0 → n / 4096 * 4096 ≡ n
-whole_bytes n whole = omega (arith, whole)
-
 is_below : (n : ℕ) → n < 18446744073709551616 → nat_lt n 18446744073709551616 ≡ true
 is_below n less = grind (arith, nat_tests)
 
@@ -101,7 +99,7 @@ is_below n less = grind (arith, nat_tests)
 extent_counts : (context : Context) (of_data : Bool) (first bytes : ℕ) → bytes % 4096 ≡ 0 → first + bytes < 18446744073709551616
     → counts context (record { first = first; sectors = bytes / 4096; sort = Owned of_data }) (Owned of_data) ≡ is_some (home_of context first bytes)
 extent_counts context of_data first bytes whole fits =
-    let same = whole_bytes bytes whole in
+    let same = whole_sectors bytes whole in
     let less : bytes < 18446744073709551616 = omega (arith, fits) in
     (λ i. nat_lt (same i) 18446744073709551616 && is_some (home_of context first (same i)))
     ∙ (λ i. is_below bytes less i && is_some (home_of context first bytes))

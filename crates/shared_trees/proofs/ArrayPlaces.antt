@@ -2,6 +2,7 @@
 use Rattle.std.proofs.Common.{◌≡◌, ℕ, List, [], ◌∷◌, length, refl, ap, sym, subst, ◌∙◌}
 use Rattle.std.specs.Prelude.{Ok, map, not}
 use Rattle.std.specs.List.{AllByRecursion}
+use Rattle.verdict.proofs.Lists.{all_map as each_map}
 use Rattle.verdict.specs.Chunks.{place}
 use Rattle.verdict.specs.declared.place.At.{At}
 use Rattle.verdict.specs.declared.place.Chunk.{Chunk}
@@ -25,7 +26,7 @@ use Rattle.shared_trees.proofs.Accepted.{accepts}
 use Rattle.shared_trees.proofs.ArrayTree.{same_places}
 use Rattle.shared_trees.proofs.Forest.{then_ok, walks}
 use Rattle.shared_trees.proofs.Lives.{lives_are}
-use Rattle.shared_trees.proofs.Picking.{each_both, each_map}
+use Rattle.shared_trees.proofs.Picking.{each_both}
 use Rattle.shared_trees.proofs.Rooted.{all_walks}
 use Rattle.shared_trees.proofs.Tables.{Any, any_each}
 use Rattle.shared_trees.proofs.Trails.{trail_below, trail_of}

@@ -3,6 +3,7 @@ use Rattle.std.proofs.Common.{◌≡◌, ℕ, zero, suc, ◌==◌, Bool, true, f
 use Rattle.std.proofs.lemmas.Bool.Decides.{nat_tests}
 use Rattle.std.proofs.lemmas.Grind.{common_steps}
 use Rattle.std.specs.Prelude.{Option, Some, None, Result, Ok, Err}
+use Rattle.verdict.proofs.Numbers.{itself}
 use Rattle.verdict.specs.OnDisk.{key_same}
 use Rattle.verdict.specs.Rules.{no_key}
 use Rattle.verdict.specs.declared.key.Key.{Key}
@@ -76,9 +77,6 @@ last_walk sup stored e = by (trail_of sup stored e) (tells sup stored e)
         → last_in (walk_of sup stored e) ≡ greatest_of (keys_in trail)
     by (Err finding) t = ap last_in t.0
     by (Ok visits) t = ap last_in t.0 ∙ last_is (all_own visits)
-
-itself : (n : ℕ) → (n == n) ≡ true
-itself n = grind (arith, nat_tests)
 
 key_itself : (key : Key) → key_same key key ≡ true
 key_itself key = grind (arith, common_steps, nat_tests)

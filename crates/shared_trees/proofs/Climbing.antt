@@ -3,6 +3,7 @@ use Rattle.std.proofs.Common.{◌≡◌, ℕ, zero, suc, ◌<◌, ◌≤◌, Boo
 use Rattle.std.specs.Prelude.{Option, Some, None, is_some, IfSome, nat_lt, Result, Ok, Err}
 use Rattle.std.proofs.lemmas.Bool.Decides.{nat_tests}
 use Rattle.std.proofs.lemmas.List.Folds.{list_any-append}
+use Rattle.verdict.proofs.Truth.{or_cases, both_ways}
 use Rattle.super_reader.specs.declared.Super.{Super}
 use Rattle.live_index.specs.Pairs.{AreNarrow, Pairs}
 use Rattle.live_index.specs.declared.live.Live.{Live}
@@ -107,10 +108,6 @@ any_trail_and P test below sup stored e a all =
     or_nil true = refl
     or_nil false = refl
 
-or_cases : (a b : Bool) → (a || b) ≡ true → (a ≡ true) ⊎ (b ≡ true)
-or_cases true b is = inl refl
-or_cases false b is = inr is
-
 pub some_live : (a b : Live) → Some a ≡ Some b → a ≡ b
 some_live a b is = cc
 
@@ -119,12 +116,6 @@ copied bytes = Ok bytes
 
 ok_same : (p q : List ℕ) → copied p ≡ copied q → p ≡ q
 ok_same p q is = cc
-
--- two answers are alike where each implies the other
-both_ways : (a b : Bool) → (a ≡ true → b ≡ true) → (b ≡ true → a ≡ true) → a ≡ b
-both_ways true b to from = sym (to refl)
-both_ways false true to from = from refl
-both_ways false false to from = refl
 
 -- all blocks of a walk are of its tree
 tree_children : (P : Expect → Type 0) (tree : ℕ) (level : ℕ) (of : Expect → Trail) → ((c : Expect) → c.tree ≡ tree → Visits P (of c) → Visits (λ w. w.tree ≡ tree) (of c))

@@ -3,6 +3,8 @@ use Rattle.std.proofs.Common.{◌≡◌, ℕ, zero, suc, ◌-◌, ◌==◌, Bool
 use Rattle.std.proofs.lemmas.Bool.Decides.{nat_tests}
 use Rattle.std.proofs.lemmas.Grind.{common_steps}
 use Rattle.std.specs.Prelude.{Option, Some, None, Ok, Err}
+use Rattle.verdict.proofs.Lists.{append_none}
+use Rattle.verdict.proofs.Truth.{and_parts}
 use Rattle.verdict.specs.OnDisk.{key_below, key_same}
 use Rattle.verdict.specs.Rules.{no_key}
 use Rattle.verdict.specs.declared.key.Key.{Key}
@@ -23,7 +25,7 @@ use Rattle.shared_trees.specs.LivePairs.{greater_key}
 use Rattle.shared_trees.specs.Skips.{is_below}
 use Rattle.shared_trees.specs.declared.starts.Start.{Start}
 use Rattle.shared_trees.proofs.Accepted.{Accepts, IsAs, accepts, visit_of, walk_accepted}
-use Rattle.shared_trees.proofs.Bounds.{and_assoc, and_parts, keys_below, upto}
+use Rattle.shared_trees.proofs.Bounds.{and_assoc, keys_below, upto}
 use Rattle.shared_trees.proofs.Calming.{accepts_again, calm, greatest_of, item_keys, keys_after, keys_in, keys_then, last_walk}
 use Rattle.shared_trees.proofs.Lasting.{below_greater, items_below, items_of_upto, last_from, low_fits}
 use Rattle.shared_trees.proofs.Lives.{ok_same}
@@ -33,10 +35,6 @@ use Rattle.shared_trees.proofs.Tables.{Any, any_each}
 use Rattle.shared_trees.proofs.Trails.{Trail, all_own, trail_and, trail_below, trail_of, trails}
 use Rattle.shared_trees.proofs.Visiting.{Visits, VisitsOne, visits_any_from, visits_both, visits_from, visits_map, visits_one_from, visits_then_first, visits_then_later}
 use Rattle.shared_trees.proofs.Within.{Below, bounded, here_of, rest_of, within}
-
-nil : {X : Type 0} (xs : List X) → xs ++ [] ≡ xs
-nil [] = refl
-nil (x ∷ xs) = ap (λ more. x ∷ more) (nil xs)
 
 -- keys that are below one which a greatest key reaches
 above : (x g b : Key) → key_below x b ≡ true → key_below g b ≡ false → key_below x g ≡ true
@@ -132,7 +130,7 @@ module _ (P : Expect → Type 0) (sup : Super) (stored : Stored) where
       → last_of level e (pointer ∷ []) ≡ greatest_of (keys_in (of level (child_of level e pointer e.high)))
   last_alone level e pointer all =
       let c = child_of level e pointer e.high in
-      ap greatest_of (keys_then P (of level c) (Ok []) all ∙ nil (keys_in (of level c)))
+      ap greatest_of (keys_then P (of level c) (Ok []) all ∙ append_none (keys_in (of level c)))
 
 -- a node has no items of its own
 node_keys : (e : Expect) (pointers : List Pointer) → item_keys (pointer_records e pointers ++ []) ≡ []

@@ -5,6 +5,7 @@ use Rattle.std.proofs.lemmas.Bool.Decides.{nat_tests}
 use Rattle.std.proofs.lemmas.Grind.{common_steps}
 use Rattle.std.specs.Prelude.{Option, Some, None, IfSome, is_some}
 use Rattle.std.specs.List.{AllByRecursion, list_any}
+use Rattle.verdict.proofs.Truth.{and_parts, neither}
 use Rattle.verdict.specs.declared.key.Key.{Key}
 use Rattle.super_reader.specs.declared.Super.{Super}
 use Rattle.live_index.specs.Pairs.{Pairs}
@@ -16,9 +17,8 @@ use Rattle.shared_trees.specs.Keeping.{AreMarked, AreUntouched, IsKnown, Marks, 
 use Rattle.shared_trees.specs.MergedLaw.{KnownSharedLaw}
 use Rattle.shared_trees.specs.OldSide.{TellsShared}
 use Rattle.shared_trees.specs.Shared.{are_alike}
-use Rattle.shared_trees.proofs.Bounds.{and_parts}
 use Rattle.shared_trees.proofs.OldTells.{HasSame, has_same}
-use Rattle.shared_trees.proofs.Sharing.{found, neither}
+use Rattle.shared_trees.proofs.Sharing.{found}
 
 -- one of several, with what holds of each
 one_with : (P Q : Expect → Type 0) (es : List Expect) → AllByRecursion P es → OneOf Q es → (v : Expect) × P v × Q v

@@ -4,6 +4,7 @@ use Rattle.std.specs.Prelude.{Option, Some, None, is_some, Ok, Err, map, ◌==�
 use Rattle.std.proofs.lemmas.Bool.{eqb-true}
 use Rattle.std.proofs.lemmas.Bool.Decides.{nat_tests}
 use Rattle.std.proofs.lemmas.Grind.{common_steps}
+use Rattle.verdict.proofs.Truth.{and_true, and_parts, absorbs_left}
 use Rattle.verdict.specs.OnDisk.{key_below, key_same}
 use Rattle.verdict.specs.Rules.{no_key}
 use Rattle.verdict.specs.declared.key.Key.{Key}
@@ -27,7 +28,7 @@ use Rattle.shared_trees.specs.LivePairs.{greater_key, greatest_key, last_key}
 use Rattle.shared_trees.specs.Keeping.{last_in}
 use Rattle.shared_trees.specs.Skips.{is_below}
 use Rattle.shared_trees.proofs.Accepted.{Accepts, LowFits, accepts, keys_at, visit_of, walk_accepted}
-use Rattle.shared_trees.proofs.Bounds.{and_assoc, and_parts, and_true, below_self, below_same, below_trans, keys_below, own_below, record_below, upto, upto_then, visits_below}
+use Rattle.shared_trees.proofs.Bounds.{and_assoc, below_self, below_same, below_trans, keys_below, own_below, record_below, upto, upto_then, visits_below}
 use Rattle.shared_trees.proofs.Trails.{Tells, Trail, Visit, after, all_own, tells, then_trail, trail_and, trail_below, trail_of, trails}
 use Rattle.shared_trees.proofs.Visiting.{Visits, visits_later, visits_then_first, visits_then_later}
 use Rattle.shared_trees.proofs.Within.{node_keys, one_own, pointer_keys, rest_of, upto_block}
@@ -222,11 +223,6 @@ items_of_upto (Ok visits) high is = items_visits visits high is
 absorbs_right : (a b : Bool) → (a ≡ true → b ≡ true) → (a && b) ≡ a
 absorbs_right true b f = f refl
 absorbs_right false b f = refl
-
-absorbs_left : (a b : Bool) → (b ≡ true → a ≡ true) → (a && b) ≡ b
-absorbs_left true b f = refl
-absorbs_left false true f = f refl
-absorbs_left false false f = refl
 
 pub below_greater : (a b : Key) (high : Option Key) → is_below (greater_key a b) high ≡ (is_below a high && is_below b high)
 below_greater a b None = refl

@@ -5,6 +5,8 @@ use Rattle.std.specs.List.{AllByRecursion, list_any}
 use Rattle.std.proofs.lemmas.Bool.{eqb-true}
 use Rattle.std.proofs.lemmas.Bool.Decides.{nat_tests}
 use Rattle.std.proofs.lemmas.Grind.{common_steps}
+use Rattle.verdict.proofs.Lists.{all_zip as all_map}
+use Rattle.verdict.proofs.Truth.{never}
 use Rattle.verdict.specs.OnDisk.{key_below}
 use Rattle.verdict.specs.declared.key.Key.{Key}
 use Rattle.super_reader.specs.declared.Super.{Super}
@@ -31,9 +33,6 @@ use Rattle.shared_trees.proofs.Trails.{Trail, trail_below, trail_of, trails}
 use Rattle.shared_trees.proofs.Visiting.{Visits, VisitsOne, comes_from, visits_both, visits_from, visits_map, visits_one, visits_one_from, visits_then_first, visits_then_later}
 use Rattle.shared_trees.proofs.Within.{Below, here_of, node_keys, pointer_keys, rest_of, within}
 
-pub never : (b : Bool) → b ≡ true → b ≡ false → ⊥
-never b is other = cc
-
 -- a pointer as a child that is walked
 abbrev pub start_for : Pointer → List Pointer → Start
 start_for pointer pointers = record { pointer = pointer; next = high_of pointers None }
@@ -51,10 +50,6 @@ MemberOf start (one ∷ starts) = (one ≡ start) ⊎ MemberOf start starts
 abbrev pub AllMembers : (ℕ → Bool) → List Start → List Pointer → Type 0
 AllMembers test starts [] = Unit {0}
 AllMembers test starts (pointer ∷ pointers) = (test pointer.address ≡ true → MemberOf (start_for pointer pointers) starts) × AllMembers test starts pointers
-
-all_map : {A : Type 0} (P Q R : A → Type 0) (xs : List A) → ((x : A) → P x → Q x → R x) → AllByRecursion P xs → AllByRecursion Q xs → AllByRecursion R xs
-all_map P Q R [] f all more = tt
-all_map P Q R (x ∷ xs) f all more = (f x all.0 more.0, all_map P Q R xs f all.1 more.1)
 
 of_member : (P : Start → Type 0) (start : Start) (starts : List Start) → AllByRecursion P starts → MemberOf start starts → P start
 of_member P start [] all at = elim at [ ]

@@ -4,6 +4,8 @@ use Rattle.std.specs.Prelude.{Option, Some, None, IfSome}
 use Rattle.std.proofs.lemmas.Bool.{eqb-true}
 use Rattle.std.proofs.lemmas.Bool.Decides.{nat_tests}
 use Rattle.std.proofs.lemmas.Grind.{common_steps}
+use Rattle.verdict.proofs.Numbers.{itself}
+use Rattle.verdict.proofs.Truth.{and_parts, never}
 use Rattle.verdict.specs.OnDisk.{key_below, key_same}
 use Rattle.verdict.specs.declared.key.Key.{Key}
 use Rattle.super_reader.specs.declared.Super.{Super}
@@ -21,16 +23,13 @@ use Rattle.shared_trees.specs.Keeping.{IsKnown, last_in, live_at}
 use Rattle.shared_trees.specs.Listed.{up_to}
 use Rattle.shared_trees.specs.Skips.{is_below}
 use Rattle.shared_trees.proofs.Accepted.{Accepts, keys_at}
-use Rattle.shared_trees.proofs.Bounds.{and_parts, below_self, keys_below, upto}
+use Rattle.shared_trees.proofs.Bounds.{below_self, keys_below, upto}
 use Rattle.shared_trees.proofs.Lasting.{lasting}
 use Rattle.shared_trees.proofs.Separating.{IsApart, Known, apart, first_at, first_child, of}
 use Rattle.shared_trees.proofs.Ordering.{one_key, same_itself, same_key}
 use Rattle.shared_trees.proofs.Trails.{Trail, trail_below, trail_of, trails}
 use Rattle.shared_trees.proofs.Visiting.{Visits, VisitsOne, visits_map, visits_one, visits_then_first, visits_then_later}
 use Rattle.shared_trees.proofs.Within.{bounded, here_of, node_keys, pointer_keys, rest_of, upto_block}
-
-itself : (n : ℕ) → (n == n) ≡ true
-itself n = grind (arith, nat_tests)
 
 -- one of these keys is this one
 abbrev pub AtKey : Key → List Key → Type 0
@@ -70,9 +69,6 @@ no_entries entry n none = rw none refl
 
 no_pointers : (bytes : List ℕ) → count_of bytes ≡ 0 → pointers_of bytes ≡ []
 no_pointers bytes none = no_entries (pointer_of bytes) (count_of bytes) none
-
-never : (b : Bool) → b ≡ true → b ≡ false → ⊥
-never b is other = cc
 
 module _ (pairs : Pairs) (tree : ℕ) (sup : Super) (stored : Stored) where
   -- each pair of the tree on the level of a block lies before it or behind it

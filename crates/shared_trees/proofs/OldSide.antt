@@ -4,6 +4,8 @@ use Rattle.std.specs.Prelude.{Option, Some, None, is_none, is_some, IfSome, nat_
 use Rattle.std.specs.List.{AllByRecursion}
 use Rattle.std.proofs.lemmas.Bool.{eqb-true}
 use Rattle.std.proofs.lemmas.Bool.Decides.{nat_tests}
+use Rattle.verdict.proofs.Numbers.{itself}
+use Rattle.verdict.proofs.Truth.{and_true, and_parts, neither}
 use Rattle.verdict.specs.OnDisk.{key_same}
 use Rattle.verdict.specs.declared.key.Key.{Key}
 use Rattle.super_reader.specs.declared.Super.{Super}
@@ -21,7 +23,7 @@ use Rattle.shared_trees.specs.Stops.{is_stop, stops_of}
 use Rattle.shared_trees.specs.Shared.{are_alike}
 use Rattle.shared_trees.specs.Skips.{Kept, nothing}
 use Rattle.shared_trees.proofs.Accepted.{IsAs, accepts}
-use Rattle.shared_trees.proofs.Bounds.{and_parts, and_true, upto}
+use Rattle.shared_trees.proofs.Bounds.{upto}
 use Rattle.shared_trees.proofs.Climbing.{of_tree, some_live}
 use Rattle.shared_trees.proofs.Lasting.{low_fits}
 use Rattle.shared_trees.proofs.Listing.{above_is, if_some_map}
@@ -31,7 +33,7 @@ use Rattle.shared_trees.proofs.OldStops.{Found, IsTold, gives}
 use Rattle.shared_trees.proofs.OldWalk.{AllQuiet, Fact, Quiet, alike}
 use Rattle.shared_trees.proofs.Ordering.{same_itself}
 use Rattle.shared_trees.proofs.Separating.{IsFrom, nodes}
-use Rattle.shared_trees.proofs.Sharing.{Carries, IsFree, IsKept, IsRight, Known, Moves, Stays, all_free, carries_below, carries_block, found, itself, neither, same_to, still_kept, was_visited}
+use Rattle.shared_trees.proofs.Sharing.{Carries, IsFree, IsKept, IsRight, Known, Moves, Stays, all_free, carries_below, carries_block, found, same_to, still_kept, was_visited}
 use Rattle.shared_trees.proofs.Sifting.{IsSame}
 use Rattle.shared_trees.proofs.Skipping.{unkept_is}
 use Rattle.shared_trees.proofs.Tables.{copied_same}

@@ -6,6 +6,7 @@ use Rattle.std.specs.Result.{IsOk}
 use Rattle.std.proofs.lemmas.Bool.{eqb-true}
 use Rattle.std.proofs.lemmas.Bool.Decides.{nat_tests}
 use Rattle.std.proofs.lemmas.List.Folds.{list_any-append}
+use Rattle.verdict.proofs.Truth.{and_parts}
 use Rattle.verdict.specs.OnDisk.{key_same}
 use Rattle.super_reader.specs.declared.Super.{Super}
 use Rattle.live_index.specs.declared.live.Live.{Live}
@@ -19,7 +20,6 @@ use Rattle.shared_trees.specs.LivePairs.{Walked, live_in, live_of}
 use Rattle.shared_trees.specs.OldSide.{GoneLaw, TellsLaw, TellsShared}
 use Rattle.shared_trees.specs.Shared.{are_alike, are_read_alike, at_or_below, is_shared_by, stands_untouched}
 use Rattle.shared_trees.specs.TableLaw.{AreApart, Tree, is_other}
-use Rattle.shared_trees.proofs.Bounds.{and_parts}
 use Rattle.shared_trees.proofs.Forest.{OfOthers, all_lives, lives_all, lives_of, of_other, others_after, others_all, then_ok, walks}
 use Rattle.shared_trees.proofs.Ordering.{same_key}
 

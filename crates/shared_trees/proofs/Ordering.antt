@@ -4,11 +4,12 @@ use Rattle.std.specs.Prelude.{nat_lt}
 use Rattle.std.proofs.lemmas.Bool.{eqb-true}
 use Rattle.std.proofs.lemmas.Bool.Decides.{nat_tests}
 use Rattle.std.proofs.lemmas.Grind.{common_steps}
+use Rattle.verdict.proofs.Truth.{and_parts, never, or_cases, or_right}
 use Rattle.verdict.specs.OnDisk.{key_below, key_same}
 use Rattle.verdict.specs.declared.key.Key.{Key}
 use Rattle.shared_trees.specs.declared.starts.Start.{Start}
 use Rattle.shared_trees.specs.Listed.{is_before}
-use Rattle.shared_trees.proofs.Bounds.{and_parts, below_trans}
+use Rattle.shared_trees.proofs.Bounds.{below_trans}
 
 -- keys that are the same are one
 pub same_key : (a b : Key) → key_same a b ≡ true → a ≡ b
@@ -30,9 +31,6 @@ neither a b first later = grind (arith, common_steps)
 pub one_key : (a b : Key) → key_below a b ≡ false → key_below b a ≡ false → a ≡ b
 one_key a b first later = same_key a b (neither a b first later)
 
-never : (b : Bool) → b ≡ true → b ≡ false → ⊥
-never b is other = cc
-
 -- what is not below a key that is not below another
 pub from_trans : (a b low : Key) → key_below b low ≡ false → key_below a b ≡ false → key_below a low ≡ false
 from_trans a b low first later = by (key_below a low) refl (key_below b a) refl
@@ -51,15 +49,6 @@ not_less v w q under over = by (key_below v w) refl
     by : (x : Bool) → key_below v w ≡ x → x ≡ false
     by false is = refl
     by true is = absurd (never (key_below v q) (below_trans v w q is under) over)
-
--- which of two children comes first
-or_cases : (a b : Bool) → (a || b) ≡ true → (a ≡ true) ⊎ (b ≡ true)
-or_cases true b is = inl refl
-or_cases false b is = inr is
-
-or_right : (a b : Bool) → b ≡ true → (a || b) ≡ true
-or_right true b is = refl
-or_right false b is = is
 
 before_cases : (a b : Start) → is_before a b ≡ true → (key_below a.pointer.key b.pointer.key ≡ true) ⊎ ((a.pointer.key ≡ b.pointer.key) × (nat_lt a.pointer.address b.pointer.address ≡ true))
 before_cases a b is = by (or_cases (key_below a.pointer.key b.pointer.key) (key_same a.pointer.key b.pointer.key && nat_lt a.pointer.address b.pointer.address) is)

@@ -4,6 +4,7 @@ use Rattle.std.specs.Prelude.{Option, Some, None, Ok, nat_le}
 use Rattle.std.specs.List.{AllByRecursion}
 use Rattle.std.specs.Ordering.{nat_cmp}
 use Rattle.std.specs.FinMap.{FinMap}
+use Rattle.verdict.proofs.Lists.{all_map as each_map}
 use Rattle.verdict.specs.declared.place.Chunk.{Chunk}
 use Rattle.verdict.proofs.Tables.{joined_none}
 use Rattle.volume_items.specs.ChunkOrder.{all_by_start, by_start, put_by_start}
@@ -24,7 +25,7 @@ use Rattle.shared_trees.proofs.ArrayTree.{Chain, above, chain_of, put_each}
 use Rattle.shared_trees.proofs.Forest.{stands_as, tables_stand}
 use Rattle.shared_trees.proofs.Listing.{lists}
 use Rattle.shared_trees.proofs.MarkedTrees.{marks_image, moves_image}
-use Rattle.shared_trees.proofs.Picking.{each_both, each_map}
+use Rattle.shared_trees.proofs.Picking.{each_both}
 use Rattle.shared_trees.proofs.Treed.{map_kept, steps_of, trees_walk}
 
 flip : (c d : Chunk) → LieApart c d → LieApart d c

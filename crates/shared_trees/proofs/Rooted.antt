@@ -4,6 +4,7 @@ use Rattle.std.proofs.lemmas.Bool.{eqb-true}
 use Rattle.std.proofs.lemmas.List.Folds.{list_any-append}
 use Rattle.std.specs.Prelude.{Option, Some, None, Result, Ok, Err, map}
 use Rattle.std.specs.List.{AllByRecursion, fold, list_any}
+use Rattle.verdict.proofs.Truth.{neither}
 use Rattle.verdict.specs.Rules.{and_then, finding_or, first_failing, or_found}
 use Rattle.verdict.specs.declared.finding.Finding.{Finding}
 use Rattle.verdict.specs.declared.key.Key.{Key}
@@ -170,10 +171,6 @@ other_id n id none is = by (n == id) refl
         absurd (cc)
     by false same = refl
 
-or_false : (a b : Bool) → (a || b) ≡ false → (a ≡ false) × (b ≡ false)
-or_false true b is = absurd (cc)
-or_false false b is = (refl, is)
-
 -- no later root item has the id of one before
 none_before : (before roots : List RootItem) → repeated_after before roots ≡ None → AllByRecursion (λ r. list_any (names r.key.objectid) before ≡ false) roots
 unfolding repeated_after
@@ -183,7 +180,7 @@ none_before before (r ∷ roots) none = by (list_any (names r.key.objectid) befo
     fewer : (some : List RootItem) → AllByRecursion (λ q. list_any (names q.key.objectid) (before ++ r ∷ []) ≡ false) some → AllByRecursion (λ q. list_any (names q.key.objectid) before ≡ false) some
     fewer [] all = tt
     fewer (q ∷ some) all =
-        ((or_false (list_any (names q.key.objectid) before) (list_any (names q.key.objectid) (r ∷ [])) (sym (list_any-append (names q.key.objectid) before (r ∷ [])) ∙ all.0)).0, fewer some all.1)
+        ((neither (list_any (names q.key.objectid) before) (list_any (names q.key.objectid) (r ∷ [])) (sym (list_any-append (names q.key.objectid) before (r ∷ [])) ∙ all.0)).0, fewer some all.1)
 
     by : (b : Bool) → list_any (names r.key.objectid) before ≡ b → (if b then Some (roots_finding 1 r.key) else repeated_after (before ++ r ∷ []) roots) ≡ None
         → (repeated_after (before ++ r ∷ []) roots ≡ None → AllByRecursion (λ q. list_any (names q.key.objectid) (before ++ r ∷ []) ≡ false) roots)
@@ -216,7 +213,7 @@ module _ (stored : Stored) where
       each_apart : (some : List RootItem) → AllByRecursion (λ q. list_any (names q.key.objectid) (before ++ r ∷ []) ≡ false) some → AllByRecursion (λ b. is_other (stored, named_root r) b ≡ true) (named some)
       each_apart [] all = tt
       each_apart (q ∷ some) all =
-          (lift (r.key.objectid == q.key.objectid) (or_false (list_any (names q.key.objectid) before) (list_any (names q.key.objectid) (r ∷ [])) (sym (list_any-append (names q.key.objectid) before (r ∷ [])) ∙ all.0)).1, each_apart some all.1)
+          (lift (r.key.objectid == q.key.objectid) (neither (list_any (names q.key.objectid) before) (list_any (names q.key.objectid) (r ∷ [])) (sym (list_any-append (names q.key.objectid) before (r ∷ [])) ∙ all.0)).1, each_apart some all.1)
 
   named_other : (tree : Tree) → ((features : ℕ) → is_root_id features tree.1.tree ≡ false) → (roots : List RootItem) → AllByRecursion HasRootId roots → AllByRecursion (λ b. is_other tree b ≡ true) (named roots)
   named_other tree none [] all = tt

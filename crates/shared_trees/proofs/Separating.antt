@@ -2,6 +2,7 @@
 use Rattle.std.proofs.Common.{◌≡◌, ℕ, zero, suc, ◌<◌, ◌≤◌, ◌==◌, Bool, true, false, List, [], ◌∷◌, ◌⊎◌, inl, inr, refl, ap, sym, subst, ◌∙◌, arith}
 use Rattle.std.specs.Prelude.{Option, Some, None, Result, Ok, Err}
 use Rattle.std.proofs.lemmas.Grind.{common_steps}
+use Rattle.verdict.proofs.Truth.{and_parts}
 use Rattle.verdict.specs.OnDisk.{key_below}
 use Rattle.verdict.specs.Rules.{first_failing}
 use Rattle.verdict.specs.declared.key.Key.{Key}
@@ -21,7 +22,7 @@ use Rattle.walk_laws.proofs.Keys.{NoneBelow}
 use Rattle.shared_trees.specs.Keeping.{first_in, live_at}
 use Rattle.shared_trees.specs.Skips.{is_below}
 use Rattle.shared_trees.proofs.Accepted.{Accepts, LowFits, accepts, keys_at, visit_of, walk_accepted}
-use Rattle.shared_trees.proofs.Bounds.{and_parts, below_self, below_through, keys_below}
+use Rattle.shared_trees.proofs.Bounds.{below_self, below_through, keys_below}
 use Rattle.shared_trees.proofs.Climbing.{Table}
 use Rattle.shared_trees.proofs.Lasting.{low_fits}
 use Rattle.shared_trees.proofs.Ordering.{from_trans, not_less, same_key}

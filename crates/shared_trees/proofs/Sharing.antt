@@ -4,6 +4,8 @@ use Rattle.std.specs.Prelude.{Option, Some, None, is_none, is_some, IfSome, Ok, 
 use Rattle.std.proofs.lemmas.Bool.{eqb-true}
 use Rattle.std.proofs.lemmas.Bool.Decides.{nat_tests}
 use Rattle.std.proofs.lemmas.Grind.{common_steps}
+use Rattle.verdict.proofs.Numbers.{itself}
+use Rattle.verdict.proofs.Truth.{and_true, and_parts, neither}
 use Rattle.verdict.specs.OnDisk.{key_below, key_same}
 use Rattle.verdict.specs.Rules.{first_failing}
 use Rattle.verdict.specs.declared.key.Key.{Key}
@@ -25,7 +27,7 @@ use Rattle.shared_trees.specs.declared.starts.Start.{Start}
 use Rattle.shared_trees.specs.SkipLaw.{IsSound, anew_below}
 use Rattle.shared_trees.specs.Skips.{Kept, Told, is_below, nothing, unkept}
 use Rattle.shared_trees.proofs.Accepted.{Accepts, IsAs, LowFits, accepts, high_finding, keys_at, visit_of, walk_again}
-use Rattle.shared_trees.proofs.Bounds.{and_parts, and_true, keys_below, upto, upto_none, upto_then, upto_through}
+use Rattle.shared_trees.proofs.Bounds.{keys_below, upto, upto_none, upto_then, upto_through}
 use Rattle.shared_trees.proofs.Lasting.{last_from, last_of_none, lasting, low_fits}
 use Rattle.shared_trees.proofs.Sifting.{IsSame, LowAt, Yields, fits, fits_is, sift_block, starts_level, unkept_all, yields_is}
 use Rattle.shared_trees.proofs.Trails.{Trail, Visit, after, then_trail, trail_and, trail_below, trail_of, trails}
@@ -49,9 +51,6 @@ carries_then P true b (Err finding) later all more = elim all [ ]
 carries_then P true b (Ok visits) later all more = carries_after P b visits later all more
 carries_then P false b (Err finding) later all more = tt
 carries_then P false b (Ok visits) later all more = elim all [ ]
-
-pub itself : (n : ℕ) → (n == n) ≡ true
-itself n = grind (arith, nat_tests)
 
 -- the bound of a child or of its node, where what is below the child is below the next key
 bound_split : (trail : Trail) (later : Bool) (pointers : List Pointer) (high old_high : Option Key) → upto trail (high_of pointers old_high) ≡ true → keys_below (pointer_keys pointers) high ≡ true
@@ -78,10 +77,6 @@ found e starts last false (Some live) is = by (is_same e live) refl is
     by : (b : Bool) → is_same e live ≡ b → (if b then Some (bound_of starts live.last) else None) ≡ Some last → IsFound e starts last false (Some live)
     by true same is = record { live = live; free = refl; known = refl; same = same; last_is = cc }
     by false same is = absurd (cc)
-
-pub neither : (a b : Bool) → (a || b) ≡ false → (a ≡ false) × (b ≡ false)
-neither true b is = absurd (cc)
-neither false b is = (refl, is)
 
 -- the first key of a block that is accepted
 pub header_kept : (bytes fsid : List ℕ) (e : Expect) → block_fault bytes fsid e ≡ None → first_failing (header_rules bytes fsid e) ≡ None

@@ -4,6 +4,7 @@ use Rattle.std.proofs.lemmas.Bool.{eqb-true}
 use Rattle.std.proofs.lemmas.Bool.Decides.{nat_tests}
 use Rattle.std.specs.Prelude.{Some, Result, Ok, Err, map}
 use Rattle.std.specs.List.{AllByRecursion, flat_map, fold, list_any}
+use Rattle.verdict.proofs.Lists.{all_map as each_map}
 use Rattle.verdict.specs.Rules.{no_key}
 use Rattle.verdict.specs.declared.finding.Finding.{Finding}
 use Rattle.verdict.specs.declared.key.Key.{Key}
@@ -23,7 +24,7 @@ use Rattle.shared_trees.specs.Skips.{Anew, Kept}
 use Rattle.shared_trees.proofs.Climbing.{some_live}
 use Rattle.shared_trees.proofs.EndsTold.{ends}
 use Rattle.shared_trees.proofs.Forest.{of_root}
-use Rattle.shared_trees.proofs.Picking.{each_both, each_map}
+use Rattle.shared_trees.proofs.Picking.{each_both}
 use Rattle.shared_trees.proofs.Skipping.{children_level}
 use Rattle.tree_change.specs.Walks.{last_at, with_last}
 use Rattle.tree_change.proofs.Whole.{KeepsNone, ends_same}

@@ -7,6 +7,8 @@ use Rattle.std.specs.List.{AllByRecursion, filter, filter_map, list_any}
 use Rattle.std.specs.List.Sorted.{IsPermutation, IsStrictlySortedBy}
 use Rattle.std.specs.Ordering.{nat_cmp}
 use Rattle.std.specs.FinMap.{FinMap}
+use Rattle.verdict.proofs.Lists.{all_map as each_map}
+use Rattle.verdict.proofs.Truth.{and_parts}
 use Rattle.verdict.specs.OnDisk.{key_same}
 use Rattle.write_cache.specs.Cache.{overlaid}
 use Rattle.live_index.specs.Pairs.{Pairs}
@@ -21,11 +23,10 @@ use Rattle.shared_trees.specs.Shared.{are_alike, are_read_alike}
 use Rattle.shared_trees.specs.SharedLaw.{HasTrees}
 use Rattle.shared_trees.specs.ShiftedLaw.{is_shifted}
 use Rattle.shared_trees.specs.TableLaw.{Tree}
-use Rattle.shared_trees.proofs.Bounds.{and_parts}
 use Rattle.shared_trees.proofs.Images.{stored_alike}
 use Rattle.shared_trees.proofs.KeptImage.{nodesize_same}
 use Rattle.shared_trees.proofs.Ordering.{same_key}
-use Rattle.shared_trees.proofs.Picking.{each_map, is_there}
+use Rattle.shared_trees.proofs.Picking.{is_there}
 use Rattle.tree_change.specs.Rising.{is_left, is_marked, risen_at, unmoved_at}
 use Rattle.tree_change.specs.Unchanged.{stays_unchanged}
 use Rattle.tree_change.proofs.RisenLists.{at_most_one, at_some, by_places, each_passing, option_list}

@@ -5,6 +5,7 @@ use Rattle.std.proofs.lemmas.Bool.{eqb-true, not-false}
 use Rattle.verdict.specs.Items.{item_rule, is_multiple, listed_rule}
 use Rattle.verdict.specs.declared.finding.Family.TheVariants.{I}
 use Rattle.std.specs.Prelude.{Option, Some, None, Ok, Err}
+use Rattle.verdict.proofs.Lists.{all_behind}
 use Rattle.verdict.specs.Rules.{TableRow, first_failing, or_found, finding_or}
 use Rattle.verdict.proofs.Tables.{first_failing_joined}
 use Rattle.recon_bytes.specs.Field.{field}
@@ -88,10 +89,6 @@ unfolding chunk_row
 row_kept at key bytes rest size class frame fields stripes f f0 g g0 s k r last last0 =
     ap (λ o. finding_or o (chunk_fields key bytes)) (three at key bytes rest size frame fields f f0 g g0 s r ∙ sym last ∙ last0)
     ∙ rw (s, k, r) (ap (λ x. Ok (record { key = key; length = field 8 bytes 0; class = field 8 bytes 24; stripes = x })) (counted bytes (field 2 bytes 44) (frame_size at key bytes (sym f ∙ f0))))
-
--- all bytes behind a place
-pub all_behind : (n : ℕ) (bytes : List ℕ) → take (length bytes - n) (drop n bytes) ≡ drop n bytes
-all_behind n bytes = grind (arith, common_steps)
 
 -- behind a stripe there are fewer
 pub stripes_fewer : (bytes : List ℕ) → 32 ≤ length bytes → length (stripes_of (take (length bytes - 32) (drop 32 bytes))) < length (stripes_of bytes)
