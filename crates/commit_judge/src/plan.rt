@@ -39,7 +39,7 @@ pub(crate) struct Plan {
 }
 
 /// What the pending writes change of the image that an index stands for, or the first finding of what the judged image holds. Of the
-/// blocks that the two images do not share the old ones are read once, and of the new ones each copy that the pending writes do not cover.
+/// blocks that the two images do not share, there is at most one read of the disk for each old one, and two for each new one.
 pub(crate) fn plan_of<D: Disk, L>(
     alloc: Global,
     disk: &mut D,
