@@ -21,7 +21,7 @@ use Rattle.tree_change.specs.declared.change.Change.{Change}
 use Rattle.tree_change.specs.declared.change.Diff.{Diff}
 use Rattle.tree_change.specs.declared.change.Diff.TheVariants.{Found, Change as Changed}
 use Rattle.records.specs.Part.{Located}
-use Rattle.records.specs.declared.owned.ItemAt.{ItemAt}
+use Rattle.records.specs.declared.rec.ItemAt.{ItemAt}
 use Rattle.change_records.specs.Affected.{AreAffected, context_with}
 use Rattle.change_records.specs.Changes.{Ascend}
 use Rattle.change_records.specs.Refs.{is_named}

@@ -8,8 +8,8 @@ use Rattle.live_index.proofs.PlaceLaws.{same_name}
 use Rattle.shared_trees.proofs.Mixing.{same_itself}
 use Rattle.verdict.specs.OnDisk.{key_same}
 use Rattle.verdict.specs.declared.key.Key.{Key}
-use Rattle.records.specs.Owned.{owned_part}
-use Rattle.records.specs.declared.owned.ItemAt.{ItemAt}
+use Rattle.records.specs.Part.{owned_part}
+use Rattle.records.specs.declared.rec.ItemAt.{ItemAt}
 use Rattle.change_records.specs.declared.changes.ItemChange.{ItemChange}
 use Rattle.change_records.specs.declared.changes.ItemChange.TheVariants.{Added, Removed, Altered}
 use Rattle.change_records.specs.declared.item_ref.ItemRef.{ItemRef}

@@ -12,7 +12,7 @@ use Rattle.records.specs.Context.{has_sum_free}
 use Rattle.records.specs.Part.{Located}
 use Rattle.records.specs.Seen.{Seen, accounted}
 use Rattle.records.specs.Seen.Seen.{BlockSeen, ItemSeen, PointerSeen}
-use Rattle.records.specs.declared.owned.ItemAt.{ItemAt}
+use Rattle.records.specs.declared.rec.ItemAt.{ItemAt}
 use Rattle.change_records.specs.Changes.{AreChanges, Ascend, IsChange as IsItemChange, is_before}
 use Rattle.change_records.specs.SumFree.{sum_free_after}
 use Rattle.change_records.specs.declared.changes.ItemChange.{ItemChange}

@@ -15,7 +15,7 @@ use Rattle.live_index.specs.declared.live.Live.{Live}
 use Rattle.records.specs.Contents.{super_record}
 use Rattle.records.specs.Part.{Located}
 use Rattle.records.specs.Postings.{postings_of}
-use Rattle.records.specs.declared.owned.ItemAt.{ItemAt}
+use Rattle.records.specs.declared.rec.ItemAt.{ItemAt}
 use Rattle.change_records.specs.Affected.{context_with}
 use Rattle.change_records.specs.Changes.{Ascend, is_before}
 use Rattle.change_records.specs.Refs.{is_named}

@@ -1,6 +1,6 @@
 use Rattle.std.proofs.Common.{sym, ◌∙◌}
 use Rattle.records.proofs.Lawful.{range_sectors}
-use Rattle.records.proofs.item.in_file_tree.Goals as goal
+use Rattle.records.proofs.rec.in_file_tree.Goals as goal
 
 pub returns-in_ok-read_file_extent-in-108-clause-lawful :
     goal.returns-in_ok-read_file_extent-in-108-clause-lawful

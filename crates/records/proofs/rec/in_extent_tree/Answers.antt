@@ -1,5 +1,5 @@
 use Rattle.records.proofs.Lawful.{extent_begins_sector}
-use Rattle.records.proofs.item.in_extent_tree.Goals as goal
+use Rattle.records.proofs.rec.in_extent_tree.Goals as goal
 
 pub returns-in_ok-read_extent-in-168-clause-lawful :
     goal.returns-in_ok-read_extent-in-168-clause-lawful

@@ -1,5 +1,5 @@
 use Rattle.records.proofs.Lawful.{sums_sectors}
-use Rattle.records.proofs.item.in_sums_tree.Goals as goal
+use Rattle.records.proofs.rec.in_sums_tree.Goals as goal
 
 pub returns-in_ok-read_sums-in-128-clause-lawful : goal.returns-in_ok-read_sums-in-128-clause-lawful
 returns-in_ok-read_sums-in-128-clause-lawful c =
