@@ -9,7 +9,7 @@ use Rattle.records.specs.InodePostings.{inode_entry_postings, inode_postings, ta
 use Rattle.records.specs.Part.{Part}
 use Rattle.records.specs.Part.Part.{RootPart, LinkPart, DevicePart, ChunkPart, DevExtentPart, ExtentPart, KeyedPart, GroupPart, InodePart, NamesPart, XattrPart, OrphanPart, EntriesPart, FileExtentPart, SumsPart, UnreadPart, SuperPart, BlockPart}
 use Rattle.name_tally.specs.Names.{led_postings}
-use Rattle.account_tally.specs.Own.{own_entry_postings, own_postings}
+use Rattle.inode_rules.specs.Own.{own_entry_postings, own_postings}
 
 entries_total : (tree dir : ℕ) (entries : List EntryFields) (a : Account) (n : ℕ)
     → total_of (flat_map (own_entry_postings tree dir) entries) a n + total_of (flat_map (target_postings tree) entries) a n
