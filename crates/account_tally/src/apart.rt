@@ -4,16 +4,16 @@ ghost use Rattle.std.specs.Prelude.{◌≡◌, ◌+◌, [], ℕ, OnOk};
 ghost use Rattle.accounts.specs.Broken.{is_broken};
 ghost use Rattle.accounts.specs.Tally.{sums_in};
 ghost use Rattle.accounts.specs.declared.account.Account.{Account as AnAccount};
-ghost use Rattle.name_tally.specs.Names.{name_postings};
-ghost use Rattle.records.specs.Part.{part_of};
+ghost use Rattle.name_tally.specs.Names.{entry_row};
 ghost use Rattle.account_tally.specs.Apart.{Adds, sums_apart};
 ghost use Rattle.account_tally.specs.ApartLaws.{adds_pass};
 
 use accounts::{NameAccount, Poster, Posting, Postings, Tally, User};
+use dir_rules::NameWay;
 use extent_tally::ExtentTally;
+use fs_items::{DirEntry, NameAt};
 use inode_tally::InodeTally;
 use name_tally::NameTally;
-use records::Rec;
 use std::alloc::Global;
 use verdict::{Key, NoMemory};
 
@@ -43,14 +43,6 @@ impl Apart {
             inodes: InodeTally::new(alloc),
             waiting: Postings::new(alloc),
         }
-    }
-
-    // Adds what a record of a tree says of names, and of the inodes that entries of directories lead to.
-    pub fn take_names(&mut self, tree: u64, part: &Rec<'_>) -> Result<(), NoMemory>
-        ensures { Adds self.old self.new result (name_postings tree (part_of part.now)) }
-    {
-        self.names
-            .take(tree, part, &mut self.inodes, &mut self.waiting)
     }
 
     // Moves the sums of the accounts that may be broken to a tally. Nothing may be added behind it.
@@ -136,5 +128,37 @@ impl Poster for Apart {
     ) -> Result<(), NoMemory> {
         self.extents
             .put_use(address, user, kind, form, &mut self.waiting)
+    }
+}
+
+/// The way of names to what is kept apart: an entry of a directory goes with what it says of the inode that it leads to.
+#[derive(Clone, Copy, Debug)]
+pub struct WithTargets;
+
+impl NameWay<Apart> for WithTargets {
+    ghost of_entry = { entry_row };
+
+    fn put_entry(
+        &self,
+        _alloc: Global,
+        tree: u64,
+        key: Key,
+        entry: &DirEntry<'_>,
+        into: &mut Apart,
+    ) -> Result<(), NoMemory> {
+        into.names
+            .take_entry(tree, key, entry, &mut into.inodes, &mut into.waiting)
+    }
+
+    fn put_link(
+        &self,
+        _alloc: Global,
+        tree: u64,
+        ino: u64,
+        name: &NameAt<'_>,
+        into: &mut Apart,
+    ) -> Result<(), NoMemory> {
+        into.names
+            .take_link(tree, ino, name, &mut into.inodes, &mut into.waiting)
     }
 }

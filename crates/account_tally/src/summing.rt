@@ -12,7 +12,7 @@ ghost use Rattle.records.specs.Takes.{with_accounted};
 ghost use Rattle.account_tally.specs.Kept.{chosen, summed_in};
 ghost use Rattle.account_tally.specs.Sums.{Summed, context_with, of_none, with_record};
 
-use crate::apart::Apart;
+use crate::apart::{Apart, WithTargets};
 use crate::context::ImageContext;
 use crate::shown::SectorTally;
 use accounts::{Account, Tally, finding_of, kind};
@@ -72,7 +72,7 @@ impl<'a> Accounts<'a> {
         let (alloc, tree, part) = (self.alloc, one.tree, &one.part);
         let into = &mut self.apart;
         extent_rules::post(alloc, &self.context, tree, part, into)?;
-        into.take_names(tree, part)?;
+        dir_rules::post_by(alloc, &WithTargets, tree, part, into)?;
         space_rules::post_rest(alloc, &self.context, tree, part, into)?;
         inode_rules::post_own(alloc, tree, part, into)?;
         self.rest.add_all(&mut into.waiting)?;

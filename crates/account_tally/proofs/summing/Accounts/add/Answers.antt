@@ -2,11 +2,10 @@ use Rattle.std.proofs.Common.{refl}
 use Rattle.accounts.specs.Tally.{sums_in}
 use Rattle.records.specs.InodePostings.{inode_postings}
 use Rattle.records.specs.Part.{located, part_of}
-use Rattle.name_tally.specs.Names.{led_postings}
 use Rattle.account_tally.specs.Apart.{sums_apart}
 use Rattle.account_tally.specs.Kept.{summed_in}
 use Rattle.account_tally.proofs.Decided.{one_taken}
-use Rattle.account_tally.proofs.Led.{both_total}
+use Rattle.account_tally.proofs.Led.{adds_named, both_total, led_postings}
 use Rattle.account_tally.proofs.Parts.{adds_record}
 use Rattle.account_tally.proofs.ShownSums.{on_ok_both}
 use Rattle.account_tally.proofs.summing.Accounts.add.Goals as goal
@@ -19,6 +18,6 @@ returns c =
     c.args.self.now.apart.waiting _ c.add_all.new.postings
     refl refl refl refl
     (adds_record _ _ _ _ _ _ _ _ _ _ _ _ (led_postings c.args.one.now.tree (part_of c.args.one.now.part)) _ _ (inode_postings c.args.one.now.tree (part_of c.args.one.now.part))
-    c.in_ok-post.ensures.sums c.in_ok-take_names.ensures.sums c.in_ok-post_rest.ensures.sums c.in_ok-post_own.ensures.sums
+    c.in_ok-post.ensures.sums (adds_named _ _ _ _ c.args.one.now.tree (part_of c.args.one.now.part) c.in_ok-post_by.ensures.sums) c.in_ok-post_rest.ensures.sums c.in_ok-post_own.ensures.sums
     (both_total c.args.one.now.tree (part_of c.args.one.now.part)))
     c.in_ok-add_all.ensures.sums c.in_ok-add_all.ensures.taken sectors free)
