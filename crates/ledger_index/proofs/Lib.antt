@@ -1,3 +1,4 @@
+pub mod LooksLaws
 pub mod KeptLaws
 pub mod SideLaws
 pub mod EntryLaws

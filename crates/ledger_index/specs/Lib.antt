@@ -1,4 +1,6 @@
 pub mod Sums
+pub mod Looks
+pub mod LooksLaws
 pub mod Kept
 pub mod Place
 pub mod PlaceLaws

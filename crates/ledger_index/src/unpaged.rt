@@ -12,6 +12,7 @@ ghost use Rattle.ledger_index.specs.declared.long_place.LongPlace.{LongPlace as 
 ghost use Rattle.ledger_index.specs.Beside.{AreNamed, AreOnce};
 ghost use Rattle.ledger_index.specs.Judged.{IsLeastBut, lesser_of};
 ghost use Rattle.ledger_index.specs.Link.{name_said};
+ghost use Rattle.ledger_index.specs.Looks.{counted_times};
 ghost use Rattle.ledger_index.specs.Name.{name_of};
 ghost use Rattle.ledger_index.specs.Names.{CountedIn};
 ghost use Rattle.ledger_index.specs.Singles as single;
@@ -251,6 +252,8 @@ impl Unpaged {
     pub(crate) fn least_broken<L>(&self, steps: &mut Steps<L>) -> Result<Option<Account>, NoMemory>
         ensures least { IfOk result (IsLeastBroken
             (λ account. is_broken account (sums_of self.now account))) }
+        ensures counts { OnOk result
+            (steps.new ≡ counted_times (entries_of self.now) steps.old) }
         ensures looks { steps.new ≤ steps.old + entries_of self.now }
     {
         let least = self.singles.least_broken(steps)?;
