@@ -3,16 +3,14 @@
 ghost use Rattle.std.specs.Prelude.{◌≡◌, ◌+◌, ◌≤◌, ◌++◌, ◌∷◌, List, [], Some, IfOk, OnOk};
 ghost use Rattle.indexmap.specs.IndexMap.{index_map_len};
 ghost use Rattle.recon_disk.specs.Outside.{counted};
-ghost use Rattle.ledger_index.specs.declared.kept.Kept.{Kept as AKept};
-ghost use Rattle.ledger_index.specs.Entries.{Within, by_key, by_parts, count_in, entries_in};
+ghost use Rattle.ledger_keys.specs.declared.kept.Kept.{Kept as AKept};
+ghost use Rattle.ledger_maps.specs.Entries.{Within, by_key, by_parts, count_in, entries_in};
 ghost use Rattle.ledger_index.specs.Looks.{counted_times};
 
-use crate::kept::Kept;
-use crate::part::Exact;
-use crate::seeded::Seeded;
 use crate::table::Table;
 use accounts::Account;
 use indexmap::IndexMap;
+use ledger_keys::{Exact, Kept, Seeded};
 use recon_disk::Steps;
 use verdict::NoMemory;
 

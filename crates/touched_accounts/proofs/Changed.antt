@@ -10,8 +10,8 @@ use Rattle.accounts.specs.Sums.{added, is_same, total_of}
 use Rattle.accounts.specs.Tally.{Sums}
 use Rattle.accounts.proofs.Kept.{total_joined}
 use Rattle.accounts.proofs.Same.{same_account}
-use Rattle.ledger_index.specs.PlaceLaws.{both}
-use Rattle.ledger_index.specs.Sums.{amount_to, changed, greatest, lower, raise}
+use Rattle.ledger_keys.specs.PlaceLaws.{both}
+use Rattle.ledger_keys.specs.Sums.{amount_to, changed, greatest, lower, raise}
 use Rattle.touched_accounts.specs.AddingLaws.{with_more}
 use Rattle.touched_accounts.specs.Sums.{less_all, with_all}
 

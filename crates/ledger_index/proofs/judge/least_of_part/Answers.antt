@@ -1,5 +1,5 @@
 use Rattle.std.proofs.Common.{◌≡◌, ◌++◌, ◌∙◌, ap, arith, length, subst, sym}
-use Rattle.ledger_index.specs.Entries.{by_key}
+use Rattle.ledger_maps.specs.Entries.{by_key}
 use Rattle.ledger_index.specs.Looks.{counted_times}
 use Rattle.ledger_index.proofs.LooksLaws.{look_end, look_one}
 use Rattle.ledger_index.proofs.JudgedLaws.{Found, found_all, found_within}

@@ -1,6 +1,6 @@
 use Rattle.std.proofs.Common.{◌≡◌, ◌+◌, ◌≤◌, List, ◌++◌, length}
 use Rattle.indexmap.specs.IndexMap.{index_map_len}
-use Rattle.ledger_index.specs.declared.kept.Kept.{Kept}
+use Rattle.ledger_keys.specs.declared.kept.Kept.{Kept}
 use Rattle.ledger_index.specs.Looks.{counted_times}
 use Rattle.ledger_index.proofs.JudgedLaws.{Found}
 use Rattle.ledger_index.proofs.judge.least_of_part.Given as goal

@@ -1,10 +1,10 @@
 use Rattle.std.proofs.Common.{arith, refl, sym, ⊎_elim}
 use Rattle.accounts.specs.Lent.{account_lent}
 use Rattle.ledger_index.specs.Ledger.{entries_of}
-use Rattle.ledger_index.specs.Sums.{raise}
-use Rattle.ledger_index.proofs.EntryLaws.{full_as, on_err, on_ok, raise_none}
+use Rattle.ledger_keys.specs.Sums.{raise}
+use Rattle.ledger_maps.proofs.EntryLaws.{full_as, on_err, on_ok, raise_none}
 use Rattle.ledger_index.proofs.LedgerLaws.{all_stay, apart_made, at_unpaged, is_tidy, unpaged_changed}
-use Rattle.ledger_index.proofs.LentLaws.{no_seat}
+use Rattle.ledger_keys.proofs.LentLaws.{no_seat}
 use Rattle.ledger_index.proofs.SinglesLaws.{changed_above, changed_nothing}
 use Rattle.ledger_index.proofs.ledger.LedgerIndex.add_name.Goals as goal
 

@@ -1,7 +1,7 @@
 use Rattle.std.proofs.Common.{arith, refl, sym, ⊎_elim}
 use Rattle.ledger_index.specs.Ledger.{entries_of}
-use Rattle.ledger_index.specs.Sums.{raise}
-use Rattle.ledger_index.proofs.EntryLaws.{full_as, on_err, on_ok, raise_none}
+use Rattle.ledger_keys.specs.Sums.{raise}
+use Rattle.ledger_maps.proofs.EntryLaws.{full_as, on_err, on_ok, raise_none}
 use Rattle.ledger_index.proofs.LedgerLaws.{all_stay, apart_made, at_seat, at_unpaged, is_tidy, seat_changed, unpaged_changed}
 use Rattle.ledger_index.proofs.SinglesLaws.{changed_above, changed_nothing}
 use Rattle.ledger_index.proofs.ledger.LedgerIndex.add_saturating.Goals as goal

@@ -1,12 +1,12 @@
 use Rattle.std.proofs.Common.{◌≡◌, ap, arith, length, subst, sym, ◌∙◌}
 use Rattle.std.specs.List.{IsDistinct}
 use Rattle.std.specs.Map.{keys_of}
-use Rattle.ledger_index.specs.Entries.{by_key}
+use Rattle.ledger_maps.specs.Entries.{by_key}
 use Rattle.ledger_index.specs.Judged.{IsLeastBut}
 use Rattle.ledger_index.specs.Ledger.{sums_of}
 use Rattle.ledger_index.specs.Looks.{counted_times}
-use Rattle.ledger_index.specs.Seat.{is_same_page}
-use Rattle.ledger_index.specs.SeatLaws.{page_equiv}
+use Rattle.ledger_keys.specs.Seat.{is_same_page}
+use Rattle.ledger_keys.specs.SeatLaws.{page_equiv}
 use Rattle.ledger_index.specs.Seated.{left_pages}
 use Rattle.ledger_index.proofs.JudgedLaws.{Found, found_all}
 use Rattle.ledger_index.proofs.LooksLaws.{look_end, look_one}

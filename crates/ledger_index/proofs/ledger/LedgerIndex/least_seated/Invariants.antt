@@ -2,11 +2,11 @@ use Rattle.std.proofs.Common.{◌≡◌, length}
 use Rattle.indexmap.specs.IndexMap.{index_map_len}
 use Rattle.accounts.specs.Broken.{is_broken}
 use Rattle.accounts.specs.Least.{IsLeastBroken}
-use Rattle.ledger_index.specs.Entries.{by_key}
+use Rattle.ledger_maps.specs.Entries.{by_key}
 use Rattle.ledger_index.specs.Judged.{IsLeastBut}
 use Rattle.ledger_index.specs.Ledger.{sums_of}
 use Rattle.ledger_index.specs.Looks.{counted_times}
-use Rattle.ledger_index.specs.Seat.{is_same_page}
+use Rattle.ledger_keys.specs.Seat.{is_same_page}
 use Rattle.ledger_index.specs.Seated.{left_pages}
 use Rattle.ledger_index.specs.Unpaged as unpaged
 use Rattle.ledger_index.proofs.JudgedLaws.{Found}

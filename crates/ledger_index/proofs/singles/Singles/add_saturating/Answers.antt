@@ -1,10 +1,10 @@
 use Rattle.std.proofs.Common.{ap, arith, sym, refl}
-use Rattle.ledger_index.specs.Sums.{raise}
-use Rattle.ledger_index.specs.Entries.{by_parts}
-use Rattle.ledger_index.specs.Kept.{sums_at}
+use Rattle.ledger_keys.specs.Sums.{raise}
+use Rattle.ledger_maps.specs.Entries.{by_parts}
+use Rattle.ledger_keys.specs.Kept.{sums_at}
 use Rattle.ledger_index.specs.Singles.{entries_of, short_in}
-use Rattle.ledger_index.specs.Place.{is_same_place, part_of}
-use Rattle.ledger_index.proofs.EntryLaws.{changes_after, full_as, in_err, on_err, on_ok, raise_none, stays_after}
+use Rattle.ledger_keys.specs.Place.{is_same_place, part_of}
+use Rattle.ledger_maps.proofs.EntryLaws.{changes_after, full_as, in_err, on_err, on_ok, raise_none, stays_after}
 use Rattle.ledger_index.proofs.SinglesLaws.{all_stay, at_place, short_changed}
 use Rattle.ledger_index.proofs.singles.Singles.add_saturating.Goals as goal
 

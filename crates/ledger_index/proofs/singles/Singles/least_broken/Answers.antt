@@ -1,9 +1,9 @@
 use Rattle.std.proofs.Common.{refl}
 use Rattle.ledger_index.specs.Singles.{entries_of, sums_of}
-use Rattle.ledger_index.proofs.EntryLaws.{on_ok}
+use Rattle.ledger_maps.proofs.EntryLaws.{on_ok}
 use Rattle.ledger_index.proofs.JudgedLaws.{least_of_all, least_of_none}
 use Rattle.ledger_index.proofs.LooksLaws.{look_both}
-use Rattle.ledger_index.proofs.NamesLaws.{if_ok}
+use Rattle.ledger_maps.proofs.NamesLaws.{if_ok}
 use Rattle.ledger_index.proofs.singles.Singles.least_broken.Goals as goal
 
 pub returns-clause-least : goal.returns-clause-least

@@ -1,7 +1,7 @@
 use Rattle.std.proofs.Common.{◌≡◌, [], ap, arith, length, subst, sym, ◌∙◌}
 use Rattle.std.specs.BTreeMap.{IsOrdered}
 use Rattle.accounts.specs.Order.{account_cmp}
-use Rattle.ledger_index.specs.Entries.{by_account}
+use Rattle.ledger_maps.specs.Entries.{by_account}
 use Rattle.ledger_index.specs.Judged.{IsLeastBut, is_later}
 use Rattle.ledger_index.specs.Looks.{counted_times}
 use Rattle.ledger_index.specs.Singles.{sums_of}

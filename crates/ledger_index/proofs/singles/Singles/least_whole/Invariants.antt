@@ -1,6 +1,6 @@
 use Rattle.std.proofs.Common.{◌≡◌, ◌+◌, ◌≤◌, [], length}
 use Rattle.std.specs.BTreeMap.{btree_map_len}
-use Rattle.ledger_index.specs.Entries.{by_account}
+use Rattle.ledger_maps.specs.Entries.{by_account}
 use Rattle.ledger_index.specs.Judged.{IsLeastBut, is_later}
 use Rattle.ledger_index.specs.Looks.{counted_times}
 use Rattle.ledger_index.specs.Singles.{sums_of}

@@ -1,10 +1,10 @@
 use Rattle.std.proofs.Common.{◌+◌, ◌∙◌, ap, arith, drop, subst, sym}
 use Rattle.std.specs.List.{AllByRecursion}
 use Rattle.std.proofs.lemmas.List.{drop_all}
-use Rattle.ledger_index.specs.Entries.{Within, by_key, count_in, entries_in}
+use Rattle.ledger_maps.specs.Entries.{Within, by_key, count_in, entries_in}
 use Rattle.ledger_index.specs.Looks.{counted_times}
 use Rattle.ledger_index.proofs.LooksLaws.{look_end, look_part}
-use Rattle.ledger_index.proofs.PartLaws.{drop_step, within_parts}
+use Rattle.ledger_maps.proofs.PartLaws.{drop_step, within_parts}
 use Rattle.ledger_index.proofs.table.Table.least.Goals as goal
 
 pub loop-part-init : goal.loop-part-init

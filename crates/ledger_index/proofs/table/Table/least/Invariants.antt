@@ -1,6 +1,6 @@
 use Rattle.std.proofs.Common.{◌≡◌, ◌+◌, ◌≤◌, drop}
 use Rattle.std.specs.List.{AllByRecursion}
-use Rattle.ledger_index.specs.Entries.{Within, by_key, count_in, entries_in}
+use Rattle.ledger_maps.specs.Entries.{Within, by_key, count_in, entries_in}
 use Rattle.ledger_index.specs.Looks.{counted_times}
 use Rattle.ledger_index.proofs.table.Table.least.Given as goal
 

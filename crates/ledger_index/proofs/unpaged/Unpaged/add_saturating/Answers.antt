@@ -1,9 +1,9 @@
 use Rattle.std.proofs.Common.{arith, refl, subst, sym, ap, ◌∙◌}
 use Rattle.ledger_index.specs.Added.{IsAdded}
-use Rattle.ledger_index.specs.Names.{names_in}
+use Rattle.ledger_maps.specs.Names.{names_in}
 use Rattle.ledger_index.specs.Unpaged.{entries_of}
-use Rattle.ledger_index.specs.Sums.{changed, raise}
-use Rattle.ledger_index.proofs.EntryLaws.{on_err, on_ok, raise_none}
+use Rattle.ledger_keys.specs.Sums.{changed, raise}
+use Rattle.ledger_maps.proofs.EntryLaws.{on_err, on_ok, raise_none}
 use Rattle.ledger_index.proofs.UnpagedLaws.{all_stay, full_single, named_made, once_made, to_single}
 use Rattle.ledger_index.proofs.unpaged.Unpaged.add_saturating.Goals as goal
 

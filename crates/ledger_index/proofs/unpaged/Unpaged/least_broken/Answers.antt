@@ -1,9 +1,9 @@
 use Rattle.std.proofs.Common.{arith}
 use Rattle.ledger_index.specs.Unpaged.{entries_of}
-use Rattle.ledger_index.proofs.EntryLaws.{on_ok}
+use Rattle.ledger_maps.proofs.EntryLaws.{on_ok}
 use Rattle.ledger_index.proofs.LooksLaws.{look_both}
 use Rattle.ledger_index.proofs.NamedLaws.{names_end, names_start}
-use Rattle.ledger_index.proofs.NamesLaws.{if_ok}
+use Rattle.ledger_maps.proofs.NamesLaws.{if_ok}
 use Rattle.ledger_index.proofs.unpaged.Unpaged.least_broken.Goals as goal
 
 pub returns-clause-least : goal.returns-clause-least

@@ -1,6 +1,6 @@
 use Rattle.std.proofs.Common.{sym}
 use Rattle.ledger_index.specs.Ledger.{entries_of, sums_of}
-use Rattle.ledger_index.proofs.EntryLaws.{on_ok}
+use Rattle.ledger_maps.proofs.EntryLaws.{on_ok}
 use Rattle.ledger_index.specs.LooksLaws.{counted_none}
 use Rattle.touched_accounts.proofs.Changed.{put_last}
 use Rattle.touched_accounts.proofs.Counted.{counted_next, looks_more}

@@ -1,0 +1,6 @@
+pub mod KeptLaws
+pub mod SideLaws
+pub mod PlaceLaws
+pub mod NameLaws
+pub mod LentLaws
+pub mod SeatLaws
