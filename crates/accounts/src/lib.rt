@@ -3,10 +3,12 @@
 
 mod account;
 mod context;
+pub mod kind;
 mod kinds;
 mod laws;
 mod name;
 mod postings;
+pub mod sum;
 mod tally;
 mod totals;
 
