@@ -16,7 +16,7 @@ use Rattle.ledger_maps.specs.Pages.{seats_in}
 use Rattle.ledger_keys.specs.Seat.{is_same_seat, seat_of}
 use Rattle.ledger_index.specs.Unpaged as unpaged
 use Rattle.ledger_keys.specs.Sums.{changed}
-use Rattle.ledger_maps.proofs.EntryLaws.{other_amount}
+use Rattle.ledger_keys.proofs.SumLaws.{other_amount}
 use Rattle.ledger_keys.proofs.KeptLaws.{stands_law}
 use Rattle.ledger_keys.proofs.PlaceLaws.{apart, apart'}
 use Rattle.ledger_keys.proofs.SeatLaws.{seats_alike}

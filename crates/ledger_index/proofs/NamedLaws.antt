@@ -4,6 +4,7 @@ use Rattle.std.specs.Prelude.{Option, Some, None, is_some}
 use Rattle.std.specs.Map.{lookup}
 use Rattle.std.proofs.Math.Path.{fun_ext}
 use Rattle.std.proofs.lemmas.Bool.{eq-eqb}
+use Rattle.verdict.proofs.Answers.{some_is}
 use Rattle.accounts.specs.declared.account.Account.{Account}
 use Rattle.accounts.specs.Broken.{is_broken}
 use Rattle.accounts.specs.Least.{IsLeastBroken}
@@ -29,9 +30,6 @@ use Rattle.ledger_keys.proofs.NameLaws.{of_name, small_number}
 use Rattle.ledger_maps.proofs.NamesLaws.{nothing_had}
 use Rattle.ledger_keys.proofs.SideLaws.{side_is, stands_number}
 use Rattle.ledger_index.proofs.UnpagedLaws.{at_free, at_has, at_none, rule_of}
-
-some_is : {A : Type 0} (a b : A) → Some a ≡ Some b → a ≡ b
-some_is a b is = cc is
 
 even_keeps : (x y : ℕ) → x ≡ y → not (x == y) ≡ false
 even_keeps x y is = ap not (eq-eqb x y is)

@@ -16,7 +16,7 @@ use Rattle.ledger_keys.specs.declared.long_place.LongPlace.{LongPlace}
 use Rattle.ledger_keys.specs.Place.{is_same_place, part_of, place_of}
 use Rattle.ledger_keys.specs.LongPlace.{is_same_long, long_of, part_of as long_part}
 use Rattle.ledger_index.specs.Singles.{IsTidy, entry_at, entry_of, has_entry, long_in, short_in, sums_of}
-use Rattle.ledger_maps.proofs.EntryLaws.{other_amount}
+use Rattle.ledger_keys.proofs.SumLaws.{other_amount}
 use Rattle.ledger_maps.proofs.PartLaws.{tidy_parts}
 use Rattle.ledger_keys.proofs.PlaceLaws.{apart, apart', longs_alike, places_alike}
 

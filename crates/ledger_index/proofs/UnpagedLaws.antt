@@ -26,7 +26,8 @@ use Rattle.ledger_keys.specs.Side.{first_of, has_sums, mark_of, number_of, side_
 use Rattle.ledger_index.specs.Singles as single
 use Rattle.ledger_keys.specs.Sums.{changed, greatest, lower, raise}
 use Rattle.ledger_index.specs.Unpaged.{entry_from, has_entry, sums_from, sums_of}
-use Rattle.ledger_maps.proofs.EntryLaws.{full_as, lower_none, other_amount, raise_none}
+use Rattle.ledger_keys.proofs.SumLaws.{lower_none, other_amount, raise_none}
+use Rattle.ledger_maps.proofs.EntryLaws.{full_as}
 use Rattle.ledger_keys.proofs.NameLaws.{names_alike, of_name, same_name}
 use Rattle.ledger_keys.proofs.PlaceLaws.{apart}
 use Rattle.ledger_index.proofs.SinglesLaws.{is_tidy as singles_tidy}

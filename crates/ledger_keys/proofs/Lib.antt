@@ -1,3 +1,4 @@
+pub mod SumLaws
 pub mod KeptLaws
 pub mod SideLaws
 pub mod PlaceLaws

@@ -4,6 +4,7 @@ use Rattle.std.specs.Prelude.{Option, Some, None, nat_lt}
 use Rattle.std.specs.Cmp.Lexicographic.{pointwise}
 use Rattle.std.proofs.lemmas.Bool.{eqb-true, ltb-true}
 use Rattle.std.proofs.lemmas.List.{take-append-drop}
+use Rattle.verdict.proofs.Answers.{some_is}
 use Rattle.accounts.specs.Sums.{is_same}
 use Rattle.accounts.specs.declared.account.Account.{Account}
 use Rattle.ledger_keys.specs.declared.long_place.LongPlace.{LongPlace}
@@ -17,9 +18,6 @@ use Rattle.ledger_keys.specs.Name.{account_at, behind, is_same_name, link_of, na
 use Rattle.ledger_keys.specs.PlaceLaws.{both, join, own, same_bytes}
 use Rattle.ledger_keys.specs.Side.{is_same_side, number_of}
 use Rattle.ledger_keys.proofs.PlaceLaws.{alike, of_long_place}
-
-some_is : {A : Type 0} (a b : A) → Some a ≡ Some b → a ≡ b
-some_is a b is = cc is
 
 same_side : (s t : Side) → is_same_side s t ≡ true → s ≡ t
 same_side (Entry x) (Entry y) is = ap Entry (eqb-true x y is)

@@ -2,6 +2,9 @@
 use Rattle.std.proofs.Common.{◌≡◌, ◌^◌, ◌&&◌, ◌==◌, ◌++◌, ℕ, Bool, true, false, cond, List, [], ◌∷◌, length, take, refl, ap, sym, ◌∙◌, subst, arith}
 use Rattle.std.specs.Prelude.{Option, Some, None, nat_lt}
 use Rattle.std.proofs.lemmas.Bool.{eqb-true}
+use Rattle.verdict.proofs.Truth.{both_ways}
+use Rattle.verdict.proofs.Lists.{empty_is}
+use Rattle.verdict.proofs.Answers.{some_is}
 use Rattle.accounts.proofs.Same.{same_account}
 use Rattle.accounts.specs.OrderLaws.{account_equiv}
 use Rattle.accounts.specs.Sums.{is_same}
@@ -11,19 +14,12 @@ use Rattle.ledger_keys.specs.declared.place.Place.TheVariants.{Plain, Named}
 use Rattle.ledger_keys.specs.declared.long_place.LongPlace.{LongPlace}
 use Rattle.ledger_keys.specs.LongPlace as longer
 use Rattle.ledger_keys.specs.LongPlaceLaws.{own_long, same_long}
-use Rattle.ledger_keys.specs.PlaceLaws.{both, both_ways, own_place, same_place}
+use Rattle.ledger_keys.specs.PlaceLaws.{both, own_place, same_place}
 use Rattle.ledger_keys.specs.Place.{account_of, first_or, is_same_place, named_of, padded, place_of, plain_of}
-
-empty_is : (xs : List ℕ) → length xs ≡ 0 → xs ≡ []
-empty_is [] is = refl
-empty_is (x ∷ xs) is = absurd (omega arith)
 
 front_of : (xs ys : List ℕ) → take (length xs) (xs ++ ys) ≡ xs
 front_of [] ys = refl
 front_of (x ∷ xs) ys = ap (λ zs. x ∷ zs) (front_of xs ys)
-
-some_is : {A : Type 0} (a b : A) → Some a ≡ Some b → a ≡ b
-some_is a b is = cc is
 
 plain_case : (a : Account) (p : Place) (test : Bool) → (a.detail == 0 && (length a.tail == 0 && nat_lt a.tree (2 ^ 32))) ≡ test
     → cond test (Some (Plain a.kind a.key.kind a.tree a.block a.key.objectid a.key.offset)) None ≡ Some p → account_of p ≡ a

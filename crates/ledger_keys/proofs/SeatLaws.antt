@@ -2,6 +2,8 @@
 use Rattle.std.proofs.Common.{◌≡◌, ◌+◌, ◌*◌, ◌/◌, ◌%◌, ◌<◌, ◌≤◌, ◌&&◌, ◌==◌, ℕ, Bool, true, false, cond, List, [], ◌∷◌, length, refl, ap, sym, ◌∙◌, subst, arith}
 use Rattle.std.specs.Prelude.{Option, Some, None, nat_lt}
 use Rattle.std.proofs.lemmas.Bool.{eqb-true, lt-ltb, ltb-true}
+use Rattle.verdict.proofs.Lists.{empty_is}
+use Rattle.verdict.proofs.Answers.{some_is}
 use Rattle.accounts.specs.Sums.{is_same}
 use Rattle.accounts.specs.declared.account.Account.{Account}
 use Rattle.ledger_keys.specs.declared.seat.Seat.{Seat}
@@ -19,13 +21,6 @@ same_seat s t is =
 
 pub own_seat : (s : Seat) → is_same_seat s s ≡ true
 own_seat s = join _ _ (own_page s.page) (own s.slot)
-
-empty_is : (xs : List ℕ) → length xs ≡ 0 → xs ≡ []
-empty_is [] is = refl
-empty_is (x ∷ xs) is = absurd (omega arith)
-
-some_is : {A : Type 0} (a b : A) → Some a ≡ Some b → a ≡ b
-some_is a b is = cc is
 
 kind_first : (n : ℕ) → n < 8 → kind_at n ≡ 9
 kind_first n small = ap (λ (t : Bool). cond {A = ℕ} t 9 10) (lt-ltb n 8 small)

@@ -2,11 +2,11 @@
 use Rattle.std.proofs.Common.{◌≡◌, ℕ, ◌+◌, ◌<◌, ◌≤◌, ◌==◌, ◌&&◌, Bool, true, false, cond, not, List, refl, ap, sym, ◌∙◌, subst, arith, zero, suc, slice_index, ⊎_elim}
 use Rattle.std.specs.Prelude.{None, nat_lt, replicate}
 use Rattle.std.proofs.lemmas.Bool.{cases_eq, eq-eqb, eqb-true, lt-ltb, ltb-true}
+use Rattle.verdict.proofs.Truth.{both_ways}
 use Rattle.ledger_keys.specs.declared.kept.Kept.TheVariants.{Long}
 use Rattle.ledger_keys.specs.declared.name.Side.{Side}
 use Rattle.ledger_keys.specs.declared.name.Side.TheVariants.{Entry, Link}
 use Rattle.ledger_keys.specs.Kept.{kept_sum, sums_at}
-use Rattle.ledger_keys.specs.PlaceLaws.{both_ways}
 use Rattle.ledger_keys.specs.Shifts.{Rests, Shifts}
 use Rattle.ledger_keys.specs.Side.{IsCounted, first_of, has_sums, is_same_side, mark_of, number_of, side_of}
 use Rattle.ledger_keys.specs.Sums.{amount_at, lower, raise}

@@ -2,9 +2,10 @@
 use Rattle.std.proofs.Common.{◌≡◌, ◌==◌, true, ap, sym, ◌∙◌}
 use Rattle.std.proofs.lemmas.Bool.{eqb-true}
 use Rattle.std.specs.Cmp.{IsEquivalence, IsPartialEquivalence, partial_equiv_from_equiv}
+use Rattle.verdict.proofs.Truth.{both_ways}
 use Rattle.ledger_keys.specs.declared.long_place.LongPlace.{LongPlace}
 use Rattle.ledger_keys.specs.LongPlace.{is_same_long, long_fed}
-use Rattle.ledger_keys.specs.PlaceLaws.{both, both_ways, join, own, own_bytes, same_bytes}
+use Rattle.ledger_keys.specs.PlaceLaws.{both, join, own, own_bytes, same_bytes}
 
 pub same_long : (p q : LongPlace) → is_same_long p q ≡ true → p ≡ q
 unfolding is_same_long

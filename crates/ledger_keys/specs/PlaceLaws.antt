@@ -5,6 +5,7 @@ use Rattle.std.proofs.lemmas.Bool.{eq-eqb, eqb-true}
 use Rattle.std.proofs.lemmas.Slice.Eq.{slice_eq-Decides}
 use Rattle.std.specs.Cmp.{IsEquivalence, IsPartialEquivalence, partial_equiv_from_equiv}
 use Rattle.std.specs.Cmp.Lexicographic.{pointwise}
+use Rattle.verdict.proofs.Truth.{both_ways}
 use Rattle.ledger_keys.specs.declared.place.Place.{Place}
 use Rattle.ledger_keys.specs.declared.place.Place.TheVariants.{Plain, Named}
 use Rattle.ledger_keys.specs.Place.{is_same_place, place_fed}
@@ -68,11 +69,6 @@ own_place (Plain kind sort tree block objectid offset) =
     join _ _ (own kind) (join _ _ (own sort) (join _ _ (own tree) (join _ _ (own block) (join _ _ (own objectid) (own offset)))))
 own_place (Named long kind sort tree objectid offset detail tail) =
     join _ _ (own long) (join _ _ (own kind) (join _ _ (own sort) (join _ _ (own tree) (join _ _ (own objectid) (join _ _ (own offset) (join _ _ (own detail) (own_bytes tail)))))))
-
-pub both_ways : (a b : Bool) → (a ≡ true → b ≡ true) → (b ≡ true → a ≡ true) → a ≡ b
-both_ways true b there back = sym (there refl)
-both_ways false true there back = back refl
-both_ways false false there back = refl
 
 pub place_equiv : IsEquivalence is_same_place
 place_equiv = record {

@@ -2,9 +2,10 @@
 use Rattle.std.proofs.Common.{◌≡◌, ◌==◌, true, ap, sym, ◌∙◌}
 use Rattle.std.proofs.lemmas.Bool.{eqb-true}
 use Rattle.std.specs.Cmp.{IsEquivalence, IsPartialEquivalence, partial_equiv_from_equiv}
+use Rattle.verdict.proofs.Truth.{both_ways}
 use Rattle.ledger_keys.specs.declared.seat.PageKey.{PageKey}
 use Rattle.ledger_keys.specs.Seat.{is_same_page, page_fed}
-use Rattle.ledger_keys.specs.PlaceLaws.{both, both_ways, join, own}
+use Rattle.ledger_keys.specs.PlaceLaws.{both, join, own}
 
 pub same_page : (p q : PageKey) → is_same_page p q ≡ true → p ≡ q
 unfolding is_same_page

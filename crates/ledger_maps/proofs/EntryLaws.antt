@@ -5,22 +5,12 @@ use Rattle.std.proofs.lemmas.Bool.{lt-ltb}
 use Rattle.ledger_keys.specs.declared.kept.Kept.{Kept}
 use Rattle.ledger_keys.specs.Sums.{amount_at, greatest, lower, raise}
 use Rattle.ledger_keys.specs.Kept.{IsZero, kept_sum, sums_at}
+use Rattle.ledger_keys.proofs.SumLaws.{lower_none, other_amount, raised_nothing}
 use Rattle.ledger_maps.specs.Entries.{AreTidy, Changes, Entries, Stays}
-
--- an amount of nothing changes nothing
-pub raise_none : (sum : ℕ) → raise 0 sum ≡ sum
-raise_none sum = omega arith
-
-pub lower_none : (sum : ℕ) → lower 0 sum ≡ sum
-lower_none sum = omega arith
 
 own_amount : (s a : Bool) (amount : ℕ) → s ≡ true → cond (s && a) amount 0 ≡ cond a amount 0
 own_amount true a amount is = refl
 own_amount false a amount is = absurd (cc is)
-
-pub other_amount : (s a : Bool) (amount : ℕ) → s ≡ false → ◌≡◌ {A = ℕ} (cond (s && a) amount 0) 0
-other_amount true a amount is = absurd (cc is)
-other_amount false a amount is = refl
 
 module _ {K : Type 0} (same : K → K → Bool) (one : (a b : K) → same a b ≡ true → a ≡ b) where
   module _ (how : ℕ → ℕ → ℕ) (none : (sum : ℕ) → how 0 sum ≡ sum) where
@@ -110,10 +100,6 @@ amount_stands kept field amount is small more zero =
     let e = is field ∙ ap (λ b. cond b amount 0) (at_field field small) in
     absurd (omega arith)
 
-pub on_ok : {A E P Q : Type 0} (result : Result A E) → (P → Q) → OnOk result P → OnOk result Q
-on_ok (Ok a) follows is = follows is
-on_ok (Err e) follows is = is
-
 pub in_err : {A E P : Type 0} (result : Result A E) → P → OnErr result P
 in_err (Ok a) is = tt
 in_err (Err e) is = is
@@ -121,10 +107,6 @@ in_err (Err e) is = is
 pub on_err : {A E P Q : Type 0} (result : Result A E) → (P → Q) → OnErr result P → OnErr result Q
 on_err (Ok a) follows is = is
 on_err (Err e) follows is = follows is
-
-pub raised_nothing : (b : Bool) (amount sum : ℕ) → amount < 2 ^ 64 → sum ≡ 0 → cond b amount 0 ≡ raise (cond b amount 0) sum
-raised_nothing true amount sum small zero = omega arith
-raised_nothing false amount sum small zero = omega arith
 
 -- an amount alone is what comes of adding it to nothing
 pub raised_absent : {K : Type 0} (old : Entries K) (key : K) (kept : Kept) (field amount : ℕ) → ((k : ℕ) → kept_sum kept k ≡ amount_at field amount k)

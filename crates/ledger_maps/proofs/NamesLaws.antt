@@ -17,7 +17,7 @@ use Rattle.ledger_maps.specs.Names.{AreCounted, names_by}
 use Rattle.ledger_keys.specs.Shifts.{Posted, Rests, Shifts}
 use Rattle.ledger_keys.specs.Side.{IsCounted, has_sums, is_same_side, number_of, side_of}
 use Rattle.ledger_keys.specs.Sums.{greatest, lower, raise}
-use Rattle.ledger_maps.proofs.EntryLaws.{lower_none, other_amount, raise_none}
+use Rattle.ledger_keys.proofs.SumLaws.{lower_none, other_amount, raise_none}
 use Rattle.ledger_keys.proofs.NameLaws.{same_name}
 use Rattle.ledger_maps.proofs.PartLaws.{apart_case, fit_part, here_new, here_old}
 

@@ -13,7 +13,7 @@ use Rattle.ledger_maps.specs.Pages.{ArePages, AreZero, SlotChanges, SlotsStay, s
 use Rattle.ledger_keys.specs.Seat.{is_same_page, is_same_seat}
 use Rattle.ledger_keys.specs.SeatLaws.{same_page}
 use Rattle.ledger_keys.specs.Sums.{amount_at, lower, raise}
-use Rattle.ledger_maps.proofs.EntryLaws.{lower_none, raise_none, raised_nothing}
+use Rattle.ledger_keys.proofs.SumLaws.{lower_none, raise_none, raised_nothing}
 use Rattle.ledger_maps.proofs.PartLaws.{set_apart, set_here}
 
 -- ---- the slots of a page

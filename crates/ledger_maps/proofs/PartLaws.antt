@@ -10,7 +10,7 @@ use Rattle.ledger_keys.specs.declared.kept.Kept.{Kept}
 use Rattle.ledger_keys.specs.Kept.{IsZero, sums_at}
 use Rattle.ledger_maps.specs.Entries.{AreEmpty, AreFit, AreTidy, Changes, Entries, IsFit, Stays, Within, by_key, by_parts, count_in, in_part}
 use Rattle.ledger_keys.specs.Sums.{raise}
-use Rattle.ledger_maps.proofs.EntryLaws.{other_amount, raise_none}
+use Rattle.ledger_keys.proofs.SumLaws.{other_amount, raise_none}
 
 -- ---- lists
 

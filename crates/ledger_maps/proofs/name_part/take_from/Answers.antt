@@ -8,7 +8,7 @@ use Rattle.ledger_keys.specs.LongPlaceLaws.{long_equiv, own_long}
 use Rattle.ledger_keys.specs.Shifts.{Shifts}
 use Rattle.ledger_keys.specs.Side.{IsCounted, is_same_side, side_of}
 use Rattle.ledger_keys.specs.Sums.{lower}
-use Rattle.ledger_maps.proofs.EntryLaws.{lower_none}
+use Rattle.ledger_keys.proofs.SumLaws.{lower_none}
 use Rattle.ledger_maps.proofs.NamesLaws.{counted_put, names_shift, others_put}
 use Rattle.ledger_maps.proofs.PlacedLaws.{gone_placed, kept_at, put_at}
 use Rattle.ledger_keys.proofs.SideLaws.{shifts_away}

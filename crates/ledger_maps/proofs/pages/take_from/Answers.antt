@@ -6,7 +6,7 @@ use Rattle.ledger_maps.specs.Pages.{SlotChanges, slots_of}
 use Rattle.ledger_keys.specs.Seat.{is_same_page}
 use Rattle.ledger_keys.specs.SeatLaws.{page_equiv}
 use Rattle.ledger_keys.specs.Sums.{lower}
-use Rattle.ledger_maps.proofs.EntryLaws.{lower_none}
+use Rattle.ledger_keys.proofs.SumLaws.{lower_none}
 use Rattle.ledger_maps.proofs.PagesLaws.{lowered_away, page_stands, pages_stand, seats_changed}
 use Rattle.ledger_maps.proofs.PlacedLaws.{gone_placed, kept_at, put_at}
 use Rattle.ledger_maps.proofs.pages.take_from.Goals as goal

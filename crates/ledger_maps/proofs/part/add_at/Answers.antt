@@ -5,7 +5,9 @@ use Rattle.indexmap.specs.Layout.{length-set_value_at, set_value_at}
 use Rattle.ledger_maps.specs.Entries.{by_key}
 use Rattle.ledger_keys.specs.Kept.{sums_at}
 use Rattle.ledger_keys.specs.Sums.{amount_at, raise}
-use Rattle.ledger_maps.proofs.EntryLaws.{changed_entry, full_as, on_err, on_ok, raise_none, stays_entry, tidy_raise}
+use Rattle.verdict.proofs.Answers.{ok_follows}
+use Rattle.ledger_keys.proofs.SumLaws.{raise_none}
+use Rattle.ledger_maps.proofs.EntryLaws.{changed_entry, full_as, on_err, stays_entry, tidy_raise}
 use Rattle.ledger_maps.proofs.PlacedLaws.{kept_at, put_at}
 use Rattle.ledger_maps.proofs.part.add_at.Goals as goal
 
@@ -27,7 +29,7 @@ returns-clause-ok g c =
     let had : by_key same m c.args.key.now ≡ Some c.unwrap-kept.result.now =
     kept_at same m m c.args.at c.args.key.now c.get_index_mut.result c.unwrap-kept.result refl c.requires.there
     c.unwrap-kept.ensures c.get_index_mut.ensures.value in
-    on_ok c.raise.result (λ more. changed_entry same g.met.K.Exact.exact raise raise_none (by_key same m)
+    ok_follows c.raise.result (λ more. changed_entry same g.met.K.Exact.exact raise raise_none (by_key same m)
     (by_key same (with_value_at m c.args.at c.raise.new.self)) c.args.key.now c.args.field c.args.amount (Some c.raise.new.self)
     (put_at same g.met.K.Eq.laws m c.args.at c.args.key.now c.raise.new.self c.get_index_mut.ensures.unique c.requires.there)
     (λ k. more k ∙ ap (λ o. raise (amount_at c.args.field c.args.amount k) (sums_at o k)) (sym had))) c.raise.ensures.ok

@@ -3,7 +3,8 @@ use Rattle.std.specs.Prelude.{Some, None}
 use Rattle.indexmap.specs.IndexMap.{with_value_at}
 use Rattle.ledger_maps.specs.Entries.{by_key}
 use Rattle.ledger_keys.specs.Sums.{lower}
-use Rattle.ledger_maps.proofs.EntryLaws.{changed_entry, lower_none, lowered_away, lowered_had, tidy_entry, tidy_put}
+use Rattle.ledger_keys.proofs.SumLaws.{lower_none}
+use Rattle.ledger_maps.proofs.EntryLaws.{changed_entry, lowered_away, lowered_had, tidy_entry, tidy_put}
 use Rattle.ledger_maps.proofs.PlacedLaws.{gone_placed, kept_at, put_at}
 use Rattle.ledger_maps.proofs.part.take_at.Goals as goal
 

@@ -1,6 +1,6 @@
 use Rattle.std.proofs.Common.{refl}
 use Rattle.ledger_index.specs.Singles.{entries_of, sums_of}
-use Rattle.ledger_maps.proofs.EntryLaws.{on_ok}
+use Rattle.verdict.proofs.Answers.{ok_follows}
 use Rattle.ledger_index.proofs.JudgedLaws.{least_of_all, least_of_none}
 use Rattle.ledger_index.proofs.LooksLaws.{look_both}
 use Rattle.ledger_maps.proofs.NamesLaws.{if_ok}
@@ -16,7 +16,7 @@ returns-clause-least g c =
 pub returns-clause-counts : goal.returns-clause-counts
 unfolding entries_of
 returns-clause-counts g c =
-    on_ok c.least_whole.result
+    ok_follows c.least_whole.result
     (λ rest. look_both _ _ _ c.args.steps.now c.least.new.steps c.least_whole.new.steps refl c.in_ok-least.ensures.counts
     (look_both _ _ _ c.least.new.steps c.least-2.new.steps c.least_whole.new.steps refl c.in_ok-least-2.ensures.counts rest))
     c.least_whole.ensures.counts

@@ -1,6 +1,6 @@
 use Rattle.std.proofs.Common.{arith}
 use Rattle.ledger_index.specs.Unpaged.{entries_of}
-use Rattle.ledger_maps.proofs.EntryLaws.{on_ok}
+use Rattle.verdict.proofs.Answers.{ok_follows}
 use Rattle.ledger_index.proofs.LooksLaws.{look_both}
 use Rattle.ledger_index.proofs.NamedLaws.{names_end, names_start}
 use Rattle.ledger_maps.proofs.NamesLaws.{if_ok}
@@ -15,6 +15,6 @@ returns-clause-least g c =
 pub returns-clause-counts : goal.returns-clause-counts
 unfolding entries_of
 returns-clause-counts g c =
-    on_ok c.least.result
+    ok_follows c.least.result
     (λ names. look_both _ _ _ c.args.steps.now c.least_broken.new.steps c.least.new.steps (omega arith) c.in_ok-least.ensures.counts names)
     c.least.ensures.counts

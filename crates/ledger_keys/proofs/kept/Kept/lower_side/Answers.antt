@@ -1,7 +1,7 @@
 use Rattle.std.proofs.Common.{⊎_elim, ◌+◌, ap, ◌∙◌}
 use Rattle.ledger_keys.specs.Kept.{kept_sum}
 use Rattle.ledger_keys.specs.Sums.{amount_at, lower}
-use Rattle.ledger_maps.proofs.EntryLaws.{lower_none}
+use Rattle.ledger_keys.proofs.SumLaws.{lower_none}
 use Rattle.ledger_keys.proofs.SideLaws.{shifts, stands_by}
 use Rattle.ledger_keys.proofs.kept.Kept.lower_side.Goals as goal
 

@@ -2,7 +2,7 @@ use Rattle.std.proofs.Common.{refl, ap, sym, ◌∙◌, ◌==◌, ◌&&◌}
 use Rattle.std.specs.Prelude.{nat_lt}
 use Rattle.ledger_keys.specs.Kept.{kept_sum}
 use Rattle.ledger_keys.specs.Sums.{amount_at}
-use Rattle.ledger_maps.proofs.EntryLaws.{raised_nothing}
+use Rattle.ledger_keys.proofs.SumLaws.{raised_nothing}
 use Rattle.ledger_keys.proofs.KeptLaws.{none_by}
 use Rattle.ledger_keys.proofs.kept.Kept.one.Goals as goal
 

@@ -8,7 +8,9 @@ use Rattle.ledger_maps.specs.Pages.{SlotChanges, SlotsStay, slots_of}
 use Rattle.ledger_keys.specs.Seat.{is_same_page}
 use Rattle.ledger_keys.specs.SeatLaws.{own_page, page_equiv}
 use Rattle.ledger_keys.specs.Sums.{raise}
-use Rattle.ledger_maps.proofs.EntryLaws.{full_as, on_err, on_ok, raise_none}
+use Rattle.verdict.proofs.Answers.{ok_follows}
+use Rattle.ledger_keys.proofs.SumLaws.{raise_none}
+use Rattle.ledger_maps.proofs.EntryLaws.{full_as, on_err}
 use Rattle.ledger_maps.proofs.PagesLaws.{made_stands, page_stands, seats_changed, seats_stay}
 use Rattle.ledger_maps.proofs.PlacedLaws.{kept_at, put_at}
 use Rattle.ledger_maps.proofs.pages.Pages.add_at.Goals as goal
@@ -32,7 +34,7 @@ returns-clause-ok c =
     let put = put_at is_same_page page_equiv m c.args.at key c.raise.new.self c.get_index_mut.ensures.unique c.requires.there in
     let had : by_key is_same_page m key ≡ Some c.unwrap-page.result.now = kept_at is_same_page m m c.args.at key c.get_index_mut.result c.unwrap-page.result refl c.requires.there
     c.unwrap-page.ensures c.get_index_mut.ensures.value in
-    on_ok c.raise.result (λ more. seats_changed (by_key is_same_page m) (by_key is_same_page (with_value_at m c.args.at c.raise.new.self)) key (Some c.raise.new.self) put raise raise_none
+    ok_follows c.raise.result (λ more. seats_changed (by_key is_same_page m) (by_key is_same_page (with_value_at m c.args.at c.raise.new.self)) key (Some c.raise.new.self) put raise raise_none
     c.args.seat.now.slot c.args.field c.args.amount
     (subst (λ o. SlotChanges raise (slots_of o) c.raise.new.self.slots.items c.args.seat.now.slot c.args.field c.args.amount) (sym had) more)) c.raise.ensures.ok
 

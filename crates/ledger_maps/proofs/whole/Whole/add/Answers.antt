@@ -7,7 +7,9 @@ use Rattle.accounts.specs.Sums.{is_same}
 use Rattle.ledger_maps.specs.Entries.{by_account}
 use Rattle.ledger_keys.specs.Kept.{sums_at}
 use Rattle.ledger_keys.specs.Sums.{amount_at, raise}
-use Rattle.ledger_maps.proofs.EntryLaws.{amount_stands, changed_entry, on_err, on_ok, raise_none, raised_absent, stays_entry, tidy_insert, tidy_raise}
+use Rattle.verdict.proofs.Answers.{ok_follows}
+use Rattle.ledger_keys.proofs.SumLaws.{raise_none}
+use Rattle.ledger_maps.proofs.EntryLaws.{amount_stands, changed_entry, on_err, raised_absent, stays_entry, tidy_insert, tidy_raise}
 use Rattle.ledger_maps.proofs.whole.Whole.add.Goals as goal
 
 -- what stood there was raised
@@ -20,7 +22,7 @@ invariant_of-self c = record {
 
 pub returns-in-Some-clause-ok : goal.returns-in-Some-clause-ok
 returns-in-Some-clause-ok c =
-    on_ok c.raise.result (λ more. changed_entry is_same same_account raise raise_none (by_account c.args.self.now.entries)
+    ok_follows c.raise.result (λ more. changed_entry is_same same_account raise raise_none (by_account c.args.self.now.entries)
     (by_account (c.get_mut.follows.lender c.raise.new.self)) c.args.account.now c.args.field c.args.amount (Some c.raise.new.self)
     (λ q. grind (arith, common_steps))
     (λ k. more k ∙ ap (λ o. raise (amount_at c.args.field c.args.amount k) (sums_at o k)) c.in-Some.ensures.value)) c.raise.ensures.ok

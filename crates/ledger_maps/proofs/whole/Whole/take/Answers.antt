@@ -6,7 +6,8 @@ use Rattle.accounts.specs.Sums.{is_same}
 use Rattle.ledger_maps.specs.Entries.{by_account}
 use Rattle.ledger_keys.specs.Kept.{sums_at}
 use Rattle.ledger_keys.specs.Sums.{amount_at, lower}
-use Rattle.ledger_maps.proofs.EntryLaws.{changed_entry, lower_none, lowered_absent, tidy_entry, tidy_put}
+use Rattle.ledger_keys.proofs.SumLaws.{lower_none}
+use Rattle.ledger_maps.proofs.EntryLaws.{changed_entry, lowered_absent, tidy_entry, tidy_put}
 use Rattle.ledger_maps.proofs.whole.Whole.take.Goals as goal
 
 pub returns-in_default : goal.returns-in_default
