@@ -3,7 +3,7 @@
 ghost use Rattle.std.specs.Prelude.{◌≡◌, [], ◌∷◌, ◌++◌, IfOk, IfSome, OnOk};
 ghost use Rattle.recon_disk.specs.Keeping.{Kept};
 ghost use Rattle.block_source.specs.Gives.{is_disk_halt};
-ghost use Rattle.shared_trees.specs.Shared.{are_read_alike};
+ghost use Rattle.tree_laws.specs.Shared.{are_read_alike};
 ghost use Rattle.super_reader.specs.declared.Super.{Super as ASuper};
 ghost use Rattle.change_records.specs.Changes.{Ascend};
 ghost use Rattle.commit_laws.specs.Commit.{AreTheAffected};
@@ -39,7 +39,7 @@ pub(crate) struct Plan {
 }
 
 /// What the pending writes change of the image that an index stands for, or the first finding of what the judged image holds. Of the
-/// blocks that the two images do not share the old ones are read once, and of the new ones each copy that the pending writes do not cover.
+/// blocks that the two images do not share, there is at most one read of the disk for each old one, and two for each new one.
 pub(crate) fn plan_of<D: Disk, L>(
     alloc: Global,
     disk: &mut D,

@@ -132,47 +132,6 @@ fn the_pieces_are_the_maximal_runs(rt: HostRuntime) -> Result<(), NoMemory> {
     Ok(())
 }
 
-// Whether a write that is taken makes the pieces `after`, and one that is refused leaves those before.
-fn takes_or_leaves(
-    rt: &impl Abort,
-    alloc: Global,
-    before: &[Part],
-    write: Part,
-    after: &[Part],
-    own: bool,
-) -> Result<bool, NoMemory> {
-    let mut cache = put_all(rt, alloc, before, own)?;
-    let taken = put(rt, alloc, &mut cache, write, own).is_ok();
-    has_pieces(&mut cache, if taken { after } else { before })
-}
-
-#[test]
-fn a_refused_write_leaves_what_waits(rt: HostRuntime) -> Result<(), NoMemory> {
-    let before: &[Part] = &[(10, &[1, 2, 3]), (20, &[4, 5, 6])];
-    let rows: [(Part, &[Part]); 5] = [
-        (
-            (30, &[7]),
-            &[(10, &[1, 2, 3]), (20, &[4, 5, 6]), (30, &[7])],
-        ),
-        ((18, &[7; 3]), &[(10, &[1, 2, 3]), (18, &[7, 7, 7, 5, 6])]),
-        ((12, &[7; 3]), &[(10, &[1, 2, 7, 7, 7]), (20, &[4, 5, 6])]),
-        (
-            (12, &[7; 9]),
-            &[(10, &[1, 2, 7, 7, 7, 7, 7, 7, 7, 7, 7, 5, 6])],
-        ),
-        ((11, &[7]), &[(10, &[1, 7, 3]), (20, &[4, 5, 6])]),
-    ];
-    for (write, after) in rows {
-        for own in [false, true] {
-            // The allocation that fails may be one of the test's own.
-            if let Ok(good) = takes_or_leaves(&rt, rt.alloc(), before, write, after, own) {
-                assert!(rt; good, "at {}, own bytes: {own}", write.0);
-            }
-        }
-    }
-    Ok(())
-}
-
 #[test]
 fn what_waits_is_read_by_ranges(rt: HostRuntime) -> Result<(), NoMemory> {
     let puts: &[Part] = &[(10, &[1, 2, 3, 4]), (12, &[8, 9, 9, 9]), (20, &[7])];

@@ -1,11 +1,12 @@
 //! The cache of the pending writes.
 
-ghost use Rattle.std.specs.Prelude.{◌≡◌, ℕ, ◌+◌, ◌≤◌, ◌<◌, ◌^◌, ◌↔◌, List, length, IfSome, OnOk, OnErr, IsTrue, IsSome};
+ghost use Rattle.std.specs.Prelude.{◌≡◌, ℕ, ◌+◌, ◌≤◌, ◌<◌, ◌^◌, ◌↔◌, List, length, IfOk, IfSome, OnOk, OnErr, IsTrue, IsSome};
 ghost use Rattle.std.specs.FinMap as map;
 ghost use Rattle.write_cache.specs.Cache.{with_bytes, overlaid};
 ghost use Rattle.write_cache.specs.Lent.{pieces_left};
-ghost use Rattle.write_cache.specs.Pieces.{ArePartsOf, ArePiecesOf};
+ghost use Rattle.write_cache.specs.Pieces.{ArePartsOf};
 
+use crate::joined::Joined;
 use crate::pieces::Pieces;
 use crate::run::overwrite;
 use crate::runs::{Runs, join_all, last_from, put_copy, put_own};
@@ -46,6 +47,9 @@ impl Model for WriteCache {
 }
 
 impl WriteCache {
+    ghost use Rattle.std.specs.Borrow.{sem};
+    ghost use Rattle.write_cache.specs.Lending.{StaysAsItWas};
+
     /// A cache in which nothing waits. It takes its memory from this allocator.
     #[tactic(auto, using(crate::proofs::RunLaws::no_runs))]
     pub fn new(alloc: Global) -> WriteCache
@@ -172,27 +176,23 @@ impl WriteCache {
         self.joined = true;
     }
 
-    /// Joins the runs that touch, as far as memory suffices. A byte is moved a few times in all, however
-    /// the writes came.
-    pub fn join(&mut self)
-        ensures { self.new ≡ self.old }
+    /// Joins the runs that touch, and lends the cache as one in which no two do. A byte is moved a few times in
+    /// all, however the writes came. Out of memory, what waits stays.
+    pub fn join(&mut self) -> Result<Joined<'_>, NoMemory>
+        ensures* stays { sem 𝓛 (StaysAsItWas self.entry) }
+        ensures lent { IfOk result (λ joined. joined.cache.now ≡ self.old) }
     {
         if !self.joined && join_all(&mut self.runs, self.alloc).is_ok() {
             self.joined = true;
         }
-    }
-
-    /// The pieces: the maximal runs of offsets at which a byte is pending, in rising order, each in one
-    /// buffer. `None` where some runs may touch: a write came after the last `join`, or it was out
-    /// of memory for that.
-    pub fn pieces(&self) -> Option<Pieces<'_>>
-        ensures { IfSome result (λ pieces. ArePiecesOf self.now (pieces_left pieces)) }
-    {
-        if self.joined {
-            Some(Pieces::new(self.runs.iter()))
-        } else {
-            None
+        let cache: &WriteCache = self;
+        if !cache.joined {
+            return Err(NoMemory);
         }
+        Ok(Joined {
+            cache,
+            runs: &cache.runs,
+        })
     }
 
     /// The bytes of all pending writes, in disjoint runs in rising order, of which some may touch.

@@ -3,9 +3,11 @@
 #![tactic(auto)]
 
 mod cache;
+mod joined;
 mod pieces;
 mod run;
 mod runs;
 
 pub use cache::WriteCache;
+pub use joined::Joined;
 pub use pieces::Pieces;
