@@ -19,7 +19,7 @@ use Rattle.accounts.specs.Context.{Context}
 use Rattle.extent_items.specs.ExtentRow.{ExtentFields}
 use Rattle.fs_items.specs.declared.file_extent.FileExtent.{FileExtent}
 use Rattle.live_index.specs.Pairs.{Pairs}
-use Rattle.records.specs.declared.owned.ItemAt.{ItemAt}
+use Rattle.records.specs.declared.rec.ItemAt.{ItemAt}
 use Rattle.records.specs.Part.{Located, Part}
 use Rattle.records.specs.Part.Part.{RootPart, LinkPart, DevicePart, ChunkPart, DevExtentPart, ExtentPart, KeyedPart, GroupPart, InodePart, NamesPart, XattrPart, OrphanPart, EntriesPart, FileExtentPart, SumsPart, UnreadPart, SuperPart, BlockPart}
 use Rattle.records.specs.SpacePostings.{is_data}

@@ -25,7 +25,7 @@ use Rattle.std.proofs.lemmas.List.Quantifiers.{all_pairs_push}
 use Rattle.std.proofs.lemmas.List.Elements.{Contains-append_left, Contains-push_cases}
 use Rattle.verdict.proofs.Answers.{ok_follows}
 use Rattle.verdict.proofs.Truth.{then_tied, and_alike as both, or_swapped}
-use Rattle.records.specs.declared.owned.ItemAt.{ItemAt}
+use Rattle.records.specs.declared.rec.ItemAt.{ItemAt}
 use Rattle.change_records.specs.declared.changes.ItemChange.{ItemChange}
 use Rattle.change_records.specs.declared.changes.ItemChange.TheVariants.{Altered}
 use Rattle.change_records.specs.declared.kept.Made.{Made}

@@ -8,8 +8,8 @@ use Rattle.std.proofs.lemmas.Bool.{cases_lt}
 use Rattle.std.proofs.lemmas.List.Elements.{Contains-append_cases, Contains-append_left, Contains-append_right, Contains-get_or, Contains-push, Contains-push_cases, filter_map-append}
 use Rattle.std.proofs.lemmas.List.Quantifiers.{all_pairs_push}
 use Rattle.std.proofs.lemmas.Option.{slice_get_within, slice_get-get_or}
-use Rattle.records.specs.Owned.{owned_part}
-use Rattle.records.specs.declared.owned.ItemAt.{ItemAt}
+use Rattle.records.specs.Part.{owned_part}
+use Rattle.records.specs.declared.rec.ItemAt.{ItemAt}
 use Rattle.change_records.specs.declared.changes.ItemChange.{ItemChange}
 use Rattle.change_records.specs.declared.changes.ItemChange.TheVariants.{Added, Removed, Altered}
 use Rattle.change_records.specs.Changes.{Ascend, AreChanges, HasNone, HaveOneKey, IsChange, is_before, item_of}

@@ -14,7 +14,7 @@ use Rattle.change_records.specs.declared.changes.ItemChange.TheVariants.{Added, 
 use Rattle.change_records.proofs.Merge.{contains_first, contains_more}
 use Rattle.live_index.specs.declared.live.Live.{Live}
 use Rattle.records.specs.Part.{Located}
-use Rattle.records.specs.declared.owned.ItemAt.{ItemAt}
+use Rattle.records.specs.declared.rec.ItemAt.{ItemAt}
 use Rattle.span_index.specs.declared.span.Span.{Span}
 use Rattle.super_reader.specs.declared.Super.{Super}
 use Rattle.tree_change.specs.Gathered.{located_item}

@@ -5,7 +5,7 @@ use Rattle.accounts.specs.Least.{is_broken_by}
 use Rattle.accounts.specs.declared.account.Account.{Account}
 use Rattle.records.specs.Context.{context_of, has_sum_free}
 use Rattle.records.specs.Postings.{account_fault, all_postings}
-use Rattle.shared_trees.specs.LivePairs.{Walked, live_in, table_of, walked}
+use Rattle.tree_laws.specs.LivePairs.{Walked, live_in, table_of, walked}
 use Rattle.span_index.specs.Sectors.{times_of_span}
 use Rattle.volume_items.specs.declared.root.RootItem.{RootItem}
 use Rattle.commit_laws.specs.Commit.{IsKnown, Known, context_by}

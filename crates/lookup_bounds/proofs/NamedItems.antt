@@ -18,7 +18,7 @@ use Rattle.records.specs.Contents.{super_record}
 use Rattle.records.specs.Part.{Located, Part}
 use Rattle.records.specs.Part.Part.{ExtentPart, FileExtentPart, SumsPart}
 use Rattle.records.specs.SpacePostings.{is_data, space_postings}
-use Rattle.records.specs.declared.owned.ItemAt.{ItemAt}
+use Rattle.records.specs.declared.rec.ItemAt.{ItemAt}
 use Rattle.change_records.specs.Affected.{NamesIn}
 use Rattle.change_records.specs.Refs.{ref_to}
 use Rattle.change_records.specs.Search.{SortNames, SpanNames}

@@ -10,9 +10,9 @@ use Rattle.change_records.specs.declared.changes.ItemChange.{ItemChange}
 use Rattle.change_records.specs.declared.item_ref.ItemRef.{ItemRef}
 use Rattle.live_index.specs.declared.live.Live.{Live}
 use Rattle.records.specs.Contents.{super_record}
-use Rattle.records.specs.Owned.{owned_part}
+use Rattle.records.specs.Part.{owned_part}
 use Rattle.records.specs.Part.{Located, Part}
-use Rattle.records.specs.declared.owned.ItemAt.{ItemAt}
+use Rattle.records.specs.declared.rec.ItemAt.{ItemAt}
 use Rattle.super_reader.specs.declared.Super.{Super}
 use Rattle.tree_change.specs.Gathered.{located_item}
 use Rattle.commit_laws.specs.Kept.{placed_postings}

@@ -2,7 +2,7 @@
 use Rattle.std.proofs.Common.{◌≡◌, zero, suc, get_or, true, ◌⊎◌, inl, inr, List, [], ◌∷◌, map, refl, sym, ◌∙◌, subst, arith}
 use Rattle.std.specs.List.{AllPairs, Contains}
 use Rattle.std.proofs.lemmas.List.Elements.{Contains-append_cases, Contains-get_or, Contains-push_cases}
-use Rattle.records.specs.declared.owned.ItemAt.{ItemAt}
+use Rattle.records.specs.declared.rec.ItemAt.{ItemAt}
 use Rattle.change_records.specs.Changes.{Ascend, HaveOneKey, is_before}
 use Rattle.change_records.proofs.Merge.{contains_first, contains_more, contains_none, only_one}
 use Rattle.change_records.proofs.Order.{before_apart, before_irrefl, before_trans, like_right, one_key_back}

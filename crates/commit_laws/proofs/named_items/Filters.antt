@@ -2,7 +2,7 @@
 use Rattle.std.proofs.Common.{◌≡◌, Bool, true, false, cond, ◌⊎◌, inl, inr, List, [], ◌∷◌, map, refl, sym, ap, subst}
 use Rattle.std.specs.Prelude.{Option, Some, None}
 use Rattle.std.specs.List.{AllPairs, Contains, cons_option, filter, filter_map}
-use Rattle.records.specs.declared.owned.ItemAt.{ItemAt}
+use Rattle.records.specs.declared.rec.ItemAt.{ItemAt}
 use Rattle.change_records.specs.Changes.{Ascend, HaveOneKey, is_before}
 use Rattle.change_records.proofs.Merge.{contains_first, contains_more, contains_none, from_one}
 use Rattle.change_records.proofs.Order.{like_left, like_right, one_key_back}

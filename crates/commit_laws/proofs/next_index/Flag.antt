@@ -13,10 +13,10 @@ use Rattle.verdict.specs.OnDisk.{key_below}
 use Rattle.verdict.specs.declared.key.Key.{Key}
 use Rattle.verdict.specs.declared.kinds.TheConstants.{INODE_ITEM}
 use Rattle.records.specs.Context.{has_sum_free, is_inode, nodatasum, sum_free_inode, sum_free_part}
-use Rattle.records.specs.Owned.{owned_part}
+use Rattle.records.specs.Part.{owned_part}
 use Rattle.records.specs.Part.{FitsPlace, Located, Part}
 use Rattle.records.specs.Part.Part.{InodePart}
-use Rattle.records.specs.declared.owned.ItemAt.{ItemAt}
+use Rattle.records.specs.declared.rec.ItemAt.{ItemAt}
 use Rattle.change_records.specs.Changes.{Ascend, IsChange, is_before, item_of}
 use Rattle.change_records.specs.Spans.{StandApart}
 use Rattle.change_records.specs.SumFree.{flag_after, flag_at, flag_in, sum_free_after, without_flag}

@@ -12,7 +12,7 @@ use Rattle.live_index.proofs.PlaceLaws.{same_name}
 use Rattle.verdict.proofs.Truth.{and_parts}
 use Rattle.verdict.specs.OnDisk.{key_same}
 use Rattle.records.specs.Part.{Located}
-use Rattle.records.specs.declared.owned.ItemAt.{ItemAt}
+use Rattle.records.specs.declared.rec.ItemAt.{ItemAt}
 use Rattle.change_records.specs.Refs.{is_named, names, stands_at}
 use Rattle.change_records.specs.Spans.{StandApart}
 use Rattle.change_records.specs.declared.changes.ItemChange.{ItemChange}
