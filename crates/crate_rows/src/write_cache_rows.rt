@@ -85,17 +85,18 @@ fn put_all(
 fn has_pieces(cache: &mut WriteCache, wanted: &[Part]) -> Result<bool, NoMemory> {
     let in_parts = sum_of(cache.parts());
     let joined = cache.join()?;
-    if sum_of(joined.cache.parts()) != in_parts {
-        return Ok(false);
-    }
-    let mut left = joined.pieces();
+    Ok(sum_of(joined.cache.parts()) == in_parts && are_pieces(joined.pieces(), wanted))
+}
+
+// Whether what is left is these pieces.
+fn are_pieces(mut left: Pieces<'_>, wanted: &[Part]) -> bool {
     for (at, bytes) in wanted {
         match left.next() {
             Some((begin, held)) if begin == *at && held == *bytes => {}
-            _ => return Ok(false),
+            _ => return false,
         }
     }
-    Ok(left.next().is_none())
+    left.next().is_none()
 }
 
 // How many bytes are lent, and the sum of them with their places.
@@ -205,12 +206,9 @@ fn a_range_in_one_run_is_lent(rt: HostRuntime) -> Result<(), NoMemory> {
     for (at, len, wanted) in rows {
         assert_eq!(rt; cache.lend(at, len), wanted, "{len} bytes at {at}");
     }
-    let joined = cache.join()?;
-    assert_eq!(rt;
-        joined.cache.lend(10, 7),
-        Some([1, 2, 3, 4, 9, 6, 7].as_slice())
-    );
-    assert_eq!(rt; joined.cache.lend(13, 2), Some([4, 9].as_slice()));
-    assert_eq!(rt; joined.cache.lend(13, 5), None);
+    let joined = cache.join()?.cache;
+    assert_eq!(rt; joined.lend(10, 7), Some([1, 2, 3, 4, 9, 6, 7].as_slice()));
+    assert_eq!(rt; joined.lend(13, 2), Some([4, 9].as_slice()));
+    assert_eq!(rt; joined.lend(13, 5), None);
     Ok(())
 }
