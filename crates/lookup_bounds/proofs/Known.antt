@@ -13,7 +13,8 @@ use Rattle.commit_laws.specs.Same.{HeldLaw, records_of}
 use Rattle.commit_laws.specs.Steps.{spans_of}
 use Rattle.commit_laws.proofs.whole_commits.Commit.{known_same}
 use Rattle.commit_laws.proofs.whole_commits.Step.{known_at}
-use Rattle.commit_laws.proofs.whole_commits.Commit.{full_of, no_fault, none_broken, same_fault}
+use Rattle.commit_laws.proofs.accepted.Blocks.{no_fault, none_broken}
+use Rattle.commit_laws.proofs.whole_commits.Commit.{full_of, same_fault}
 use Rattle.lookup_bounds.specs.Work.{context_in}
 
 -- What is known of an image is what its walks come to, and no account of it is broken.

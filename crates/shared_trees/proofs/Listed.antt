@@ -18,7 +18,7 @@ use Rattle.verdict.proofs.Answers.{ok_follows}
 use Rattle.verdict.proofs.Lists.{all_map}
 use Rattle.verdict.proofs.Numbers.{itself}
 use Rattle.shared_trees.specs.declared.starts.Listed.{Listed}
-use Rattle.tree_laws.specs.declared.kept.Start.{Start}
+use Rattle.tree_laws.specs.declared.told.Start.{Start}
 use Rattle.tree_laws.specs.Keeping.{Marks, Under}
 use Rattle.tree_laws.specs.Listed.{AreChildren, AreListedBy, Ascend, IsChild, is_at, is_before}
 use Rattle.tree_laws.proofs.Ordering.{before_trans, same_place}

@@ -26,7 +26,7 @@ use Rattle.tree_laws.specs.MergedLaw.{AreRead, begins_before, chunks_seen, items
 use Rattle.tree_laws.specs.OldSide.{kept_where}
 use Rattle.tree_laws.specs.Skips.{Kept, nothing, unkept}
 use Rattle.tree_laws.specs.Unshared.{AreOfPairs, is_block_seen, pair_seen}
-use Rattle.tree_laws.specs.declared.kept.Ended.{Ended}
+use Rattle.tree_laws.specs.declared.told.Ended.{Ended}
 use Rattle.tree_laws.proofs.Lives.{NoBlocks, entries_none, lives_are}
 use Rattle.tree_laws.proofs.Merged.{read_of, walks_of}
 use Rattle.tree_laws.proofs.MergedLists.{chunks_merge, roots_merge}

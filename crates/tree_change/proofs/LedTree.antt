@@ -30,7 +30,7 @@ use Rattle.tree_laws.specs.Skips.{Kept}
 use Rattle.tree_laws.specs.Stops.{is_stop}
 use Rattle.tree_laws.specs.TableLaw.{Tree}
 use Rattle.tree_laws.specs.VisitsLaw.{AreAtRest, IsLed}
-use Rattle.tree_laws.specs.declared.kept.Start.{Start}
+use Rattle.tree_laws.specs.declared.told.Start.{Start}
 use Rattle.tree_laws.proofs.Forest.{stands_as}
 use Rattle.tree_laws.proofs.Leading.{IsAtRest}
 use Rattle.tree_laws.proofs.Picking.{each_both}

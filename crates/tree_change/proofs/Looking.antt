@@ -30,7 +30,7 @@ use Rattle.tree_laws.specs.Skips.{Anew}
 use Rattle.tree_laws.specs.Stopping.{kept_among}
 use Rattle.tree_laws.specs.Stops.{is_stop}
 use Rattle.tree_laws.specs.Visits.{LooksFew, visits_in}
-use Rattle.tree_laws.specs.declared.kept.Met.{Met}
+use Rattle.tree_laws.specs.declared.told.Met.{Met}
 use Rattle.tree_change.specs.AllTrees.{has_id, named_at, root_named}
 use Rattle.tree_change.specs.Firsts.{first_copies}
 use Rattle.tree_change.specs.Gathered.{Gathers, blocks_seen}

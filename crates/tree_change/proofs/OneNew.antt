@@ -31,7 +31,7 @@ use Rattle.tree_laws.specs.SkipLaw.{IsSound}
 use Rattle.tree_laws.specs.Skips.{Anew, Kept, is_below, nothing, skip_of, unkept}
 use Rattle.tree_laws.specs.Stops.{stops_of}
 use Rattle.tree_laws.specs.Unshared.{AreOfPairs, pair_seen}
-use Rattle.tree_laws.specs.declared.kept.Ended.{Ended}
+use Rattle.tree_laws.specs.declared.told.Ended.{Ended}
 use Rattle.tree_laws.proofs.Forest.{tree_table}
 use Rattle.tree_laws.proofs.MeetingStops.{meets, no_walk}
 use Rattle.tree_laws.proofs.OldBlocks.{unshared_are}

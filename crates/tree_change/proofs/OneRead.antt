@@ -25,7 +25,7 @@ use Rattle.tree_laws.specs.Shared.{are_read_alike}
 use Rattle.tree_laws.specs.SharedLaw.{HasTrees}
 use Rattle.tree_laws.specs.Skips.{Anew, Kept, is_below}
 use Rattle.tree_laws.specs.TableLaw.{Tree}
-use Rattle.tree_laws.specs.declared.kept.Start.{Start}
+use Rattle.tree_laws.specs.declared.told.Start.{Start}
 use Rattle.tree_change.specs.Firsts.{first_copies}
 use Rattle.tree_change.specs.Gathered.{Gathers}
 use Rattle.tree_change.specs.Looks.{met_by}

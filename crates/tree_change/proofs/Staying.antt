@@ -27,7 +27,7 @@ use Rattle.tree_laws.specs.Meeting.{met_below, met_in, met_of, met_or}
 use Rattle.tree_laws.specs.OldSide.{kept_at}
 use Rattle.tree_laws.specs.Skips.{Anew, Kept, is_below, next_of, nothing, skip_below, skip_of, skip_or}
 use Rattle.tree_laws.specs.TableLaw.{Tree}
-use Rattle.tree_laws.specs.declared.kept.Ended.{Ended}
+use Rattle.tree_laws.specs.declared.told.Ended.{Ended}
 use Rattle.tree_change.specs.Firsts.{first_copies}
 use Rattle.tree_change.specs.AllTrees.{has_id, named_at, no_parts, root_named}
 use Rattle.tree_change.specs.Making.{is_side, named_parts_in, parts_in, was_side}

@@ -38,7 +38,7 @@ use Rattle.tree_laws.specs.Skips.{Anew}
 use Rattle.tree_laws.specs.Stopping.{kept_among}
 use Rattle.tree_laws.specs.Stops.{is_stop}
 use Rattle.tree_laws.specs.Unshared.{is_block_seen}
-use Rattle.tree_laws.specs.declared.kept.Ended.{Ended}
+use Rattle.tree_laws.specs.declared.told.Ended.{Ended}
 use Rattle.tree_laws.proofs.Stopping.{stopped}
 use Rattle.tree_laws.proofs.OldBlocks.{reads_twice}
 use Rattle.tree_change.specs.Firsts.{first_copies, first_copy}

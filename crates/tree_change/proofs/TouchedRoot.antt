@@ -15,7 +15,7 @@ use Rattle.tree_laws.specs.SharedLaw.{HasTrees}
 use Rattle.tree_laws.specs.Skips.{Kept}
 use Rattle.tree_laws.specs.TableLaw.{Tree}
 use Rattle.tree_laws.specs.VisitsLaw.{IsLed}
-use Rattle.tree_laws.specs.declared.kept.Start.{Start}
+use Rattle.tree_laws.specs.declared.told.Start.{Start}
 use Rattle.tree_laws.proofs.Forest.{all_lives, lives_all, others_all, table_none}
 use Rattle.tree_laws.proofs.Treed.{trees_walk}
 use Rattle.tree_change.specs.LooksLaw.{IsRootTouched}

@@ -28,7 +28,7 @@ use Rattle.tree_laws.specs.SkipLaw.{IsSound}
 use Rattle.tree_laws.specs.Skips.{Kept, nothing, skip_of, unkept}
 use Rattle.tree_laws.specs.TableLaw.{AreApart, Tree}
 use Rattle.tree_laws.specs.Unshared.{is_block_seen, items_in, pair_seen}
-use Rattle.tree_laws.specs.declared.kept.Start.{Start}
+use Rattle.tree_laws.specs.declared.told.Start.{Start}
 use Rattle.tree_laws.proofs.Forest.{NoneOf, stands_as, tables_stand, walks}
 use Rattle.tree_laws.proofs.OldBlocks.{unshared_are}
 use Rattle.tree_laws.proofs.OldTells.{gone}

@@ -21,7 +21,7 @@ use Rattle.tree_laws.specs.Meeting.{met_in}
 use Rattle.tree_laws.specs.MergedLaw.{items}
 use Rattle.tree_laws.specs.OldSide.{kept_at}
 use Rattle.tree_laws.specs.Skips.{Anew, Kept}
-use Rattle.tree_laws.specs.declared.kept.Ended.{Ended}
+use Rattle.tree_laws.specs.declared.told.Ended.{Ended}
 use Rattle.tree_change.specs.Firsts.{first_copies}
 use Rattle.tree_change.specs.Gathered.{Gathers, blocks_seen}
 

@@ -15,7 +15,7 @@ use Rattle.node_reader.specs.Stored.{Stored, block_in, stored_in}
 use Rattle.node_reader.specs.declared.expect.Expect.{Expect}
 use Rattle.records.specs.Walk.{children_of}
 use Rattle.block_source.specs.Private.{pointers_from}
-use Rattle.tree_laws.specs.declared.kept.Ended.{Ended}
+use Rattle.tree_laws.specs.declared.told.Ended.{Ended}
 use Rattle.tree_laws.specs.Ending.{Ends, Held, HoldsLast, Lasts, before_ends, each_ends, end_at, ends_and, ends_below, ends_in, ends_or, key_or, last_item, none_more, own_last, read_ends, with_ended}
 use Rattle.tree_laws.specs.Skips.{Anew, Kept, is_below, next_of}
 

@@ -27,7 +27,7 @@ use Rattle.tree_laws.specs.Known.{is_last_walked, last_known, last_of}
 use Rattle.tree_laws.specs.LastLaw.{last_anew}
 use Rattle.tree_laws.specs.Skips.{Kept, is_below, next_of, nothing}
 use Rattle.tree_laws.specs.SkipLaw.{IsSound}
-use Rattle.tree_laws.specs.declared.kept.Start.{Start}
+use Rattle.tree_laws.specs.declared.told.Start.{Start}
 use Rattle.tree_laws.proofs.Accepted.{Accepts, accepts, keys_at, last_decides, visit_of, walk_accepted}
 use Rattle.tree_laws.proofs.Bounds.{below_self, keys_below, upto}
 use Rattle.tree_laws.proofs.Calming.{bytes_same, greatest_of, item_keys, keys_after, keys_in, last_walk}

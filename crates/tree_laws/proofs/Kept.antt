@@ -25,7 +25,7 @@ use Rattle.tree_laws.specs.LivePairs.{Walked, live_in, table_of}
 use Rattle.tree_laws.specs.Shared.{are_alike, are_read_alike, is_shared_by, stands_untouched}
 use Rattle.tree_laws.specs.SharedLaw.{IsBefore, KeepsSharedBy, KeptTreeLaw}
 use Rattle.tree_laws.specs.TableLaw.{AreApart, Tree}
-use Rattle.tree_laws.specs.declared.kept.Start.{Start}
+use Rattle.tree_laws.specs.declared.told.Start.{Start}
 use Rattle.tree_laws.proofs.Accepted.{Accepts, IsAs, accepts, visit_of, walk_accepted}
 use Rattle.tree_laws.proofs.Forest.{lives_all, of_root, tables_stand, walks}
 use Rattle.tree_laws.proofs.Lasting.{low_fits}

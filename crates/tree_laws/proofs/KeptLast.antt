@@ -24,7 +24,7 @@ use Rattle.tree_laws.specs.Keeping.{AreMarked, IsKnown, Marks, OneOf, Under, com
 use Rattle.tree_laws.specs.LastLaw.{LastLaw, last_anew}
 use Rattle.tree_laws.specs.LivePairs.{greater_key}
 use Rattle.tree_laws.specs.Skips.{is_below}
-use Rattle.tree_laws.specs.declared.kept.Start.{Start}
+use Rattle.tree_laws.specs.declared.told.Start.{Start}
 use Rattle.tree_laws.proofs.Accepted.{Accepts, IsAs, accepts, visit_of, walk_accepted}
 use Rattle.tree_laws.proofs.Bounds.{and_assoc, keys_below, upto}
 use Rattle.tree_laws.proofs.Calming.{accepts_again, calm, greatest_of, item_keys, keys_after, keys_in, keys_then, last_walk}

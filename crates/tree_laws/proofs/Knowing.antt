@@ -4,7 +4,7 @@ use Rattle.std.specs.Prelude.{Some, None}
 use Rattle.std.proofs.lemmas.List.{drop_more}
 use Rattle.verdict.specs.declared.key.Key.{Key}
 use Rattle.node_reader.specs.declared.expect.Expect.{Expect}
-use Rattle.tree_laws.specs.declared.kept.Start.{Start}
+use Rattle.tree_laws.specs.declared.told.Start.{Start}
 use Rattle.tree_laws.specs.Keeping.{bound_at, bound_of, start_of, starts_of}
 
 pub starts_length : (level : ℕ) (e : Expect) (starts : List Start) → length (starts_of level e starts) ≡ length starts

@@ -15,7 +15,7 @@ use Rattle.records.specs.WalkLaw.{children_in}
 use Rattle.touched_blocks.specs.Marking.{ClimbsTo, if_above, parent_of}
 use Rattle.touched_blocks.specs.Marking.ClimbsTo.{Here, Up}
 use Rattle.touched_blocks.specs.Marks.{no_mark}
-use Rattle.tree_laws.specs.declared.kept.Start.{Start}
+use Rattle.tree_laws.specs.declared.told.Start.{Start}
 use Rattle.tree_laws.specs.Keeping.{Marks, Under, anew_of, bound_of, is_first, is_same, kept_of, last_if_same, start_of, starts_of}
 use Rattle.tree_laws.specs.Listed.{IsChild, is_at}
 use Rattle.tree_laws.specs.OldSide.{kept_at}

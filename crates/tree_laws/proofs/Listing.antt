@@ -23,7 +23,7 @@ use Rattle.records.specs.WalkLaw.{visited}
 use Rattle.touched_blocks.specs.Marking.{if_above, parent_of}
 use Rattle.walk_laws.specs.WalkOrder.{AllAbove, Ascend as KeysAscend}
 use Rattle.walk_laws.proofs.Blocks.{block_keys}
-use Rattle.tree_laws.specs.declared.kept.Start.{Start}
+use Rattle.tree_laws.specs.declared.told.Start.{Start}
 use Rattle.tree_laws.specs.Keeping.{IsKnown, Marks, OneOf, last_in, live_at, starts_at, starts_in}
 use Rattle.tree_laws.specs.Listed.{AreChildren, Ascend, IsChild, ListingLaw, is_at, is_before, up_to}
 use Rattle.tree_laws.proofs.Accepted.{Accepts, accepts, keys_at}

@@ -18,7 +18,7 @@ use Rattle.tree_laws.specs.Keeping.{AreMarked, AreUntouched, IsKnown, Marks, One
 use Rattle.tree_laws.specs.MovedLaw.{MovedLaw, is_other_than, shifted_by}
 use Rattle.tree_laws.specs.Skips.{Kept}
 use Rattle.tree_laws.specs.Stops.{stops_and, stops_below, stops_or}
-use Rattle.tree_laws.specs.declared.kept.Start.{Start}
+use Rattle.tree_laws.specs.declared.told.Start.{Start}
 use Rattle.tree_laws.proofs.Accepted.{Accepts, IsAs, accepts}
 use Rattle.tree_laws.proofs.Calming.{IsQuiet, bytes_same, calm}
 use Rattle.tree_laws.proofs.Lasting.{low_fits}

@@ -12,7 +12,7 @@ use Rattle.node_reader.specs.declared.expect.Expect.{Expect}
 use Rattle.node_reader.specs.declared.expect.Pointer.{Pointer}
 use Rattle.records.specs.Walk.{child_of, children_of, high_of}
 use Rattle.records.specs.WalkLaw.{children_in}
-use Rattle.tree_laws.specs.declared.kept.Start.{Start}
+use Rattle.tree_laws.specs.declared.told.Start.{Start}
 use Rattle.tree_laws.specs.Keeping.{Marks, Under, anew_of, kept_of, live_at, starts_at, starts_in, starts_of}
 use Rattle.tree_laws.specs.Stops.{stops_and, stops_below, stops_or}
 use Rattle.tree_laws.specs.Skips.{Kept}

@@ -13,7 +13,7 @@ use Rattle.node_reader.specs.declared.expect.Expect.{Expect}
 use Rattle.node_reader.specs.declared.expect.Pointer.{Pointer}
 use Rattle.records.specs.Seen.Seen.{BlockSeen}
 use Rattle.records.specs.Walk.{Records, behind, block_and, block_at, child_of, children_of, each, high_of, own_records, then_records, walk_of}
-use Rattle.tree_laws.specs.declared.kept.Start.{Start}
+use Rattle.tree_laws.specs.declared.told.Start.{Start}
 use Rattle.tree_laws.specs.Keeping.{Marks, Under, anew_of, bound_of, is_same, last_in, live_at, starts_at, starts_in, starts_of}
 use Rattle.tree_laws.specs.OldSide.{kept_at, kept_where}
 use Rattle.tree_laws.specs.Stops.{is_stop}

@@ -9,7 +9,7 @@ use Rattle.tree_laws.proofs.Mixing.{same_itself}
 use Rattle.verdict.proofs.Truth.{and_parts, never, or_cases, or_right}
 use Rattle.verdict.specs.OnDisk.{key_below, key_same}
 use Rattle.verdict.specs.declared.key.Key.{Key}
-use Rattle.tree_laws.specs.declared.kept.Start.{Start}
+use Rattle.tree_laws.specs.declared.told.Start.{Start}
 use Rattle.tree_laws.specs.Listed.{is_before}
 use Rattle.tree_laws.proofs.Bounds.{below_trans}
 

@@ -23,7 +23,7 @@ use Rattle.records.specs.Walk.{behind, child_of, children_of, high_of, walk_of}
 use Rattle.records.specs.WalkLaw.{visited}
 use Rattle.tree_laws.specs.LivePairs.{greatest_key}
 use Rattle.tree_laws.specs.Keeping.{AreMarked, AreUntouched, IsKnown, KeepingLaw, Marks, OneOf, Under, anew_of, bound_of, comes_to, first_in, is_first, is_same, kept_of, last_if_same, last_in, live_at, starts_at, starts_of}
-use Rattle.tree_laws.specs.declared.kept.Start.{Start}
+use Rattle.tree_laws.specs.declared.told.Start.{Start}
 use Rattle.tree_laws.specs.SkipLaw.{IsSound, anew_below}
 use Rattle.tree_laws.specs.Skips.{Kept, Told, is_below, nothing, unkept}
 use Rattle.tree_laws.proofs.Accepted.{Accepts, IsAs, LowFits, accepts, high_finding, keys_at, visit_of, walk_again}

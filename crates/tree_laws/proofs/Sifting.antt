@@ -15,7 +15,7 @@ use Rattle.records.specs.Walk.{Records, behind, child_of, children_of, each, hig
 use Rattle.records.specs.WalkLaw.{visited}
 use Rattle.walk_laws.specs.WalkOrder.{Ascend}
 use Rattle.walk_laws.proofs.Blocks.{block_keys}
-use Rattle.tree_laws.specs.declared.kept.Start.{Start}
+use Rattle.tree_laws.specs.declared.told.Start.{Start}
 use Rattle.tree_laws.specs.Keeping.{bound_at, bound_of, or_high, starts_at, starts_in, starts_of}
 use Rattle.tree_laws.specs.SkipLaw.{anew_below}
 use Rattle.tree_laws.specs.Skips.{Kept, Told, is_below, unkept}

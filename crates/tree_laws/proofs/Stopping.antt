@@ -15,7 +15,7 @@ use Rattle.super_reader.specs.declared.Super.{Super}
 use Rattle.node_reader.specs.Stored.{Stored, block_in}
 use Rattle.node_reader.specs.declared.expect.Expect.{Expect}
 use Rattle.records.specs.Walk.{Records, behind, block_and, each, own_records, then_records, walk_of}
-use Rattle.tree_laws.specs.declared.kept.Met.{Met}
+use Rattle.tree_laws.specs.declared.told.Met.{Met}
 use Rattle.tree_laws.specs.Known.{AreMetBy, blocks_met}
 use Rattle.verdict.specs.declared.key.Key.{Key}
 use Rattle.live_index.specs.Pairs.{Pairs}

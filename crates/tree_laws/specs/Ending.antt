@@ -11,7 +11,7 @@ use Rattle.super_reader.specs.declared.Super.{Super}
 use Rattle.node_reader.specs.Layout.{count_of, item_of}
 use Rattle.node_reader.specs.Stored.{Stored, block_in, stored_in}
 use Rattle.node_reader.specs.declared.expect.Expect.{Expect}
-use Rattle.tree_laws.specs.declared.kept.Ended.{Ended}
+use Rattle.tree_laws.specs.declared.told.Ended.{Ended}
 use Rattle.tree_laws.specs.Skips.{Anew, Kept, is_below, next_of}
 
 -- the greatest key of each kept block, none where it is that of the last block that is walked below it

@@ -9,7 +9,7 @@ use Rattle.node_reader.specs.Stored.{Stored, block_in}
 use Rattle.node_reader.specs.declared.expect.Expect.{Expect}
 use Rattle.records.specs.Walk.{walk_of}
 use Rattle.records.specs.WalkLaw.{children_in}
-use Rattle.tree_laws.specs.declared.kept.Ended.{Ended}
+use Rattle.tree_laws.specs.declared.told.Ended.{Ended}
 use Rattle.tree_laws.specs.Ending.{Ends, ends_of}
 use Rattle.tree_laws.specs.Keeping.{AreListed, AreMarked, AreUntouched, Marks, Stands, Under, anew_of, kept_of, last_in}
 use Rattle.tree_laws.specs.Known.{last_of}

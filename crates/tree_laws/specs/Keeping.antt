@@ -16,7 +16,7 @@ use Rattle.node_reader.specs.declared.expect.Pointer.{Pointer}
 use Rattle.records.specs.Walk.{Records, child_of, high_of, walk_of}
 use Rattle.records.specs.WalkLaw.{visited}
 use Rattle.tree_laws.specs.LivePairs.{first_or_greatest, last_key}
-use Rattle.tree_laws.specs.declared.kept.Start.{Start}
+use Rattle.tree_laws.specs.declared.told.Start.{Start}
 use Rattle.tree_laws.specs.Skips.{Anew, Kept, nothing}
 use Rattle.tree_laws.specs.SkipLaw.{IsSound}
 

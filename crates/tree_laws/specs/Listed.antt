@@ -6,7 +6,7 @@ use Rattle.verdict.specs.declared.key.Key.{Key}
 use Rattle.live_index.specs.Pairs.{IsNextFirst, Pairs}
 use Rattle.live_index.specs.declared.live.Live.{Live}
 use Rattle.touched_blocks.specs.Marking.{parent_of}
-use Rattle.tree_laws.specs.declared.kept.Start.{Start}
+use Rattle.tree_laws.specs.declared.told.Start.{Start}
 use Rattle.super_reader.specs.declared.Super.{Super}
 use Rattle.node_reader.specs.Stored.{Stored}
 use Rattle.node_reader.specs.declared.expect.Expect.{Expect}

@@ -4,7 +4,7 @@ use Rattle.live_index.specs.Pairs.{Pairs}
 use Rattle.live_index.specs.declared.live.Live.{Live}
 use Rattle.touched_blocks.specs.Marking.{parent_of}
 use Rattle.touched_blocks.specs.Marks.{is_pair}
-use Rattle.tree_laws.specs.declared.kept.Start.{Start}
+use Rattle.tree_laws.specs.declared.told.Start.{Start}
 use Rattle.tree_laws.specs.Keeping.{Marks, Under}
 use Rattle.tree_laws.specs.Listed.{IsChild, is_before}
 

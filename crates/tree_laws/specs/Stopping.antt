@@ -5,7 +5,7 @@ use Rattle.super_reader.specs.declared.Super.{Super}
 use Rattle.live_index.specs.Pairs.{Pairs}
 use Rattle.node_reader.specs.Stored.{Stored}
 use Rattle.node_reader.specs.declared.expect.Expect.{Expect}
-use Rattle.tree_laws.specs.declared.kept.Met.{Met}
+use Rattle.tree_laws.specs.declared.told.Met.{Met}
 use Rattle.tree_laws.specs.Keeping.{Under, last_if_same}
 use Rattle.tree_laws.specs.OldSide.{kept_at}
 use Rattle.tree_laws.specs.Stops.{is_stop}

@@ -1,10 +1,9 @@
 //! Laws of trees: live pairs, what two images share, and the walk of a tree that keeps blocks.
 #![tactic(auto)]
 
-mod kept;
 mod laws;
+mod told;
 
-pub use kept::{Ended, Met, Start};
 pub use laws::{
     among_leads_law, array_apart_law, array_kept_law, array_law, array_moves_law,
     array_shifted_law, array_sound_law, array_walks_law, chunk_tree_law, chunks_merged_law,
@@ -15,3 +14,4 @@ pub use laws::{
     skipping_law, stops_law, stops_rest_law, stored_alike_law, supers_law, table_law, tables_law,
     tells_law, tree_table_law, trees_law, unshared_law, visits_law, walk_is_own,
 };
+pub use told::{Ended, Met, Start};
