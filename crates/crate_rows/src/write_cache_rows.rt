@@ -84,25 +84,19 @@ fn put_all(
 // Whether the cache has exactly these pieces, once its runs are joined, and lends the same bytes in parts before.
 fn has_pieces(cache: &mut WriteCache, wanted: &[Part]) -> Result<bool, NoMemory> {
     let in_parts = sum_of(cache.parts());
-    cache.join();
-    if sum_of(cache.parts()) != in_parts {
-        return Ok(false);
-    }
-    are_pieces(cache, wanted)
+    let joined = cache.join()?;
+    Ok(sum_of(joined.cache.parts()) == in_parts && are_pieces(joined.pieces(), wanted))
 }
 
-// Whether these are the pieces of a cache whose runs are joined.
-fn are_pieces(cache: &WriteCache, wanted: &[Part]) -> Result<bool, NoMemory> {
-    let Some(mut left) = cache.pieces() else {
-        return Err(NoMemory);
-    };
+// Whether what is left is these pieces.
+fn are_pieces(mut left: Pieces<'_>, wanted: &[Part]) -> bool {
     for (at, bytes) in wanted {
         match left.next() {
             Some((begin, held)) if begin == *at && held == *bytes => {}
-            _ => return Ok(false),
+            _ => return false,
         }
     }
-    Ok(left.next().is_none())
+    left.next().is_none()
 }
 
 // How many bytes are lent, and the sum of them with their places.
@@ -212,12 +206,9 @@ fn a_range_in_one_run_is_lent(rt: HostRuntime) -> Result<(), NoMemory> {
     for (at, len, wanted) in rows {
         assert_eq!(rt; cache.lend(at, len), wanted, "{len} bytes at {at}");
     }
-    cache.join();
-    if cache.pieces().is_none() {
-        return Err(NoMemory);
-    }
-    assert_eq!(rt; cache.lend(10, 7), Some([1, 2, 3, 4, 9, 6, 7].as_slice()));
-    assert_eq!(rt; cache.lend(13, 2), Some([4, 9].as_slice()));
-    assert_eq!(rt; cache.lend(13, 5), None);
+    let joined = cache.join()?.cache;
+    assert_eq!(rt; joined.lend(10, 7), Some([1, 2, 3, 4, 9, 6, 7].as_slice()));
+    assert_eq!(rt; joined.lend(13, 2), Some([4, 9].as_slice()));
+    assert_eq!(rt; joined.lend(13, 5), None);
     Ok(())
 }
