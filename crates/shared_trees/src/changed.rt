@@ -85,7 +85,7 @@ pub fn walk_changed<D: Disk, K: Keeps, T: Taker>(
 }
 
 // The walk that keeps blocks, with room for a block of each level from the expected one down, and for a second copy.
-#[tactic(auto, using(crate::proofs::Keepings::skip_steps), unfolding(crate::specs::KeepingWalk::skip_in, records::specs::Walk::walk_in))]
+#[tactic(auto, using(tree_laws::proofs::Keepings::skip_steps), unfolding(tree_laws::specs::KeepingWalk::skip_in, records::specs::Walk::walk_in))]
 fn walk_keeping<D: Disk, K: Keeps, T: Taker>(
     alloc: Global,
     disk: &mut D,
@@ -186,7 +186,7 @@ fn end_kept<K: Keeps>(
 }
 
 // The key of the last item of a leaf, (0, 0, 0) where it has none.
-#[tactic(auto, unfolding(crate::specs::Ending::last_item))]
+#[tactic(auto, unfolding(tree_laws::specs::Ending::last_item))]
 fn last_item(block: &Block<'_>) -> Key
     requires { level_of block.now ≡ 0 }
     ensures { result ≡ last_item block.now }

@@ -123,7 +123,7 @@ impl<'a, 's, L> Keeps for KnownTree<'a, 's, L> {
 
     ghost ready = { ready_by };
 
-    #[tactic(auto, unfolding(crate::specs::Keeping::kept_of))]
+    #[tactic(auto, unfolding(tree_laws::specs::Keeping::kept_of))]
     fn kept(&mut self, e: &Expect) -> Option<Key> {
         if self.marks.has(e.tree, e.address) || self.moves.passes(e.address) {
             return None;
@@ -132,7 +132,7 @@ impl<'a, 's, L> Keeps for KnownTree<'a, 's, L> {
         bound_in(self.found.as_ref(), self.starts, e)
     }
 
-    #[tactic(auto, unfolding(crate::specs::Meeting::with_met))]
+    #[tactic(auto, unfolding(tree_laws::specs::Meeting::with_met))]
     fn meet(&mut self, e: &Expect) -> Result<(), NoMemory> {
         self.find(e);
         let one = Met {
@@ -153,7 +153,7 @@ impl<'a, 's, L> Keeps for KnownTree<'a, 's, L> {
         next_below(self.starts, e, i)
     }
 
-    #[tactic(auto, unfolding(crate::specs::Known::last_of))]
+    #[tactic(auto, unfolding(tree_laws::specs::Known::last_of))]
     fn last(&mut self, e: &Expect) -> Option<Key> {
         if is_last_walked(self.starts.of(e.tree, e.address)) {
             return None;
@@ -162,7 +162,7 @@ impl<'a, 's, L> Keeps for KnownTree<'a, 's, L> {
         Some(self.found.as_ref()?.last)
     }
 
-    #[tactic(auto, unfolding(crate::specs::Ending::with_ended))]
+    #[tactic(auto, unfolding(tree_laws::specs::Ending::with_ended))]
     fn end(&mut self, e: &Expect, last: Key) -> Result<(), NoMemory> {
         match self.ended.push(Ended { expect: *e, last }) {
             Ok(()) => Ok(()),
@@ -185,7 +185,7 @@ pub(crate) fn bound_in(live: Option<&Live>, starts: &Starts, e: &Expect) -> Opti
 }
 
 // How many children are listed below the block that is expected.
-#[tactic(auto, using(crate::proofs::Knowing::starts_length))]
+#[tactic(auto, using(tree_laws::proofs::Knowing::starts_length))]
 pub(crate) fn count_below(starts: &Starts, e: &Expect) -> usize
     ensures { result ≡ length (anew_of (under_of starts.now) e.now) }
 {
@@ -193,7 +193,7 @@ pub(crate) fn count_below(starts: &Starts, e: &Expect) -> usize
 }
 
 // What is expected of one of these, by its number in their order.
-#[tactic(auto, using(crate::proofs::Knowing::starts_length, crate::proofs::Knowing::starts_more))]
+#[tactic(auto, using(tree_laws::proofs::Knowing::starts_length, tree_laws::proofs::Knowing::starts_more))]
 pub(crate) fn next_below(starts: &Starts, e: &Expect, i: usize) -> Expect
     requires inside { i < length (anew_of (under_of starts.now) e.now) }
     ensures next { drop i (anew_of (under_of starts.now) e.now)
@@ -227,7 +227,7 @@ fn expected(e: &Expect, start: &Start) -> Expect
 }
 
 // The greatest key that is sure to stand in a block or below it, of which this was the greatest.
-#[tactic(auto, using(crate::proofs::Knowing::bound_here, crate::proofs::Knowing::bound_later))]
+#[tactic(auto, using(tree_laws::proofs::Knowing::bound_here, tree_laws::proofs::Knowing::bound_later))]
 fn bound(starts: &[Start], last: Key) -> Key
     ensures { result ≡ bound_of starts.now last }
 {

@@ -54,7 +54,7 @@ impl<'a, 's, 'm, L> Keeps for OldTree<'a, 's, 'm, L> {
 
     ghost ready = { always_ready };
 
-    #[tactic(auto, unfolding(crate::specs::Stopping::kept_among))]
+    #[tactic(auto, unfolding(tree_laws::specs::Stopping::kept_among))]
     fn kept(&mut self, e: &Expect) -> Option<Key> {
         if let Some(stop) = self.stops.at(self.next)
             && stop.expect.address == e.address
@@ -70,7 +70,7 @@ impl<'a, 's, 'm, L> Keeps for OldTree<'a, 's, 'm, L> {
         bound_in(live.as_ref(), self.starts, e)
     }
 
-    #[tactic(auto, unfolding(crate::specs::Meeting::with_met))]
+    #[tactic(auto, unfolding(tree_laws::specs::Meeting::with_met))]
     fn meet(&mut self, _e: &Expect) -> Result<(), NoMemory> {
         Ok(())
     }
@@ -87,7 +87,7 @@ impl<'a, 's, 'm, L> Keeps for OldTree<'a, 's, 'm, L> {
         None
     }
 
-    #[tactic(auto, unfolding(crate::specs::Ending::with_ended))]
+    #[tactic(auto, unfolding(tree_laws::specs::Ending::with_ended))]
     fn end(&mut self, _e: &Expect, _last: Key) -> Result<(), NoMemory> {
         Ok(())
     }

@@ -61,7 +61,7 @@ impl<'m> Stops<'m> {
 }
 
 // The addresses of blocks, in their order.
-#[tactic(auto, using(crate::proofs::Stopping::addresses_more))]
+#[tactic(auto, using(tree_laws::proofs::Stopping::addresses_more))]
 fn addresses_of(alloc: Global, met: &[Met]) -> Result<Vec<u64>, NoMemory>
     ensures { IfOk result (λ addresses. addresses.items ≡ addresses_of met.now) }
 {
