@@ -46,3 +46,6 @@ put_part image part at n inside long =
 pub blank_superblock : replicate 4096 0 ≡ zeros 4096
 unfolding zeros
 blank_superblock = refl
+
+-- how long written bytes are
+pub ruleset long_written = (length-written_any)
