@@ -6,6 +6,7 @@ use Rattle.std.specs.Prelude.{IfSome, Option, Some, None, Ok, Err, is_some}
 use Rattle.std.specs.List.{AllByRecursion, filter, list_any}
 use Rattle.std.specs.Ordering.{nat_cmp}
 use Rattle.std.specs.FinMap.{FinMap}
+use Rattle.touched_blocks.proofs.Among.{some_same}
 use Rattle.verdict.proofs.Lists.{all_map as each_map}
 use Rattle.verdict.proofs.Truth.{and_parts}
 use Rattle.verdict.specs.Chunks.{place}
@@ -149,9 +150,6 @@ module _ (image : List ℕ) (old : Walked) where
 pub some_of : (entry : Option Live) → is_some entry ≡ true → (one : Live) × (entry ≡ Some one)
 some_of None is = absurd (cc)
 some_of (Some one) is = (one, refl)
-
-some_same : (a b : Live) → Some a ≡ Some b → a ≡ b
-some_same a b is = cc
 
 -- ---- how the image stands
 

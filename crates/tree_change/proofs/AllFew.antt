@@ -4,6 +4,7 @@ use Rattle.std.proofs.lemmas.Bool.{eqb-true}
 use Rattle.std.proofs.lemmas.List.Sorted.{length_permutation}
 use Rattle.std.specs.Prelude.{Option, Some, None, Result, Ok, Err, is_some, map}
 use Rattle.std.specs.List.{AllByRecursion}
+use Rattle.verdict.proofs.Truth.{never as yes_no}
 use Rattle.walk_laws.proofs.Trees.{step_ok}
 use Rattle.verdict.proofs.Lists.{all_map as each_map}
 use Rattle.verdict.specs.Chunks.{place}
@@ -63,8 +64,8 @@ use Rattle.tree_change.proofs.Accepting.{accepted, of_chunk_pair}
 use Rattle.tree_change.proofs.AllTrees.{all_trees, moved_all, named_trees, olds_named}
 use Rattle.tree_change.proofs.ArrayFew.{array_few}
 use Rattle.tree_change.proofs.ArraySound.{array_sound}
-use Rattle.tree_change.proofs.ByArray.{array_known, size_some}
-use Rattle.tree_change.proofs.ByMap.{new_apart, over_by, root_tree, roots_stand, was_is}
+use Rattle.tree_change.proofs.ByArray.{array_known}
+use Rattle.tree_change.proofs.ByMap.{new_apart, over_by, root_tree, roots_stand, was_is, size_some}
 use Rattle.tree_change.proofs.Chunks.{chunks_found}
 use Rattle.tree_change.proofs.Contents.{all_found}
 use Rattle.tree_change.proofs.EachTree.{one_tree}
@@ -90,10 +91,6 @@ value_of (Ok value) never = (value, refl)
 
 not_both : {A : Type 0} (result : Result A Finding) (value : A) (finding : Finding) → result ≡ Ok value → result ≡ Err finding → ⊥
 not_both result value finding is other = cc
-
-yes_no : (b : Bool) → b ≡ true → b ≡ false → ⊥
-yes_no true is not_is = cc
-yes_no false is not_is = cc
 
 -- what is known, as it is said by its parts
 known_same : (k : Known) (pairs : Pairs) (marked : ℕ → ℕ → Bool) (moved : ℕ → Bool) → k.pairs ≡ pairs → k.marked ≡ marked → k.moved ≡ moved

@@ -6,6 +6,7 @@ use Rattle.std.specs.Prelude.{Ok, map, bytes_eq}
 use Rattle.std.specs.List.{AllByRecursion, list_any}
 use Rattle.std.specs.Ordering.{nat_cmp}
 use Rattle.std.specs.FinMap.{FinMap}
+use Rattle.tree_laws.proofs.KeptImage.{nodesize_same}
 use Rattle.verdict.proofs.Truth.{and_parts}
 use Rattle.verdict.specs.Chunks.{place}
 use Rattle.verdict.specs.OnDisk.{key_same}
@@ -66,13 +67,6 @@ alone_same image old new written end id news of live is =
     ap (λ t. are_read_alike old.sup new.sup && (stays_unchanged old new.chunks written end live.address
     && (stands_untouched none_touched old.seen live && t)))
     (alike_any id news new.seen of live is)
-
-nodesize_same : (a b : Super) → are_read_alike a b ≡ true → a.nodesize ≡ b.nodesize
-nodesize_same a b is =
-    let rest = (and_parts (bytes_eq a.fsid b.fsid)
-    (a.nodesize == b.nodesize && (a.incompat == b.incompat && (a.compat_ro == b.compat_ro && a.devid == b.devid))) is).1 in
-    eqb-true a.nodesize b.nodesize
-    (and_parts (a.nodesize == b.nodesize) (a.incompat == b.incompat && (a.compat_ro == b.compat_ro && a.devid == b.devid)) rest).0
 
 -- and of the chunk tree by those of the system array
 module _ (image : List ℕ) (pending : FinMap nat_cmp ℕ) (old new : Walked) (array : List Chunk)

@@ -33,7 +33,7 @@ use Rattle.tree_laws.proofs.Forest.{lives_of, of_root, others_after, walks}
 use Rattle.tree_laws.proofs.Lasting.{low_fits}
 use Rattle.tree_laws.proofs.Merged.{walks_of}
 use Rattle.tree_laws.proofs.Mixing.{Before, InOrder, pairs_of}
-use Rattle.tree_laws.proofs.Tables.{Any, Lower, Spans, any_each, copied_same, first_at}
+use Rattle.tree_laws.proofs.Tables.{Any, Lower, Spans, any_each, copied_same, first_at, over, apart}
 use Rattle.tree_laws.proofs.Trails.{Matches, Trail, Visit, after, then_trail, trail_and, trail_below, trail_of, trails}
 use Rattle.tree_laws.proofs.Visiting.{Each, Visits, visits_after, visits_from, visits_map, visits_then, visits_then_first, visits_then_later}
 use Rattle.tree_laws.proofs.Within.{node_keys, pointer_keys, rest_of}
@@ -41,24 +41,6 @@ use Rattle.tree_change.specs.Change.{is_before}
 use Rattle.tree_change.proofs.Ordered.{order_append, others_of}
 use Rattle.tree_change.proofs.Piece.{live_id}
 use Rattle.tree_change.proofs.Split.{First, first_of, none_of}
-
--- a block and one below it
-over : (stored : Stored) (n : ℕ) (v w : Expect) (bytes : List ℕ) → stored v.address ≡ Ok bytes → level_of bytes ≡ n → Lower stored n w
-    → w.address ≡ v.address → ⊥
-over stored n v w bytes is at low same =
-    less (level_of bytes) (level_of low.bytes) n at (ap level_of (copied_same stored v.address w.address bytes low.bytes is low.is same)) low.lower
-  where
-    less : (a b n : ℕ) → a ≡ n → a ≡ b → b < n → ⊥
-    less a b n at same low = absurd (omega arith)
-
--- blocks of two children
-apart : (stored : Stored) (low middle : Key) (high : Option Key) (v w : Expect) → Spans stored low (Some middle) v → Spans stored middle high w
-    → w.address ≡ v.address → ⊥
-apart stored low middle high v w a b same =
-    let h : a.bytes ≡ b.bytes = copied_same stored v.address w.address a.bytes b.bytes a.is b.is same in
-    let less : key_below (first_at b.bytes) middle ≡ true = subst (λ bytes. key_below (first_at bytes) middle ≡ true) h a.upto in
-    let more : key_below (first_at b.bytes) middle ≡ false = b.from in
-    absurd (cc)
 
 -- a block stands at another address
 abbrev Other : Expect → Expect → Type 0

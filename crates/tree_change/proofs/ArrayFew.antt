@@ -3,6 +3,7 @@ use Rattle.std.proofs.Common.{◌≡◌, ℕ, zero, suc, ◌+◌, ◌*◌, ◌�
 use Rattle.std.proofs.lemmas.Bool.{eqb-true, ltb-false, or_parts}
 use Rattle.std.proofs.lemmas.List.{length-append}
 use Rattle.std.specs.Prelude.{Result, Ok, Err, nat_lt}
+use Rattle.verdict.proofs.Truth.{true_of_not}
 use Rattle.recon_bytes.specs.Field.{field}
 use Rattle.verdict.specs.Image.{range}
 use Rattle.verdict.specs.OnDisk.{key_of}
@@ -21,10 +22,6 @@ take_most : {A : Type 0} (n : ℕ) (l : List A) → length (take n l) ≤ n
 take_most zero l = omega arith
 take_most (suc n) [] = omega arith
 take_most (suc n) (x ∷ l) = let rest = take_most n l in omega (arith, rest)
-
-turned : (b : Bool) → not b ≡ false → b ≡ true
-turned true is = refl
-turned false is = absurd (cc)
 
 one_wanted : (b : Bool) → 1 ≤ (if b then 2 else 1)
 one_wanted true = omega arith
@@ -51,8 +48,8 @@ pair_big place array size at fields is = by (pair_fails array size at) refl is
         let key = key_of array at in
         let made = finding_or-ok (first_failing (chunk_rows place key bytes)) (chunk_fields key bytes) fields is in
         let ends = (or_parts (nat_lt size (at + 65) || not (key.objectid == 256 && key.kind == CHUNK_ITEM)) (nat_lt size (at + 17 + item_size array at)) fails).1 in
-        let whole = turned (length bytes == 48 + 32 * field 2 bytes 44) (kept_at 4 (chunk_rows place key bytes) made.0) in
-        let wanted = turned (field 2 bytes 44 == stripes_wanted (field 8 bytes 24)) (kept_at 8 (chunk_rows place key bytes) made.0) in
+        let whole = true_of_not (length bytes == 48 + 32 * field 2 bytes 44) (kept_at 4 (chunk_rows place key bytes) made.0) in
+        let wanted = true_of_not (field 2 bytes 44 == stripes_wanted (field 8 bytes 24)) (kept_at 8 (chunk_rows place key bytes) made.0) in
         let most = ltb-false size (at + 17 + item_size array at) ends in (
           omega (arith, most),
           sums (length bytes) (field 2 bytes 44) (stripes_wanted (field 8 bytes 24)) (item_size array at)

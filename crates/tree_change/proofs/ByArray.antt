@@ -3,6 +3,7 @@ use Rattle.std.proofs.Common.{◌≡◌, ℕ, ◌+◌, ◌^◌, ◌<◌, ◌==�
 use Rattle.std.specs.Prelude.{Option, Some, None, IfSome, Result}
 use Rattle.std.specs.List.{AllByRecursion}
 use Rattle.std.specs.Result.{IsErr}
+use Rattle.tree_change.proofs.ByMap.{size_some}
 use Rattle.verdict.specs.Chunks.{home, place}
 use Rattle.verdict.specs.Rules.{and_then, finding_or}
 use Rattle.verdict.specs.Trees.{is_node_size}
@@ -318,8 +319,3 @@ pub known_as : (pairs : Pairs) (marked : Marks) (under : Under) (move : Move) (o
 unfolding move_passes
 known_as pairs marked under move old new nodesize end old_is new_is size_is end_is =
     λ i. known_moved pairs marked (is_moved (old_is i) (new_is i) (size_is i) (end_is i)) under
-
--- a sound size is above 0
-pub size_some : (n : ℕ) → is_node_size n ≡ true → 0 < n
-size_some zero sound = absurd (cc)
-size_some (suc n) sound = omega arith

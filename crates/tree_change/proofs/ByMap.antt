@@ -100,7 +100,7 @@ module _ (image : List ℕ) (pending : FinMap nat_cmp ℕ) (old : Walked) (trees
       (subst (λ n. KnowsBy old.sup old.chunks n) (sym c) (knows_plain narrow has pairs_are listed)))
 
 -- a block has bytes
-size_some : (n : ℕ) → is_node_size n ≡ true → 0 < n
+pub size_some : (n : ℕ) → is_node_size n ≡ true → 0 < n
 size_some zero is = absurd (cc)
 size_some (suc n) is = omega arith
 

@@ -30,7 +30,7 @@ use Rattle.records.specs.Walk.{walk_in}
 use Rattle.touched_blocks.specs.Looks.{EndsBefore, NoneMeet, copies_of, copy_at, with_second}
 use Rattle.tree_laws.specs.LivePairs.{Walked, walked}
 use Rattle.tree_laws.specs.MergedLaw.{chunk_in, chunks_seen, items}
-use Rattle.tree_laws.proofs.ArrayTree.{put_each}
+use Rattle.tree_laws.proofs.ArrayTree.{put_each, all_each}
 use Rattle.tree_laws.proofs.MergedLists.{map_seen, walk_fits}
 use Rattle.tree_laws.proofs.Treed.{map_kept, steps_of}
 use Rattle.tree_change.proofs.Olds.{same_ok}
@@ -218,16 +218,6 @@ any_order sorted (c ∷ chunks) all =
       ),
     )
 
--- what holds of each chunk by start holds of each, and the other way round
-order_each : (P : Chunk → Type 0) (sorted chunks : List Chunk) → AllByRecursion P (all_by_start sorted chunks)
-    → AllByRecursion P sorted × AllByRecursion P chunks
-unfolding all_by_start
-order_each P sorted [] all = (all, tt)
-order_each P sorted (c ∷ chunks) all =
-    let rest = order_each P (put_by_start c sorted) chunks all in
-    let both = put_each P c sorted rest.0 in
-    (both.1, (both.0, rest.1))
-
 into_put : (P : Chunk → Type 0) (c : Chunk) (sorted : List Chunk) → P c → AllByRecursion P sorted → AllByRecursion P (put_by_start c sorted)
 into_put P c [] one all = (one, tt)
 into_put P c (d ∷ sorted) one all = by (nat_le d.start c.start) (into_put P c sorted one all.1)
@@ -327,6 +317,6 @@ copies_unmet image old walks =
     let bytes = into_order HasBytes [] chunks tt (chunks_have_bytes image old walks) in
     let rows = of_rows [] (by_start chunks) end tt bytes both.1 in
     let own =
-    (order_each OwnClear [] chunks
+    (all_each OwnClear [] chunks
     (each_map (λ d. AllByRecursion (CopiesClear d) [] × OwnClear d) OwnClear (by_start chunks) (λ d h. h.1) rows.0)).1 in
     none_meet chunks own (any_order [] chunks rows.1).2

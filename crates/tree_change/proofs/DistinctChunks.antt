@@ -7,6 +7,8 @@ use Rattle.std.proofs.lemmas.Bool.{eqb-true}
 use Rattle.std.proofs.lemmas.Grind.{common_steps}
 use Rattle.std.proofs.lemmas.Bool.Decides.{nat_tests}
 use Rattle.std.proofs.lemmas.List.{append-nil, append_assoc, length-append}
+use Rattle.verdict.proofs.Truth.{never}
+use Rattle.verdict.proofs.Lists.{all_map, all_zip}
 use Rattle.verdict.specs.Chunks.{holds_range, home, place, place_in}
 use Rattle.verdict.specs.declared.place.Chunk.{Chunk}
 use Rattle.touched_blocks.specs.Moves.{AreApart, LieApart, held_and_moved, is_moved, same_chunk, same_second}
@@ -16,15 +18,6 @@ use Rattle.tree_change.specs.Distinct.{distinct, is_new, with_new}
 use Rattle.tree_change.specs.Merges.{fits}
 
 -- ---- lists of which all elements have something
-
-all_map : {X : Type 0} (P Q : X → Type 0) (xs : List X) → ((x : X) → P x → Q x) → AllByRecursion P xs → AllByRecursion Q xs
-all_map P Q [] to all = tt
-all_map P Q (x ∷ xs) to all = (to x all.0, all_map P Q xs to all.1)
-
-all_zip : {X : Type 0} (P Q R : X → Type 0) (xs : List X) → ((x : X) → P x → Q x → R x) → AllByRecursion P xs → AllByRecursion Q xs
-    → AllByRecursion R xs
-all_zip P Q R [] to all others = tt
-all_zip P Q R (x ∷ xs) to all others = (to x all.0 others.0, all_zip P Q R xs to all.1 others.1)
 
 all_any : {X : Type 0} (P : X → Type 0) (xs : List X) → ((x : X) → P x) → AllByRecursion P xs
 all_any P [] each = tt
@@ -57,10 +50,6 @@ apart_holds : (c d : Chunk) → LieApart c d → 0 < d.length → holds_range c 
 apart_holds c d (inl before) some held = grind (arith, nat_tests)
 apart_holds c d (inr behind) some held = grind (arith, nat_tests)
 
-yes_no : (b : Bool) → b ≡ true → b ≡ false → ⊥
-yes_no true is not_is = cc
-yes_no false is not_is = cc
-
 -- one that holds it, and lies apart or is the same, is the same
 held_same : (c d : Chunk) → LieApartOrSame c d → 0 < d.length → holds_range c d.start 1 ≡ true → same_chunk c d ≡ true
 held_same c d (inl apart) some held = absurd (apart_holds c d apart some held)
@@ -69,7 +58,7 @@ held_same c d (inr same) some held = same
 -- one that does not, lies apart
 free_apart : (c d : Chunk) → LieApartOrSame c d → 0 < d.length → holds_range c d.start 1 ≡ false → LieApart c d
 free_apart c d (inl apart) some free = apart
-free_apart c d (inr same) some free = absurd (yes_no (holds_range c d.start 1) (holds_alike c d d.start 1 same ∙ first_held d some) free)
+free_apart c d (inr same) some free = absurd (never (holds_range c d.start 1) (holds_alike c d d.start 1 same ∙ first_held d some) free)
 
 -- ---- where no kept chunk has the first byte, the chunk lies apart from all
 

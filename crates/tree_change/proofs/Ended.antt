@@ -4,8 +4,9 @@ use Rattle.std.proofs.lemmas.Bool.{eqb-true}
 use Rattle.std.proofs.lemmas.Bool.Decides.{nat_tests}
 use Rattle.std.specs.Prelude.{Some, Result, Ok, Err, map}
 use Rattle.std.specs.List.{AllByRecursion, flat_map, fold, list_any}
+use Rattle.tree_change.proofs.OneWalked.{one_first, one_later}
 use Rattle.touched_blocks.proofs.Among.{some_same}
-use Rattle.verdict.proofs.Lists.{all_map as each_map}
+use Rattle.verdict.proofs.Lists.{all_map as each_map, all_append, all_later}
 use Rattle.verdict.specs.Rules.{no_key}
 use Rattle.verdict.specs.declared.finding.Finding.{Finding}
 use Rattle.verdict.specs.declared.key.Key.{Key}
@@ -29,29 +30,11 @@ use Rattle.tree_laws.proofs.Skipping.{children_level}
 use Rattle.tree_change.specs.Walks.{last_at, with_last}
 use Rattle.tree_change.proofs.Whole.{KeepsNone, ends_same}
 
--- what holds of two lists, one after the other
-all_append : {A : Type 0} (P : A → Type 0) (a b : List A) → AllByRecursion P a → AllByRecursion P b → AllByRecursion P (a ++ b)
-all_append P [] b x y = y
-all_append P (one ∷ a) b x y = (x.0, all_append P a b x.1 y)
-
 all_first : {A : Type 0} (P : A → Type 0) (a b : List A) → AllByRecursion P (a ++ b) → AllByRecursion P a
 all_first P [] b all = tt
 all_first P (one ∷ a) b all = (all.0, all_first P a b all.1)
 
-all_later : {A : Type 0} (P : A → Type 0) (a b : List A) → AllByRecursion P (a ++ b) → AllByRecursion P b
-all_later P [] b all = all
-all_later P (one ∷ a) b all = all_later P a b all.1
-
-one_first : (P : Expect → Type 0) (a b : List Expect) → OneOf P a → OneOf P (a ++ b)
-one_first P [] b has = elim has [ ]
-one_first P (e ∷ a) b (inl here) = inl here
-one_first P (e ∷ a) b (inr more) = inr (one_first P a b more)
-
-one_later : (P : Expect → Type 0) (a b : List Expect) → OneOf P b → OneOf P (a ++ b)
-one_later P [] b has = has
-one_later P (e ∷ a) b has = inr (one_later P a b has)
-
-one_either : (P : Expect → Type 0) (a b : List Expect) → OneOf P (a ++ b) → OneOf P a ⊎ OneOf P b
+pub one_either : (P : Expect → Type 0) (a b : List Expect) → OneOf P (a ++ b) → OneOf P a ⊎ OneOf P b
 one_either P [] b has = inr has
 one_either P (e ∷ a) b (inl here) = inl (inl here)
 one_either P (e ∷ a) b (inr more) = by (one_either P a b more)

@@ -4,6 +4,8 @@ use Rattle.std.proofs.lemmas.Bool.{eqb-true}
 use Rattle.std.proofs.lemmas.Bool.Decides.{nat_tests}
 use Rattle.std.specs.Prelude.{IfSome, Option, Some, None, Ok, Err, Result, is_some}
 use Rattle.std.specs.List.{AllByRecursion, flat_map, list_any}
+use Rattle.touched_blocks.proofs.Among.{some_same}
+use Rattle.tree_laws.proofs.OldStops.{all_append}
 use Rattle.verdict.proofs.Lists.{all_map as each_map}
 use Rattle.verdict.proofs.Truth.{and_parts}
 use Rattle.verdict.specs.declared.finding.Finding.{Finding}
@@ -38,10 +40,7 @@ use Rattle.tree_change.specs.Accepted.{IsWalked}
 use Rattle.tree_change.specs.LooksLaw.{entries_of}
 use Rattle.tree_change.specs.OneTree.{side_of}
 use Rattle.tree_change.specs.Walks.{Side}
-use Rattle.tree_change.proofs.Levels.{IsUpTo, append_all, up_to}
-
-some_same : (a b : Live) → Some a ≡ Some b → a ≡ b
-some_same a b is = cc
+use Rattle.tree_change.proofs.Levels.{IsUpTo, up_to}
 
 -- ---- each block of a tree but its root is expected with a low key
 
@@ -59,7 +58,7 @@ block_low level e (Ok bytes) = children_low level e (pointers_of bytes)
 below_low : (of : Expect → List Expect) → ((c : Expect) → HasLow c → AllByRecursion HasLow (of c)) → (cs : List Expect)
     → AllByRecursion HasLow cs → AllByRecursion HasLow (flat_map of cs)
 below_low of each [] all = tt
-below_low of each (c ∷ cs) all = append_all HasLow (of c) (flat_map of cs) (each c all.0) (below_low of each cs all.1)
+below_low of each (c ∷ cs) all = all_append HasLow (of c) (flat_map of cs) (each c all.0) (below_low of each cs all.1)
 
 low_from : (level : ℕ) (sup : Super) (stored : Stored) (e : Expect) → HasLow e → AllByRecursion HasLow (visited_from level sup stored e)
 unfolding visited_from

@@ -3,6 +3,7 @@
 use Rattle.std.proofs.Common.{◌≡◌, ℕ, zero, suc, ◌+◌, ◌-◌, Bool, true, false, ◌&&◌, List, [], ◌∷◌, length, refl, ap, ◌∙◌, if◌then◌else◌}
 use Rattle.std.specs.Prelude.{Option, Some, None, option_map, nat_le, Result, Ok, Err}
 use Rattle.std.specs.Result.{IsOk}
+use Rattle.tree_laws.proofs.MeetingStops.{first_fine, later_fine}
 use Rattle.verdict.specs.Chunks.{holds_range, home, place, place_in, place_of_copies}
 use Rattle.verdict.specs.Image.{range}
 use Rattle.verdict.specs.Items.{is_multiple}
@@ -53,14 +54,6 @@ behind_fine : (first : List Seen) (more : Records) → IsOk (behind first more) 
 unfolding behind
 behind_fine first (Err finding) fine = fine
 behind_fine first (Ok rs) fine = fine
-
-then_fine : (first more : Records) → IsOk (then_records first more) → IsOk more
-then_fine (Err finding) more fine = absurd (cc)
-then_fine (Ok rs) more fine = behind_fine rs more fine
-
-first_fine : (first more : Records) → IsOk (then_records first more) → IsOk first
-first_fine (Err finding) more fine = fine
-first_fine (Ok rs) more fine = refl
 
 module _ (sup : Super) (stored other : Stored) (serves : Serves stored other) where
   block_serves : (e : Expect) (bytes : List ℕ) → block_in stored sup.fsid e ≡ Ok bytes → block_in other sup.fsid e ≡ Ok bytes
@@ -137,7 +130,7 @@ module _ (sup : Super) (stored other : Stored) (serves : Serves stored other) wh
         rest (Err finding) here fine = absurd (cc)
         rest (Ok bytes) here fine =
             ap (λ (b : Result (List ℕ) Finding). suc (others (children_in (e.level - 1) e b))) (block_serves e bytes here)
-            ∙ ap suc (same (next_of e bytes) (then_fine (own_records sup e bytes) (some (next_of e bytes)) fine))
+            ∙ ap suc (same (next_of e bytes) (later_fine (own_records sup e bytes) (some (next_of e bytes)) fine))
 
         if_below : (last : Key) (b : Bool) → IsOk (if b then behind (told e) (some (anew e)) else walk_of sup stored e)
             → (if b then suc (others (anew e)) else 1) ≡ (if b then suc (counts (anew e)) else 1)
@@ -156,7 +149,7 @@ module _ (sup : Super) (stored other : Stored) (serves : Serves stored other) wh
     each_comes of counts others same [] fine = refl
     each_comes of counts others same (e ∷ es) fine =
         let one : others e ≡ counts e = same e (first_fine (of e) (each of es) fine) in
-        let more : visits_each others es ≡ visits_each counts es = each_comes of counts others same es (then_fine (of e) (each of es) fine) in
+        let more : visits_each others es ≡ visits_each counts es = each_comes of counts others same es (later_fine (of e) (each of es) fine) in
         λ i. one i + more i
 
     skips_come : (level : ℕ) (es : List Expect) → IsOk (skip_below kept told anew level sup stored es)

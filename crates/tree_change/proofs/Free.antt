@@ -176,7 +176,7 @@ chunks_all olds news =
     itself : (n : ℕ) → (n == n) ≡ true
     itself n = grind (arith, nat_tests)
 
-roots_are : (some : List Located) → roots_among some ≡ map root_at (filter_map (λ (one : Located). root_in one.part) some)
+pub roots_are : (some : List Located) → roots_among some ≡ map root_at (filter_map (λ (one : Located). root_in one.part) some)
 roots_are [] = refl
 roots_are (one ∷ some) = by (root_in one.part) (roots_are some)
   where

@@ -4,6 +4,9 @@ use Rattle.std.proofs.lemmas.Bool.{eqb-true}
 use Rattle.std.proofs.lemmas.Bool.Decides.{nat_tests}
 use Rattle.std.specs.Prelude.{map}
 use Rattle.std.specs.List.{AllByRecursion, list_any}
+use Rattle.verdict.proofs.Truth.{or_right as or_more, or_left}
+use Rattle.verdict.proofs.Numbers.{itself}
+use Rattle.verdict.proofs.Lists.{all_append as both_all}
 use Rattle.verdict.specs.declared.place.Chunk.{Chunk}
 use Rattle.super_reader.specs.declared.Super.{Super}
 use Rattle.volume_items.specs.declared.root.RootItem.{RootItem}
@@ -61,10 +64,6 @@ all_gone P news (root ∷ olds) all = by (list_any (has_id (at_id root)) news) (
     by true rest = rest
     by false rest = (all.0, rest)
 
-both_all : {A : Type 0} (P : A → Type 0) (a b : List A) → AllByRecursion P a → AllByRecursion P b → AllByRecursion P (a ++ b)
-both_all P [] b x y = y
-both_all P (one ∷ a) b x y = (x.0, both_all P a b x.1 y)
-
 distinct_gone : (news olds : List RootAt) → Distinct (at_ids olds) → Distinct (gone_ids news olds)
 unfolding gone_ids
 distinct_gone news [] apart = tt
@@ -92,9 +91,6 @@ gone_other root news (one ∷ olds) has = by (list_any (has_id (at_id one)) news
         → AllByRecursion (λ m. (m == at_id root) ≡ false) (if b then gone_ids news olds else at_id one ∷ gone_ids news olds)
     by true none rest = rest
     by false none rest = (other (at_id one == at_id root) refl none, rest)
-
-itself : (n : ℕ) → (n == n) ≡ true
-itself n = grind (arith, nat_tests)
 
 distinct_named : (whole news olds : List RootAt) → AllByRecursion (λ root. list_any (has_id (at_id root)) whole ≡ true) news
     → Distinct (at_ids news) → Distinct (at_ids olds) → Distinct (at_ids news ++ gone_ids whole olds)
@@ -131,14 +127,6 @@ all_distinct news olds new old = (
   ),
 )
 
-or_more : (a b : Bool) → b ≡ true → (a || b) ≡ true
-or_more true b is = refl
-or_more false b is = is
-
-or_first : (a b : Bool) → a ≡ true → (a || b) ≡ true
-or_first true b is = refl
-or_first false b is = absurd (cc)
-
 -- an id that is named is one of them, and so is one that is gone
 listed_at : (id : ℕ) (roots : List RootAt) → list_any (has_id id) roots ≡ true → listed id (at_ids roots) ≡ true
 listed_at id [] is = is
@@ -152,7 +140,7 @@ listed_at id (root ∷ roots) is = by (at_id root == id) is (listed_at id roots)
 listed_in : (id : ℕ) (news olds : List RootAt) → list_any (has_id id) news ≡ true → listed id (all_ids news olds) ≡ true
 listed_in id news olds is =
     or_more (3 == id) (listed id (1 ∷ (at_ids news ++ gone_ids news olds))) (or_more (1 == id) (listed id (at_ids news ++ gone_ids news olds))
-    (listed_append id (at_ids news) (gone_ids news olds) ∙ or_first (listed id (at_ids news)) (listed id (gone_ids news olds))
+    (listed_append id (at_ids news) (gone_ids news olds) ∙ or_left (listed id (at_ids news)) (listed id (gone_ids news olds))
     (listed_at id news is)))
 
 listed_gone : (id : ℕ) (news olds : List RootAt) → listed id (gone_ids news olds) ≡ true → listed id (all_ids news olds) ≡ true
@@ -187,7 +175,7 @@ named_or_gone news (root ∷ olds) = by (list_any (has_id (at_id root)) news) re
     by true is rest = (rw is refl, rest)
     by false is rest = (
       or_more (list_any (has_id (at_id root)) news) (listed (at_id root) (at_id root ∷ gone_ids news olds))
-          (or_first (at_id root == at_id root) (listed (at_id root) (gone_ids news olds)) (itself (at_id root))),
+          (or_left (at_id root == at_id root) (listed (at_id root) (gone_ids news olds)) (itself (at_id root))),
       more olds rest,
     )
 

@@ -6,8 +6,16 @@ use Rattle.std.specs.List.{AllByRecursion, flat_map, list_any}
 use Rattle.std.specs.Result.{IsOk}
 use Rattle.std.specs.Ordering.{nat_cmp}
 use Rattle.std.specs.FinMap.{FinMap}
+use Rattle.tree_laws.proofs.Knowing.{starts_length}
+use Rattle.tree_change.proofs.Vanished.{among}
+use Rattle.tree_change.proofs.OneOld.{ok_some}
+use Rattle.touched_blocks.proofs.Marking.{no_up}
+use Rattle.tree_laws.proofs.OldTrees.{not_some}
+use Rattle.tree_change.proofs.Ended.{one_either}
+use Rattle.tree_laws.proofs.OldStops.{all_first, all_later}
+use Rattle.verdict.proofs.Numbers.{lower}
 use Rattle.verdict.proofs.Lists.{all_map as each_map}
-use Rattle.verdict.proofs.Truth.{and_parts}
+use Rattle.verdict.proofs.Truth.{and_parts, or_false_right}
 use Rattle.verdict.specs.declared.finding.Finding.{Finding}
 use Rattle.verdict.specs.declared.key.Key.{Key}
 use Rattle.super_reader.specs.declared.Super.{Super}
@@ -32,7 +40,7 @@ use Rattle.tree_laws.specs.TableLaw.{Tree}
 use Rattle.tree_laws.specs.VisitsLaw.{AreAtRest, IsLed}
 use Rattle.tree_laws.specs.declared.told.Start.{Start}
 use Rattle.tree_laws.proofs.Forest.{stands_as}
-use Rattle.tree_laws.proofs.Leading.{IsAtRest}
+use Rattle.tree_laws.proofs.Leading.{IsAtRest, if_not, if_passes, known_rest, at_rest, stop_rest}
 use Rattle.tree_laws.proofs.Picking.{each_both}
 use Rattle.tree_laws.proofs.Skipping.{children_level}
 use Rattle.tree_change.specs.Looks.{met_by}
@@ -40,11 +48,11 @@ use Rattle.tree_change.specs.OneTree.{IsOldOf, IsTree, KnowsNothing, KnowsTree, 
 use Rattle.tree_change.specs.Unchanged.{changes_at}
 use Rattle.tree_change.specs.Walks.{Known, Side, kept_by, listed_by}
 use Rattle.tree_change.proofs.MetVisits.{met_rest}
-use Rattle.tree_change.proofs.Olds.{among, old_stands}
+use Rattle.tree_change.proofs.Olds.{old_stands}
 use Rattle.tree_change.proofs.OneKept.{IsGood, all_good}
 use Rattle.tree_change.proofs.OfTree.{LeadsIn}
 use Rattle.tree_change.proofs.OnePlain.{kept_same, met_same, plain}
-use Rattle.tree_change.proofs.TouchedRoot.{new_unknown, starts_length}
+use Rattle.tree_change.proofs.TouchedRoot.{new_unknown}
 use Rattle.tree_change.proofs.Whole.{none_at, none_of}
 
 -- each block of a tree that is walked below a kept one leads on to others: in the tree as it is, and in the tree as it was, which stops there
@@ -85,61 +93,6 @@ same_pair pairs e starts last is = by (pairs e.tree e.address) refl is
     by None at h = absurd (cc)
     by (Some live) at h = by_same live at (is_same e live) refl h
 
--- what passes a test is kept alone
-if_passes : (b : Bool) (found : Option Key) (last : Key) → (if b then found else None) ≡ Some last → (b ≡ true) × (found ≡ Some last)
-if_passes true found last is = (refl, is)
-if_passes false found last is = absurd (cc)
-
-if_not : (b : Bool) (found : Option Key) (last : Key) → (if b then None else found) ≡ Some last → (b ≡ false) × (found ≡ Some last)
-if_not true found last is = absurd (cc)
-if_not false found last is = (refl, is)
-
-or_false : (a b : Bool) → (a || b) ≡ false → b ≡ false
-or_false true b is = absurd (cc)
-or_false false b is = is
-
--- what is kept by what is known of a tree did not move
-pub known_rest : (pairs : Pairs) (marked : Marks) (moved : ℕ → Bool) (under : Under) → IsAtRest pairs moved under (kept_of pairs marked moved under)
-unfolding kept_of
-known_rest pairs marked moved under e last is =
-    let parts = if_not (marked e.tree e.address || moved e.address) (last_if_same e (under e.tree e.address) (pairs e.tree e.address)) last is in
-    (or_false (marked e.tree e.address) (moved e.address) parts.0, parts.1)
-
--- a block at the address of a stop did not move
-stop_rest : (moved : ℕ → Bool) (stops : List Expect) (address : ℕ) → AreAtRest moved stops → is_stop stops address ≡ true → moved address ≡ false
-stop_rest moved [] address rest is = absurd (cc)
-stop_rest moved (s ∷ stops) address rest is = by (s.address == address) refl is (stop_rest moved stops address rest.1)
-  where
-    by : (b : Bool) → (s.address == address) ≡ b → (b || is_stop stops address) ≡ true → (is_stop stops address ≡ true → moved address ≡ false)
-        → moved address ≡ false
-    by true same h later = subst (λ a. moved a ≡ false) (eqb-true s.address address same) rest.0
-    by false same h later = later h
-
-at_rest : (pairs : Pairs) (moved : ℕ → Bool) (under : Under) (stops : List Expect) → AreAtRest moved stops → IsAtRest pairs moved under (kept_at pairs stops under)
-unfolding kept_at
-at_rest pairs moved under stops rest e last is =
-    let parts = if_passes (is_stop stops e.address) (last_if_same e (under e.tree e.address) (pairs e.tree e.address)) last is in
-    (stop_rest moved stops e.address rest parts.0, parts.1)
-
--- what holds of each of two lists
-all_first : (P : Expect → Type 0) (es fs : List Expect) → AllByRecursion P (es ++ fs) → AllByRecursion P es
-all_first P [] fs all = tt
-all_first P (e ∷ es) fs all = (all.0, all_first P es fs all.1)
-
-all_later : (P : Expect → Type 0) (es fs : List Expect) → AllByRecursion P (es ++ fs) → AllByRecursion P fs
-all_later P [] fs all = all
-all_later P (e ∷ es) fs all = all_later P es fs all.1
-
--- one is in the first or in the second
-one_split : (Q : Expect → Type 0) (es fs : List Expect) → OneOf Q (es ++ fs) → OneOf Q es ⊎ OneOf Q fs
-one_split Q [] fs one = inr one
-one_split Q (e ∷ es) fs (inl here) = inl (inl here)
-one_split Q (e ∷ es) fs (inr later) = by (one_split Q es fs later)
-  where
-    by : OneOf Q es ⊎ OneOf Q fs → OneOf Q (e ∷ es) ⊎ OneOf Q fs
-    by (inl one) = inl (inr one)
-    by (inr one) = inr one
-
 any_split : (test : Expect → Bool) (es fs : List Expect) → list_any test (es ++ fs) ≡ true → (list_any test es ≡ true) ⊎ (list_any test fs ≡ true)
 any_split test [] fs any = inr any
 any_split test (e ∷ es) fs any = by (test e) any (any_split test es fs)
@@ -158,9 +111,6 @@ more_starts false start starts some = some
 one_start : (b : Bool) (start : Start) (starts : List Start) → b ≡ true → 0 < length (if b then start ∷ starts else starts)
 one_start true start starts is = omega arith
 one_start false start starts is = absurd (cc)
-
-lower : (n level : ℕ) → n ≡ suc level → n - 1 ≡ level
-lower n level at = omega arith
 
 above_none : (n level : ℕ) → n ≡ suc level → 0 < n
 above_none n level at = omega (arith, at)
@@ -196,7 +146,7 @@ module _ (tree : ℕ) (pairs : Pairs) (moving : Marks) (moved : ℕ → Bool) (u
         → OneOf Q (flat_map (V level) next) → Within
     within_each level find [] at all one = elim one [ ]
     within_each level find (c ∷ next) at all one =
-        by (one_split Q (V level c) (flat_map (V level) next) one)
+        by (one_either Q (V level c) (flat_map (V level) next) one)
         (within_each level find next at.1 (all_later P (V level c) (flat_map (V level) next) all))
       where
         by : OneOf Q (V level c) ⊎ OneOf Q (flat_map (V level) next) → (OneOf Q (flat_map (V level) next) → Within) → Within
@@ -357,16 +307,6 @@ module _ (tree : ℕ) (pairs : Pairs) (moving : Marks) (moved : ℕ → Bool) (u
         some_at None live P is has = absurd (cc)
         some_at (Some one) live P is has = let same : one ≡ live = cc in subst P same has
 
-not_some : (here : Option Key) (last : Key) → here ≡ None → here ≡ Some last → ⊥
-not_some here last none some = cc
-
-no_pair : (pair : Option Live) (live : Live) → pair ≡ None → pair ≡ Some live → ⊥
-no_pair pair live none some = cc
-
-ok_some : (walk : Records) → IsOk walk → (records : List Seen) × (walk ≡ Ok records)
-ok_some (Err finding) fine = absurd (cc)
-ok_some (Ok records) fine = (records, refl)
-
 module _ (image : List ℕ) (pending : FinMap nat_cmp ℕ) (old : Walked) (trees : List Tree) (pairs : Pairs) (is : Side) (known : Known)
     (before : Option Expect) (now : Expect) (t : IsTree image pending old trees pairs is known before now) where
   abbrev changes : ℕ → Bool
@@ -380,7 +320,7 @@ module _ (image : List ℕ) (pending : FinMap nat_cmp ℕ) (old : Walked) (trees
       → LeadsIn now.tree kept (listed_by known)
   leads_known None others knows kept rests = λ e last of is.
       let has = same_pair known.pairs e (known.under e.tree e.address) last (rests e last is).1 in
-      absurd (no_pair (known.pairs e.tree e.address) has.live
+      absurd (no_up (known.pairs e.tree e.address) has.live
       (ap (λ tree. known.pairs tree e.address) of ∙ new_unknown image old trees known.pairs now t.has knows.pairs_are others e.address) has.pair)
   leads_known (Some e) old_of knows kept rests =
       let stored = stored_in image old.chunks old.sup.nodesize in

@@ -3,6 +3,8 @@ use Rattle.std.proofs.Common.{◌≡◌, ℕ, zero, suc, ◌<◌, ◌≤◌, ◌
 use Rattle.std.proofs.lemmas.Bool.{ltb-false}
 use Rattle.std.specs.Prelude.{Result, Ok, Err, map, nat_lt, slice_index}
 use Rattle.std.specs.List.{AllByRecursion, filter_map, flat_map}
+use Rattle.tree_laws.proofs.FewVisits.{children_at}
+use Rattle.tree_laws.proofs.OldStops.{all_append as append_all}
 use Rattle.walk_laws.proofs.Trees.{step_ok}
 use Rattle.verdict.specs.Image.{range}
 use Rattle.verdict.specs.Rules.{and_then, finding_or, first_failing, image_finding}
@@ -121,17 +123,9 @@ roots_low sup chunks image roots is =
 abbrev pub IsUpTo : ℕ → Expect → Type 0
 IsUpTo level v = v.level ≤ level
 
-pub append_all : (P : Expect → Type 0) (a b : List Expect) → AllByRecursion P a → AllByRecursion P b → AllByRecursion P (a ++ b)
-append_all P [] b x y = y
-append_all P (e ∷ a) b x y = (x.0, append_all P a b x.1 y)
-
 more_all : (level : ℕ) (es : List Expect) → AllByRecursion (IsUpTo level) es → AllByRecursion (IsUpTo (suc level)) es
 more_all level [] all = tt
 more_all level (e ∷ es) all = let here : e.level ≤ level = all.0 in (omega (arith, here), more_all level es all.1)
-
-children_at : (level : ℕ) (e : Expect) (pointers : List Pointer) → AllByRecursion (λ c. c.level ≡ level) (children_of level e pointers)
-children_at level e [] = tt
-children_at level e (pointer ∷ pointers) = (refl, children_at level e pointers)
 
 children_of_block : (level : ℕ) (e : Expect) (block : Result (List ℕ) Finding) → AllByRecursion (λ c. c.level ≡ level) (children_in level e block)
 children_of_block level e (Err finding) = tt

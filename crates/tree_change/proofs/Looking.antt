@@ -6,6 +6,8 @@ use Rattle.std.specs.Ordering.{nat_cmp}
 use Rattle.std.specs.FinMap.{FinMap, empty}
 use Rattle.std.proofs.lemmas.Bool.{and_parts, eqb-true, not-true}
 use Rattle.std.proofs.lemmas.List.{drop_more, length-map, nil_from_length}
+use Rattle.tree_change.proofs.OneChange.{was_plain}
+use Rattle.live_index.proofs.PlaceLaws.{same_name}
 use Rattle.verdict.specs.OnDisk.{key_same}
 use Rattle.verdict.specs.Rules.{and_then}
 use Rattle.verdict.specs.declared.finding.Finding.{Finding}
@@ -92,11 +94,6 @@ met_is known is e new walks = by (skip_in (kept_by known) (listed_by known) is.s
 pub met_length : (met : List Met) → length met ≡ length (blocks_met met)
 met_length met = sym (length-map met (λ (one : Met). one.expect))
 
--- nothing is pending over the image as it was
-bare_side : {L : Type 0} (sides : Sides L) (image : List ℕ) → sides.was.cache.now ≡ empty
-    → side_with sides.was (overlaid sides.was.cache.now 0 image) ≡ was_side sides image
-bare_side sides image none = ap (side_with sides.was) (ap (λ waiting. overlaid waiting 0 image) none ∙ overlaid-empty 0 image)
-
 -- the looks of the steps in one sum
 looks_sum : (first one two three last new old as_old read as_read met as_met : ℕ) → one ≤ first + 3 * new → two ≤ one + 3 * old
     → three ≤ two + read → last ≤ three + met → old ≡ as_old → read ≡ as_read → met ≡ as_met
@@ -121,7 +118,7 @@ tree_few sides None before now new old first one two three last none new_is old_
 tree_few sides (Some image) before now new old first one two three last none new_is old_is few_new few_old few_known few_met =
     let known = known_by sides.known in
     let met = met_is known (is_side sides image) now new new_is in
-    let bare = bare_side sides image none in
+    let bare = was_plain sides image none in
     looks_sum first one two three last (new_visits known (is_side sides image) now)
     (old_visits_or known new.met (side_with sides.was (overlaid sides.was.cache.now 0 image)) before)
     (old_visits_or known (met_by known (is_side sides image) now) (was_side sides image) before)
@@ -142,7 +139,7 @@ unfolding gone_looks
 gone_few sides None before old first one last none old_is few_old few_known = tt
 gone_few sides (Some image) before old first one last none old_is few_old few_known =
     let known = known_by sides.known in
-    let bare = bare_side sides image none in
+    let bare = was_plain sides image none in
     gone_sum first one last (old_visits known [] (side_with sides.was (overlaid sides.was.cache.now 0 image)) before)
     (old_visits known [] (was_side sides image) before) (length old.blocks) (read_count (old_walk known [] (was_side sides image) before))
     few_old few_known (ap (λ side. old_visits known [] side before) bare)
@@ -184,21 +181,11 @@ pub looks_done : (told : Option (List ℕ)) (before now : ℕ) (rest whole : Lis
 looks_done None before now rest whole so = tt
 looks_done (Some image) before now rest whole so = omega (arith, so)
 
--- what is expected alike is the same
-key_of_same : (a b : Key) → key_same a b ≡ true → a ≡ b
-key_of_same a b is =
-    let first = and_parts _ _ is in
-    let rest = and_parts _ _ first.1 in
-    let objectid : a.objectid ≡ b.objectid = eqb-true _ _ first.0 in
-    let kind : a.kind ≡ b.kind = eqb-true _ _ rest.0 in
-    let offset : a.offset ≡ b.offset = eqb-true _ _ rest.1 in
-    λ i. record { objectid = objectid i; kind = kind i; offset = offset i }
-
 bound_of_same : (a b : Option Key) → same_bound a b ≡ true → a ≡ b
 bound_of_same None None is = refl
 bound_of_same None (Some b) is = absurd (cc)
 bound_of_same (Some a) None is = absurd (cc)
-bound_of_same (Some a) (Some b) is = ap (λ (key : Key). Some key) (key_of_same a b is)
+bound_of_same (Some a) (Some b) is = ap (λ (key : Key). Some key) (same_name a b is)
 
 pub expect_of_same : (e now : Expect) → is_expected (Some e) now ≡ true → e ≡ now
 expect_of_same e now is =

@@ -1,6 +1,7 @@
 -- The marks on the pairs that writes touch, and on those above them, are marks on the old trees.
 use Rattle.std.proofs.Common.{◌≡◌, ℕ, Bool, true, false, ◌⊎◌, inl, inr, List, length, ap, sym, subst, ◌∙◌}
 use Rattle.std.specs.Prelude.{is_some}
+use Rattle.verdict.proofs.Truth.{never}
 use Rattle.verdict.specs.declared.place.Chunk.{Chunk}
 use Rattle.super_reader.specs.declared.Super.{Super}
 use Rattle.live_index.specs.Pairs.{Pairs}
@@ -18,10 +19,6 @@ use Rattle.tree_change.specs.Compared.{FitsCompared, IsCompared, KeepsBy}
 use Rattle.tree_change.specs.Rising.{MarksAll}
 use Rattle.tree_change.specs.declared.sides.Compared.{Compared}
 use Rattle.tree_change.proofs.Accepting.{climbed}
-
--- what is true is not false
-never : (b : Bool) → b ≡ true → b ≡ false → ⊥
-never b is none = cc
 
 module _ {L : Type 0} (both : Compared L) (end : ℕ) (image : List ℕ) (fits : FitsCompared both end) (is : IsCompared both image)
     (new : Walked) (sup_is : new.sup ≡ both.fresh.now) where

@@ -16,6 +16,7 @@ use Rattle.std.proofs.Math.Seq.{take-append_seam}
 use Rattle.std.proofs.lemmas.Fn.{always_returns_same}
 use Rattle.std.specs.Fn.{Called, ComputesKey}
 use Rattle.std.specs.Prelude.{IfOk, Result, Ok, Err, option_to_list}
+use Rattle.verdict.proofs.Lists.{filter_alike}
 use denote.Param.Members.{Mut}
 use denote.Ref.{Bor}
 use Rattle.verdict.specs.OnDisk.{key_below}
@@ -27,11 +28,6 @@ use Rattle.live_index.specs.Orders.{by_key}
 use Rattle.tree_laws.specs.MergedLaw.{begins_before, begins_with}
 use Rattle.tree_change.specs.Merging.{IsSortedOf, chunks_among, chunks_left, has_named, named_before, roots_among, roots_left}
 use Rattle.tree_change.specs.Merges.{fits, has_key, has_start}
-
--- tests that agree filter alike
-filter_alike : {X : Type 0} (p q : X → Bool) → ((x : X) → p x ≡ q x) → (xs : List X) → filter p xs ≡ filter q xs
-filter_alike p q same [] = refl
-filter_alike p q same (x ∷ xs) = rw (same x, filter_alike p q same xs) refl
 
 -- a chunk ends at an address of 64 bits
 abbrev Fits : Chunk → Type 0

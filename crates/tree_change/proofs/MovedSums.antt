@@ -6,6 +6,8 @@ use Rattle.std.specs.Prelude.{IfSome, Option, Some, None, Ok, map}
 use Rattle.std.specs.List.{AllByRecursion, cons_option, filter_map, list_any}
 use Rattle.std.specs.Ordering.{nat_cmp}
 use Rattle.std.specs.FinMap.{FinMap}
+use Rattle.verdict.proofs.Truth.{false_of_not}
+use Rattle.verdict.proofs.Lists.{filter_map_less}
 use Rattle.walk_laws.proofs.Trees.{step_ok}
 use Rattle.verdict.specs.Rules.{and_then}
 use Rattle.volume_items.specs.declared.root.RootItem.{RootItem}
@@ -34,14 +36,6 @@ use Rattle.tree_change.proofs.TreeSums.{IsNamed, entries_append, fine, named_low
 abbrev pub moved_cost : Side → Parts → ℕ
 moved_cost is parts = entries_of is parts.new_blocks + 8 * length parts.new_blocks + length parts.old_blocks
 
-filter_most : {A B : Type 0} (pick : A → Option B) (list : List A) → length (filter_map pick list) ≤ length list
-filter_most pick [] = omega arith
-filter_most pick (x ∷ list) = by (pick x) (filter_most pick list)
-  where
-    by : (one : Option _) → length (filter_map pick list) ≤ length list → length (cons_option one (filter_map pick list)) ≤ suc (length list)
-    by None rest = omega (arith, rest)
-    by (Some y) rest = omega (arith, rest)
-
 -- ---- one tree
 
 pub moved_tree : (image : List ℕ) (pending : FinMap nat_cmp ℕ) (old : Walked) (trees : List Tree) (pairs : Pairs) (is : Side) (known : Known)
@@ -57,7 +51,7 @@ moved_tree image pending old trees pairs is known before now parts t low low_old
     let n = new_given known is now a.0 a.1 in
     let b = step_ok (old_or_none known a.0.met was before) (λ old. fine (parts_of pairs a.0 old)) parts a.2 in
     let same = same_parts (parts_of pairs a.0 b.0) parts (fine (parts_of pairs a.0 b.0)) refl b.2 in
-    let most = filter_most (moved_one pairs a.0) a.0.met in
+    let most = filter_map_less (moved_one pairs a.0) a.0.met in
     sums (length parts.moved) (length (moved_of pairs a.0.ended a.0.met)) (length a.0.met) (length (met_by known is now)) (new_visits known is now)
     (entries_of is parts.new_blocks) (length parts.new_blocks)
     (sym (ap (λ (p : Parts). length p.moved) same)) most (sym (ap (λ (w : NewWalk). length w.met) n.2)) few.met_few few.new_few
@@ -107,10 +101,6 @@ moved_all_joins is a b c d x y z w =
 
 -- ---- a tree stays that passes the test
 
-unset : (b : Bool) → not b ≡ true → b ≡ false
-unset true is = absurd (cc)
-unset false is = refl
-
 empty_of : {A : Type 0} (list : List A) → (length list == 0) ≡ true → list ≡ []
 empty_of [] is = refl
 empty_of (x ∷ list) is = let none = eqb-true (length (x ∷ list)) 0 is in absurd (cc)
@@ -129,8 +119,8 @@ stays_true is_same pairs known before now by_old is =
     record {
       by_old = by_old a.0;
       same = expected before b.0;
-      unmarked = unset (known.marked now.tree now.address) d.0;
-      unmoved = unset (known.moved now.address) e.0;
+      unmarked = false_of_not (known.marked now.tree now.address) d.0;
+      unmoved = false_of_not (known.moved now.address) e.0;
       unlisted = empty_of (known.under now.tree now.address) e.1;
     }
   where

@@ -5,6 +5,7 @@ use Rattle.std.specs.Prelude.{Option, Some, None, Result, Ok, Err, map}
 use Rattle.std.specs.List.{AllByRecursion}
 use Rattle.std.specs.Ordering.{nat_cmp}
 use Rattle.std.specs.FinMap.{FinMap}
+use Rattle.tree_change.proofs.Vanished.{among}
 use Rattle.walk_laws.proofs.Trees.{step_ok}
 use Rattle.verdict.specs.Rules.{and_then}
 use Rattle.verdict.specs.declared.finding.Finding.{Finding}
@@ -40,7 +41,7 @@ use Rattle.tree_change.specs.Merging.{root_at}
 use Rattle.tree_change.specs.OneTree.{GivesTree, IsAmong, KnowsNothing, KnowsTree, OneTreeLaw, old_tree, side_of}
 use Rattle.tree_change.specs.Unchanged.{ChangesListed, changes_at, none_touched}
 use Rattle.tree_change.specs.Walks.{Known, NewWalk, Parts, Side, kept_by, lasts_by, listed_by, new_walk, no_tree, parts_of, tree_parts}
-use Rattle.tree_change.proofs.Olds.{among, fine_step, gathered, ok_never, old_stands, step_err}
+use Rattle.tree_change.proofs.Olds.{fine_step, gathered, ok_never, old_stands, step_err}
 use Rattle.tree_change.proofs.OneOld.{untouched}
 use Rattle.tree_change.proofs.OnePlain.{kept_same, nothing_marked}
 use Rattle.tree_change.proofs.Whole.{KeepsNone, none_of}

@@ -5,6 +5,7 @@ use Rattle.std.specs.Prelude.{Option, Some, None, Result, Ok, Err, map}
 use Rattle.std.specs.List.{filter}
 use Rattle.std.specs.Ordering.{nat_cmp}
 use Rattle.std.specs.FinMap.{FinMap}
+use Rattle.tree_change.proofs.Vanished.{among}
 use Rattle.walk_laws.proofs.Trees.{step_ok}
 use Rattle.write_cache.specs.Cache.{overlaid}
 use Rattle.verdict.specs.Rules.{and_then}
@@ -35,7 +36,7 @@ use Rattle.tree_change.specs.OneTree.{ChangesTree, GivesTree, HasRecords, IsAmon
 use Rattle.tree_change.specs.Walks.{Known, NewWalk, Parts, Side, kept_by, lasts_by, listed_by, lives_of, new_walk, no_tree, old_or_none, pairs_at, parts_of, tree_parts}
 use Rattle.tree_change.proofs.Ended.{behind_all, ends_whole, lasts_told}
 use Rattle.tree_change.proofs.Free.{all_free, all_of, chunks_all, chunks_ascend, count_seen, lives_told, named_ascend, none_shared, pairs_seen, roots_all, roots_ascend}
-use Rattle.tree_change.proofs.Olds.{among, fine_step, gathered, ok_never, old_fine, old_given, old_stands, same_ok, step_err}
+use Rattle.tree_change.proofs.Olds.{fine_step, gathered, ok_never, old_fine, old_given, old_stands, same_ok, step_err}
 use Rattle.tree_change.proofs.Whole.{KeepsNone, met_none, none_at, none_of, skip_whole}
 
 -- what the two walks of a tree give is what changes in it, where nothing is known of the old tree

@@ -3,6 +3,8 @@ use Rattle.std.proofs.Common.{◌≡◌, ℕ, List, [], ◌∷◌, ◌⊎◌, in
 use Rattle.std.specs.Prelude.{Result, Ok, Err}
 use Rattle.std.specs.List.{AllByRecursion}
 use Rattle.std.specs.Result.{IsOk}
+use Rattle.tree_change.proofs.Vanished.{among}
+use Rattle.tree_change.proofs.OneOld.{ok_some}
 use Rattle.verdict.specs.Rules.{and_then}
 use Rattle.verdict.specs.declared.finding.Finding.{Finding}
 use Rattle.node_reader.specs.Stored.{stored_in}
@@ -24,12 +26,6 @@ use Rattle.tree_change.specs.Walks.{Known, listed_by, old_walk}
 use Rattle.tree_change.proofs.FirstCopies.{skip_firsts}
 use Rattle.tree_change.proofs.Whole.{KeepsNone, skip_whole}
 
--- what holds of each tree holds of one of them
-pub among : (P : Tree → Type 0) (tree : Tree) (trees : List Tree) → IsAmong tree trees → AllByRecursion P trees → P tree
-among P tree [] one all = elim one [ ]
-among P tree (other ∷ trees) (inl same) all = subst P (sym same) all.0
-among P tree (other ∷ trees) (inr later) all = among P tree trees later all.1
-
 -- the table of the old pairs stands for each old tree
 pub old_stands : (image : List ℕ) (old : Walked) (trees : List Tree) → HasTrees image old trees
     → AllByRecursion (λ tree. Stands (table_of (live_in old.seen)) old.sup tree.0 tree.1) trees
@@ -50,10 +46,6 @@ ok_never value finding is = cc
 
 pub same_ok : {A : Type 0} (a b : A) → fine_step a ≡ fine_step b → a ≡ b
 same_ok a b is = cc
-
-pub fine_records : (walk : Records) → IsOk walk → (records : List Seen) × (walk ≡ Ok records)
-fine_records (Ok records) fine = (records, refl)
-fine_records (Err finding) fine = absurd (cc)
 
 -- what is gathered of records
 abbrev pub gathered : List Seen → Gathers
@@ -79,10 +71,10 @@ module _ (known : Known) (stops : List Expect) (image : List ℕ) (old : Walked)
   pub old_given : IsOk walk → (all : Gathers) → old_walk known stops (side_of image old) e ≡ Ok all
       → (olds : List Seen) × (walk ≡ Ok olds) × (all ≡ gathered olds)
   old_given fine all is =
-      let whole = fine_records walk fine in
+      let whole = ok_some walk fine in
       (whole.0, whole.1, sym (same_ok (gathered whole.0) all (sym (old_gathers whole.0 whole.1) ∙ is)))
 
   -- it has no finding
   pub old_fine : IsOk walk → (finding : Finding) → old_walk known stops (side_of image old) e ≡ Err finding → ⊥
   old_fine fine finding is =
-      let whole = fine_records walk fine in ok_never (gathered whole.0) finding (sym (old_gathers whole.0 whole.1) ∙ is)
+      let whole = ok_some walk fine in ok_never (gathered whole.0) finding (sym (old_gathers whole.0 whole.1) ∙ is)

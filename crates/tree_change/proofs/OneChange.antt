@@ -45,7 +45,7 @@ old_found pairs known was is before now new finding a b =
     ∙ ap (λ walk. and_then walk (λ o. Ok (parts_of pairs new o))) b
 
 -- nothing is pending over the image as it was
-was_plain : {L : Type 0} (sides : Sides L) (image : List ℕ) → sides.was.cache.now ≡ empty
+pub was_plain : {L : Type 0} (sides : Sides L) (image : List ℕ) → sides.was.cache.now ≡ empty
     → side_with sides.was (overlaid sides.was.cache.now 0 image) ≡ was_side sides image
 was_plain sides image none = ap (side_with sides.was) (ap (λ cache. overlaid cache 0 image) none ∙ overlaid-empty 0 image)
 

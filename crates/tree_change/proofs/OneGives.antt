@@ -4,6 +4,8 @@ use Rattle.std.specs.Prelude.{Option, Some, None, Result, Ok, Err, map}
 use Rattle.std.specs.List.{AllByRecursion, filter}
 use Rattle.std.specs.Ordering.{nat_cmp}
 use Rattle.std.specs.FinMap.{FinMap}
+use Rattle.tree_change.proofs.Free.{pairs_seen}
+use Rattle.tree_change.proofs.Vanished.{blocks_count}
 use Rattle.verdict.specs.Rules.{and_then}
 use Rattle.verdict.specs.declared.finding.Finding.{Finding}
 use Rattle.live_index.specs.Pairs.{Pairs}
@@ -32,16 +34,9 @@ use Rattle.tree_change.specs.Gathered.{Gathers, blocks_seen}
 use Rattle.tree_change.specs.Merging.{chunks_left, named_before, root_at, roots_left}
 use Rattle.tree_change.specs.OneTree.{ChangesTree, GivesTree, HasRecords, unchanged, side_of}
 use Rattle.tree_change.specs.Walks.{Known, NewWalk, Parts, Side, kept_by, lasts_by, listed_by, new_walk, old_or_none, parts_of, tree_parts}
-use Rattle.tree_change.proofs.OneNew.{IsNew, met_is, moved_is, new_blocks, of_pairs, pairs_seen}
+use Rattle.tree_change.proofs.OneNew.{IsNew, met_is, moved_is, new_blocks, of_pairs}
 use Rattle.tree_change.proofs.OneShifted.{shifted_kept}
 use Rattle.tree_change.proofs.OneSupers.{unkept_fine}
-
--- how many blocks are among records
-count_seen : (records : List Seen) → length (blocks_seen records) ≡ length (filter is_block_seen records)
-count_seen [] = refl
-count_seen (BlockSeen one ∷ records) = ap suc (count_seen records)
-count_seen (PointerSeen one ∷ records) = count_seen records
-count_seen (ItemSeen one ∷ records) = count_seen records
 
 module _ (image : List ℕ) (pending : FinMap nat_cmp ℕ) (old : Walked) (pairs : Pairs) (is : Side) (known : Known) (before : Option Expect)
     (now : Expect) where
@@ -120,8 +115,8 @@ module _ (image : List ℕ) (pending : FinMap nat_cmp ℕ) (old : Walked) (pairs
             ∙ shifted_kept pairs (kept_by known) shared is.sup stored now (live_in both.olds) news new.is new.keeps both.shifts;
         old_items = both.old_pairs.items ∙ ap (λ lives. items_in lives both.olds) (sym old_are);
         new_items = here.items ∙ ap (λ lives. items_in lives news) (sym new_are);
-        count = ap (λ n. n + 2 * length (blocks_seen come)) (count_seen both.gone ∙ (both.old_pairs.count ∙ sym (ap length old_are)))
-            ∙ ap (λ n. length parts.old_blocks + 2 * n) (count_seen come ∙ (here.count ∙ sym (ap length new_are)));
+        count = ap (λ n. n + 2 * length (blocks_seen come)) (blocks_count both.gone ∙ (both.old_pairs.count ∙ sym (ap length old_are)))
+            ∙ ap (λ n. length parts.old_blocks + 2 * n) (blocks_count come ∙ (here.count ∙ sym (ap length new_are)));
         chunks = both.chunks come come_is;
         roots = both.roots come come_is;
       }

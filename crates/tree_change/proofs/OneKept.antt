@@ -4,6 +4,7 @@ use Rattle.std.proofs.lemmas.Bool.{eqb-true}
 use Rattle.std.specs.Prelude.{Option, Some, None, IfSome, Result, Ok}
 use Rattle.std.specs.List.{AllByRecursion, list_any}
 use Rattle.std.specs.Result.{IsOk}
+use Rattle.tree_laws.proofs.KnownShared.{passes_here, one_with}
 use Rattle.tree_laws.proofs.Meeting.{block_is}
 use Rattle.verdict.proofs.Lists.{all_map as each_map}
 use Rattle.verdict.proofs.Truth.{and_parts, neither}
@@ -27,21 +28,6 @@ use Rattle.tree_laws.proofs.Trails.{trail_below, trail_of}
 use Rattle.tree_laws.proofs.Visiting.{Visits, comes_from, visits_from}
 use Rattle.tree_laws.proofs.Within.{Below, within}
 use Rattle.tree_change.specs.Walks.{moved_to}
-
--- one of several, with what holds of each
-pub one_with : (P Q : Expect → Type 0) (es : List Expect) → AllByRecursion P es → OneOf Q es → (v : Expect) × P v × Q v
-one_with P Q [] all one = elim one [ ]
-one_with P Q (e ∷ es) all (inl here) = (e, all.0, here)
-one_with P Q (e ∷ es) all (inr later) = one_with P Q es all.1 later
-
--- a walk comes to its own block
-passes_here : (test : ℕ → Bool) (sup : Super) (stored : Stored) (v : Expect) → comes_to test sup stored v ≡ false → test v.address ≡ false
-unfolding visited_from
-passes_here test sup stored v is = by v.level is
-  where
-    first : (a b : Bool) → (a || b) ≡ false → a ≡ false
-    first true b is = absurd (cc)
-    first false b is = refl
 
     by : (level : ℕ) → list_any (λ (w : Expect). test w.address) (visited_from level sup stored v) ≡ false → test v.address ≡ false
     by zero is = first (test v.address) false is

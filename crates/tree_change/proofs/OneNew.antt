@@ -4,6 +4,8 @@ use Rattle.std.proofs.Common.{◌≡◌, ℕ, ◌-◌, ◌==◌, Bool, true, fal
 use Rattle.std.proofs.lemmas.Bool.{eqb-true}
 use Rattle.std.specs.Prelude.{Option, Some, None, is_some, Result, Ok, map, if◌then◌else◌}
 use Rattle.std.specs.List.{AllByRecursion, cons_option, filter, filter_map, fold}
+use Rattle.tree_laws.proofs.KnownShared.{one_with}
+use Rattle.tree_change.proofs.Free.{pairs_seen}
 use Rattle.touched_blocks.proofs.Among.{some_same}
 use Rattle.verdict.proofs.Numbers.{itself}
 use Rattle.verdict.proofs.Lists.{all_map}
@@ -38,7 +40,7 @@ use Rattle.tree_laws.proofs.OldBlocks.{unshared_are}
 use Rattle.tree_laws.proofs.Skipping.{skips}
 use Rattle.tree_change.specs.Gathered.{blocks_seen}
 use Rattle.tree_change.specs.Walks.{last_at, live_with, lives_of, moved_of, moved_pair, moved_to, pairs_at, with_last}
-use Rattle.tree_change.proofs.OneKept.{IsGood, all_good, one_with}
+use Rattle.tree_change.proofs.OneKept.{IsGood, all_good}
 use Rattle.tree_change.proofs.OneWalked.{IsRead, IsStop, reads_walked, stops_walked, walked_good}
 
 -- a kept block of a tree as it is: its pair is known but for the node above and the greatest key, and what is walked below it are children
@@ -85,13 +87,6 @@ module _ (sup : Super) (stored : Stored) (address : ℕ) (key : Key) where
       stays_told (with_last address k (ended_at sup stored x)) es all.1
       (ap (λ b. if b then last_in (walk_of sup stored x) else k) (ap (λ n. n == address) here ∙ itself address) ∙ all.0 here)
   last_told k (x ∷ es) all (inr later) = last_told (with_last address k (ended_at sup stored x)) es all.1 later
-
--- the pairs of the blocks among records
-pub pairs_seen : (pairs : Pairs) (records : List Seen) → filter_map (pair_seen pairs) records ≡ pairs_at pairs (blocks_seen records)
-pairs_seen pairs [] = refl
-pairs_seen pairs (BlockSeen block ∷ records) = ap (cons_option (pairs block.tree block.address)) (pairs_seen pairs records)
-pairs_seen pairs (PointerSeen one ∷ records) = pairs_seen pairs records
-pairs_seen pairs (ItemSeen one ∷ records) = pairs_seen pairs records
 
 lives_are_pairs : (table : Pairs) (ended : List Ended) (blocks : List WalkedBlock)
     → AllByRecursion (λ (b : WalkedBlock). table b.tree b.address ≡ Some (live_with b (last_at ended b.address))) blocks

@@ -6,6 +6,7 @@ use Rattle.std.specs.List.{AllByRecursion}
 use Rattle.std.specs.Result.{IsOk}
 use Rattle.std.specs.Ordering.{nat_cmp}
 use Rattle.std.specs.FinMap.{FinMap}
+use Rattle.tree_laws.proofs.OldTrees.{roots_of}
 use Rattle.verdict.proofs.Lists.{all_map as each_map}
 use Rattle.verdict.specs.Rules.{and_then}
 use Rattle.verdict.specs.declared.key.Key.{Key}
@@ -92,23 +93,13 @@ only_one P tree (t ∷ trees) apart (inr later) is = (
     not_both : (m n : ℕ) → not (m == n) ≡ true → m ≡ n → ⊥
     not_both m n other same = grind (arith, nat_tests)
 
--- the roots of an image's trees have no low key and no high key
-pub roots_of : (image : List ℕ) (whole : Walked) (trees : List Tree) → HasTrees image whole trees → AllByRecursion (λ tree. IsRoot tree.1) trees
-roots_of image whole trees has =
-    subst (AllByRecursion (λ (tree : Tree). IsRoot tree.1)) (sym has.trees_are) ((refl, refl), ((refl, refl), by has.roots))
-  where
-    by : (some : List RootItem)
-        → AllByRecursion (λ (tree : Tree). IsRoot tree.1) (map (λ root. (stored_in image whole.chunks whole.sup.nodesize, named_root root)) some)
-    by [] = tt
-    by (root ∷ some) = ((refl, refl), by some)
-
 -- the records of one walk
 one_walk : (walk : Records) (records : List Seen) → walk ≡ Ok records → then_records walk (Ok []) ≡ Ok records
 unfolding behind
 one_walk (Err finding) records is = absurd (cc)
 one_walk (Ok some) records is = ap (λ (r : List Seen). Ok r) (nil some) ∙ is
 
-ok_some : (walk : Records) → IsOk walk → (records : List Seen) × (walk ≡ Ok records)
+pub ok_some : (walk : Records) → IsOk walk → (records : List Seen) × (walk ≡ Ok records)
 ok_some (Err finding) fine = absurd (cc)
 ok_some (Ok records) fine = (records, refl)
 

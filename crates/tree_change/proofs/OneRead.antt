@@ -5,6 +5,9 @@ use Rattle.std.specs.Prelude.{Option, Some, None, Ok, map}
 use Rattle.std.specs.List.{AllByRecursion}
 use Rattle.std.specs.Ordering.{nat_cmp}
 use Rattle.std.specs.FinMap.{FinMap}
+use Rattle.tree_change.proofs.Vanished.{among}
+use Rattle.tree_laws.proofs.Leading.{known_rest}
+use Rattle.tree_laws.proofs.OldTrees.{roots_of}
 use Rattle.walk_laws.proofs.Trees.{step_ok}
 use Rattle.touched_blocks.proofs.Among.{some_same}
 use Rattle.verdict.specs.declared.key.Key.{Key}
@@ -33,9 +36,8 @@ use Rattle.tree_change.specs.LooksLaw.{IsRootTouched}
 use Rattle.tree_change.specs.OneTree.{IsOldOf, IsTree, KnowsNothing, KnowsTree, old_tree, side_of}
 use Rattle.tree_change.specs.Stays.{Stays}
 use Rattle.tree_change.specs.Walks.{Known, Side, kept_by, listed_by, old_or_none, old_walk}
-use Rattle.tree_change.proofs.LedTree.{HasPair, known_rest, same_pair}
-use Rattle.tree_change.proofs.Olds.{among, fine_step, gathered, old_stands, same_ok}
-use Rattle.tree_change.proofs.OneOld.{roots_of}
+use Rattle.tree_change.proofs.LedTree.{HasPair, same_pair}
+use Rattle.tree_change.proofs.Olds.{fine_step, gathered, old_stands, same_ok}
 use Rattle.tree_change.proofs.OfTree.{LeadsIn, read_in}
 use Rattle.tree_change.proofs.TouchedRoot.{new_unknown, unknown}
 use Rattle.tree_change.proofs.Whole.{none_of}

@@ -5,6 +5,7 @@ use Rattle.std.proofs.lemmas.List.Sorted.{IsPermutation-map}
 use Rattle.std.specs.Prelude.{Option, Some, None, map, if◌then◌else◌}
 use Rattle.std.specs.List.{AllPairs, cons_option, filter, filter_map}
 use Rattle.std.specs.List.Sorted.{IsPermutation}
+use Rattle.tree_change.proofs.Free.{roots_are}
 use Rattle.verdict.specs.OnDisk.{key_same}
 use Rattle.volume_items.specs.declared.root.RootItem.{RootItem}
 use Rattle.records.specs.Part.{Located}
@@ -23,17 +24,6 @@ pairs_map R f (x ∷ xs) all =
   where
     both : {p q y z : _} → p ≡ y → q ≡ z → R y z ≡ true → R p q ≡ true
     both first later is = rw (first, later) is
-
--- the roots among items are those of their root items
-roots_are : (all : List Located) → roots_among all ≡ map root_at (filter_map (λ (one : Located). root_in one.part) all)
-roots_are [] = refl
-roots_are (one ∷ all) = by (root_in one.part) (roots_are all)
-  where
-    by : (root : Option RootItem) → roots_among all ≡ map root_at (filter_map (λ (one : Located). root_in one.part) all)
-        → cons_option (root_at_of root) (roots_among all)
-        ≡ map root_at (cons_option root (filter_map (λ (one : Located). root_in one.part) all))
-    by None rest = rest
-    by (Some root) rest = ap (λ more. root_at root ∷ more) rest
 
 named_is : (some : List RootItem) (root : RootItem) → has_named (map root_at some) (root_at root) ≡ has_root_key some root
 named_is [] root = refl

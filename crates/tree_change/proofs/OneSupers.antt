@@ -13,15 +13,10 @@ use Rattle.records.specs.Walk.{each, own_records, then_records, walk_of}
 use Rattle.records.specs.WalkLaw.{visited}
 use Rattle.tree_laws.specs.Shared.{are_read_alike}
 use Rattle.tree_laws.specs.Skips.{Kept, nothing, own_of, part_of, unkept, where_new}
-use Rattle.tree_laws.proofs.Images.{read_alike, same_fsid}
+use Rattle.tree_laws.proofs.Images.{read_alike, same_fsid, own_same}
 use Rattle.tree_laws.proofs.OldSupers.{give_alike}
 use Rattle.tree_laws.proofs.Skipping.{unkept_in, unkept_is}
 use Rattle.tree_laws.proofs.Trails.{Tells, Trail, tells, trail_of}
-
-own_same : (a b : Super) (bytes : List ℕ) (e : Expect) → a.nodesize ≡ b.nodesize → a.incompat ≡ b.incompat → a.compat_ro ≡ b.compat_ro
-    → a.devid ≡ b.devid → own_records a e bytes ≡ own_records b e bytes
-unfolding own_records
-own_same a b bytes e nodesize incompat compat_ro devid = rw (nodesize, incompat, compat_ro, devid) refl
 
 -- superblocks by which blocks are read alike give the same own records of a block
 own_alike : (a b : Super) → are_read_alike a b ≡ true → (stored : Stored) (x : Expect) → own_of a stored x ≡ own_of b stored x

@@ -23,7 +23,7 @@ use Rattle.tree_laws.specs.Skips.{Anew, Kept, is_below, next_of, nothing, skip_a
 use Rattle.tree_laws.specs.Stops.{stops_and, stops_below, stops_or}
 use Rattle.tree_laws.proofs.Forest.{then_ok}
 use Rattle.tree_laws.proofs.Lives.{NoBlocks, entries_none, ok_same}
-use Rattle.tree_laws.proofs.OldStops.{all_append}
+use Rattle.tree_laws.proofs.OldStops.{all_append, all_first, all_later}
 use Rattle.tree_laws.proofs.Picking.{each_both}
 use Rattle.tree_laws.proofs.Sifting.{behind_none, or_high_is}
 use Rattle.tree_laws.proofs.Skipping.{children_level}
@@ -34,14 +34,6 @@ all_flat : (P : Expect → Type 0) (f : Expect → List Expect) (es : List Expec
     → AllByRecursion P (flat_map f es)
 all_flat P f [] all = tt
 all_flat P f (e ∷ es) all = all_append P (f e) (flat_map f es) all.0 (all_flat P f es all.1)
-
-all_first : (P : Expect → Type 0) (es fs : List Expect) → AllByRecursion P (es ++ fs) → AllByRecursion P es
-all_first P [] fs all = tt
-all_first P (e ∷ es) fs all = (all.0, all_first P es fs all.1)
-
-all_later : (P : Expect → Type 0) (es fs : List Expect) → AllByRecursion P (es ++ fs) → AllByRecursion P fs
-all_later P [] fs all = all
-all_later P (e ∷ es) fs all = all_later P es fs all.1
 
 flat_all : (P : Expect → Type 0) (f : Expect → List Expect) (es : List Expect) → AllByRecursion P (flat_map f es)
     → AllByRecursion (λ e. AllByRecursion P (f e)) es

@@ -46,7 +46,7 @@ module _ {X : Type 0} (before : X → X → Bool) where
 abbrev pub either : Located → Located → Bool
 either a b = item_before a b || item_before b a
 
-by_key : (a b : Located) → a.tree ≡ b.tree → key_below a.key b.key ≡ true → either a b ≡ true
+pub by_key : (a b : Located) → a.tree ≡ b.tree → key_below a.key b.key ≡ true → either a b ≡ true
 by_key a b same less = ap (λ t. t || item_before b a) (first a.tree b.tree same)
   where
     first : (m n : ℕ) → m ≡ n → item_before a b ≡ true
@@ -55,28 +55,28 @@ by_key a b same less = ap (λ t. t || item_before b a) (first a.tree b.tree same
         itself : (n : ℕ) → (nat_lt n n || (n == n && true)) ≡ true
         itself n = grind (arith, nat_tests)
 
-by_tree : (a b : Located) → (b.tree == a.tree) ≡ false → either a b ≡ true
+pub by_tree : (a b : Located) → (b.tree == a.tree) ≡ false → either a b ≡ true
 by_tree a b other = apart a.tree b.tree (key_below a.key b.key) (key_below b.key a.key) other
   where
     apart : (m n : ℕ) (p q : Bool) → (n == m) ≡ false → ((nat_lt m n || (m == n && p)) || (nat_lt n m || (n == m && q))) ≡ true
     apart m n p q is = grind (arith, nat_tests)
 
 -- the items of a walk
-above_all : (tree : ℕ) (x : Located) (records : List Seen) → x.tree ≡ tree → ItemsOf tree (items records) → AllAbove x.key (item_keys records)
+pub above_all : (tree : ℕ) (x : Located) (records : List Seen) → x.tree ≡ tree → ItemsOf tree (items records) → AllAbove x.key (item_keys records)
     → Before either x (items records)
 above_all tree x [] at of all = tt
 above_all tree x (BlockSeen one ∷ more) at of all = above_all tree x more at of all
 above_all tree x (PointerSeen one ∷ more) at of all = above_all tree x more at of all
 above_all tree x (ItemSeen one ∷ more) at of all = (by_key x one (at ∙ sym of.0) all.0, above_all tree x more at of.1 all.1)
 
-items_order : (tree : ℕ) (records : List Seen) → ItemsOf tree (items records) → Ascend (item_keys records) → InOrder either (items records)
+pub items_order : (tree : ℕ) (records : List Seen) → ItemsOf tree (items records) → Ascend (item_keys records) → InOrder either (items records)
 items_order tree [] of all = tt
 items_order tree (BlockSeen one ∷ more) of all = items_order tree more of all
 items_order tree (PointerSeen one ∷ more) of all = items_order tree more of all
 items_order tree (ItemSeen one ∷ more) of all = (above_all tree one more of.0 of.1 all.0, items_order tree more of.1 all.1)
 
 -- the items of several trees
-ordered : (sup : Super) (trees : List Tree) (seen : List Seen) → AreApart trees → walks sup trees ≡ Ok seen → InOrder either (items seen)
+pub ordered : (sup : Super) (trees : List Tree) (seen : List Seen) → AreApart trees → walks sup trees ≡ Ok seen → InOrder either (items seen)
 ordered sup [] seen apart is = let h : [] ≡ seen = cc in subst (λ s. InOrder either (items s)) h tt
 ordered sup (tree ∷ trees) seen apart is =
     let f : First sup tree trees seen = first_of sup tree trees seen apart is in

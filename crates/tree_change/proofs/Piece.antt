@@ -6,6 +6,7 @@ use Rattle.std.proofs.lemmas.Bool.Decides.{nat_tests}
 use Rattle.std.specs.List.{filter}
 use Rattle.std.specs.Ordering.{nat_cmp}
 use Rattle.std.specs.FinMap.{FinMap}
+use Rattle.verdict.proofs.Lists.{append_append}
 use Rattle.live_index.specs.declared.live.Live.{Live}
 use Rattle.node_reader.specs.declared.expect.Expect.{Expect}
 use Rattle.records.specs.Part.{Located}
@@ -64,10 +65,6 @@ pieces_none all = record { old_blocks = refl; new_blocks = refl; moved = refl; o
 -- the parts of one tree before those of others
 both : {X : Type 0} (a b c d : List X) → a ≡ c → b ≡ d → a ++ b ≡ c ++ d
 both a b c d x y = ap (λ l. l ++ b) x ∙ ap (λ l. c ++ l) y
-
-append_append : {A : Type 0} (a b c : List A) → (a ++ b) ++ c ≡ a ++ (b ++ c)
-append_append [] b c = refl
-append_append (x ∷ a) b c = ap (λ more. x ∷ more) (append_append a b c)
 
 counts : (n m : ℕ) (a b c d : List Live) → n ≡ length a + 2 * length b → m ≡ length c + 2 * length d
     → n + m ≡ length (a ++ c) + 2 * length (b ++ d)

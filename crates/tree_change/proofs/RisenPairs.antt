@@ -7,6 +7,7 @@ use Rattle.std.specs.List.{AllByRecursion, filter, filter_map, list_any}
 use Rattle.std.specs.List.Sorted.{IsPermutation, IsStrictlySortedBy}
 use Rattle.std.specs.Ordering.{nat_cmp}
 use Rattle.std.specs.FinMap.{FinMap}
+use Rattle.tree_laws.proofs.Kept.{alike_itself}
 use Rattle.live_index.proofs.PlaceLaws.{same_name}
 use Rattle.verdict.proofs.Lists.{all_map as each_map}
 use Rattle.verdict.proofs.Truth.{and_parts}
@@ -30,7 +31,7 @@ use Rattle.tree_laws.proofs.Picking.{is_there}
 use Rattle.tree_change.specs.Rising.{is_left, is_marked, risen_at, unmoved_at}
 use Rattle.tree_change.specs.Unchanged.{stays_unchanged}
 use Rattle.tree_change.proofs.RisenLists.{at_most_one, at_some, by_places, each_passing, option_list}
-use Rattle.tree_change.proofs.RisenPlaces.{Lone, alike_any, alike_itself, at_once, at_place, fields_of, in_passing, lone_of, none_each, owners, passes, places_marked, same_live, somewhere, table_at, table_each, there_passing}
+use Rattle.tree_change.proofs.RisenPlaces.{Lone, alike_any, at_once, at_place, fields_of, in_passing, lone_of, none_each, owners, passes, places_marked, same_live, somewhere, table_at, table_each, there_passing}
 use Rattle.tree_change.proofs.RisenShared.{is_known, knows, unchanged, unchanged_is}
 
 -- what is known of the pair that the old image has at a place, and of the one that the new image has there

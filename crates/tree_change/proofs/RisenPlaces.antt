@@ -8,6 +8,8 @@ use Rattle.std.specs.List.{AllByRecursion, AllPairs, filter, list_any}
 use Rattle.std.specs.List.Sorted.{IsStrictlySortedBy}
 use Rattle.std.specs.Ordering.{nat_cmp, ordering_then}
 use Rattle.std.specs.declared.cmp.Ordering.TheVariants.{Less}
+use Rattle.tree_laws.proofs.Kept.{alike_itself}
+use Rattle.verdict.proofs.Numbers.{same_there}
 use Rattle.live_index.proofs.PlaceLaws.{same_name}
 use Rattle.verdict.proofs.Truth.{and_parts}
 use Rattle.verdict.specs.OnDisk.{key_same}
@@ -267,14 +269,7 @@ same_live a b f last parent owner =
       owner = owner i;
     }
 
--- a pair is alike to itself
-pub alike_itself : (live : Live) → are_alike live live ≡ true
-alike_itself live = grind (arith, common_steps, nat_tests)
-
 -- ---- the marked places
-
-same_there : (m n : ℕ) → m ≡ n → (m == n) ≡ true
-same_there m n is = grind (arith, nat_tests)
 
 -- where each place of a list is marked
 pub places_marked : (marked : Marked) (places : List PairPlace) → ((tree address : ℕ) → marked_in places tree address ≡ true → marked tree address ≡ true)

@@ -5,6 +5,7 @@ use Rattle.std.specs.Prelude.{Option, Some, None, Ok}
 use Rattle.std.specs.List.{AllByRecursion, list_any}
 use Rattle.std.specs.Ordering.{nat_cmp}
 use Rattle.std.specs.FinMap.{FinMap}
+use Rattle.tree_laws.proofs.KnownShared.{passes_here}
 use Rattle.verdict.proofs.Lists.{all_map as each_map}
 use Rattle.verdict.proofs.Truth.{and_parts}
 use Rattle.verdict.specs.OnDisk.{key_same}
@@ -46,15 +47,6 @@ any_and p test k (x ∷ xs) all =
     joined true false true = refl
     joined true false false = refl
     joined false b k = refl
-
--- a walk comes to its own block
-passes_here : (test : ℕ → Bool) (sup : Super) (stored : Stored) (v : Expect) → comes_to test sup stored v ≡ false → test v.address ≡ false
-unfolding visited_from
-passes_here test sup stored v is = by v.level is
-  where
-    first : (a b : Bool) → (a || b) ≡ false → a ≡ false
-    first true b is = absurd (cc)
-    first false b is = refl
 
     by : (level : ℕ) → list_any (λ (w : Expect). test w.address) (visited_from level sup stored v) ≡ false → test v.address ≡ false
     by zero is = first (test v.address) false is

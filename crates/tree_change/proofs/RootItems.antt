@@ -39,7 +39,7 @@ roots_failed sup chunks image finding is =
     and_then (finding_or (roots_fault sup.compat_ro (roots_seen all)) (tt {0})) (λ _. Ok (roots_seen all)))) is
 
 -- the root items of an image are those among the records of its root tree
-items_are_seen : (sup : Super) (chunks : List Chunk) (image : List ℕ) (records : List Seen) (olds : List RootItem)
+pub items_are_seen : (sup : Super) (chunks : List Chunk) (image : List ℕ) (records : List Seen) (olds : List RootItem)
     → root_records sup chunks image ≡ Ok records → root_items_in sup chunks image ≡ Ok olds → roots_seen records ≡ olds
 items_are_seen sup chunks image records olds is items =
     let step =

@@ -3,6 +3,7 @@ use Rattle.std.proofs.Common.{◌≡◌, ℕ, zero, suc, ◌+◌, ◌-◌, ◌<�
 use Rattle.std.proofs.lemmas.List.Elements.{filter_map-append}
 use Rattle.std.specs.Prelude.{Option, Some, None, Ok, Err, if◌then◌else◌}
 use Rattle.std.specs.List.{AllByRecursion}
+use Rattle.verdict.proofs.Numbers.{lower}
 use Rattle.walk_laws.proofs.Trees.{step_ok}
 use Rattle.verdict.specs.declared.key.Key.{Key}
 use Rattle.super_reader.specs.declared.Super.{Super}
@@ -45,9 +46,6 @@ read_has below sup stored e records is =
     let b = step_ok (block_in stored sup.fsid e) (λ bytes. then_records (own_records sup e bytes) (below e bytes)) records is in
     let s = then_ok (own_records sup e b.0) (below e b.0) records b.2 in
     subst HasBlock (sym s.4) (has_first s.0 s.1 (own_has (block_at e b.0) (entry_records sup e b.0) s.0 s.2))
-
-lower : (n level : ℕ) → n ≡ suc level → n - 1 ≡ level
-lower n level at = omega arith
 
 module _ (kept : Kept) (anew : Anew) (sup : Super) (stored : Stored) (leads : LeadsOn kept anew) where
   abbrev pub skips : ℕ → List Expect → Records

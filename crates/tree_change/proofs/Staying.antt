@@ -3,6 +3,7 @@ use Rattle.std.proofs.Common.{◌≡◌, ℕ, zero, suc, ◌+◌, ◌<◌, Bool,
 use Rattle.std.proofs.lemmas.Bool.{eq-eqb}
 use Rattle.std.specs.Prelude.{◌-◌, map, Option, Some, None, Ok, if◌then◌else◌}
 use Rattle.std.specs.List.{AllByRecursion, cons_option}
+use Rattle.tree_laws.proofs.Mixing.{same_itself}
 use Rattle.verdict.specs.OnDisk.{key_same}
 use Rattle.verdict.specs.Rules.{and_then, no_key}
 use Rattle.verdict.specs.declared.key.Key.{Key}
@@ -102,10 +103,6 @@ module _ (kept : Kept) (anew : Anew) (sup : Super) (stored : Stored) (e : Expect
       at zero = refl
       at (suc level) = refl
 
-key_itself : (key : Key) → key_same key key ≡ true
-key_itself key =
-    rw (eq-eqb key.objectid key.objectid refl, eq-eqb key.kind key.kind refl, eq-eqb key.offset key.offset refl) refl
-
 -- the root of a tree that stays
 module _ (known : Known) (e : Expect) (live : Live) (low : e.low ≡ None) (high : e.high ≡ None) (pair : known.pairs e.tree e.address ≡ Some live)
     (level : live.level ≡ e.level) (generation : live.generation ≡ e.generation) (unlisted : known.under e.tree e.address ≡ []) where
@@ -161,7 +158,7 @@ module _ (known : Known) (e : Expect) (live : Live) (low : e.low ≡ None) (high
   moves_none parent =
       ap (λ (was : Option Live). moved_pair was e.parent (last_at met_alone.ended e.address)) pair
       ∙ (ap (λ (b : Bool). moved_pair (Some live) e.parent (if b then live.last else no_key)) (eq-eqb e.address e.address refl)
-      ∙ rw (eq-eqb live.parent e.parent parent) (ap (λ (b : Bool). if b then None else Some (moved_to live e.parent live.last)) (key_itself live.last)))
+      ∙ rw (eq-eqb live.parent e.parent parent) (ap (λ (b : Bool). if b then None else Some (moved_to live e.parent live.last)) (same_itself live.last)))
 
   alone_parts : (was is : Side) → kept_by known e ≡ Some live.last → live.parent ≡ e.parent
       → tree_parts known.pairs known was is (Some e) e ≡ Ok no_parts

@@ -6,6 +6,7 @@ use Rattle.std.specs.List.{filter, fold}
 use Rattle.std.specs.Ordering.{nat_cmp}
 use Rattle.std.specs.FinMap.{FinMap}
 use Rattle.std.proofs.Math.Nat.{min-le_left}
+use Rattle.tree_change.proofs.Free.{count_seen}
 use Rattle.verdict.specs.Chunks.{home, place, place_in}
 use Rattle.verdict.specs.Rules.{and_then}
 use Rattle.verdict.specs.declared.finding.Finding.{Finding}
@@ -106,13 +107,6 @@ new_ok (Some image) pending known sup chunks e start read start_met met start_en
     by (Err finding) held a b = absurd (cc)
     by (Ok rs) {m} {d} held a b = new_same _ read m met d ended (sym (gathered_none rs) ∙ fine_same _ _ held) (sym a) (sym b)
 
--- as many blocks are among records as records of blocks
-blocks_counted : (records : List Seen) → length (filter is_block_seen records) ≡ length (blocks_seen records)
-blocks_counted [] = refl
-blocks_counted (BlockSeen block ∷ records) = ap suc (blocks_counted records)
-blocks_counted (PointerSeen pointer ∷ records) = blocks_counted records
-blocks_counted (ItemSeen one ∷ records) = blocks_counted records
-
 -- two reads at most for each block that was gathered
 pub reads_ok : (told : Option (List ℕ)) (pending : FinMap nat_cmp ℕ) (source : BlockSource) (records : List ℕ → Records) (start read : Gathers)
     (before after : ℕ) → start ≡ no_tree
@@ -130,7 +124,7 @@ reads_ok (Some image) pending source records start read before after none taken 
         let same : blocks_seen rs ≡ read.blocks = ap (λ (g : Gathers). g.blocks) (sym (gathered_none rs) ∙ fine_same _ _ held) in
         let few : fold (with_read source) before rs ≤ before + 2 * length (filter is_block_seen rs) = reads_twice source before rs in
         let is : fold (with_read source) before rs ≡ after = number_same _ _ counts in
-        subst (λ n. after ≤ before + 2 * n) (blocks_counted rs ∙ ap length same) (subst (λ n. n ≤ before + 2 * length (filter is_block_seen rs)) is few)
+        subst (λ n. after ≤ before + 2 * n) (count_seen rs ∙ ap length same) (subst (λ n. n ≤ before + 2 * length (filter is_block_seen rs)) is few)
 
 -- a place of one copy takes one read at most
 one_read : (source : BlockSource) (chunks : List Chunk) (address reads : ℕ) → source.map.now ≡ first_copies chunks
@@ -187,7 +181,7 @@ reads_one (Some image) pending source chunks once records start read before afte
         let same : blocks_seen rs ≡ read.blocks = ap (λ (g : Gathers). g.blocks) (sym (gathered_none rs) ∙ fine_same _ _ held) in
         let few : fold (with_read source) before rs ≤ before + length (filter is_block_seen rs) = reads_once source chunks once before rs in
         let is : fold (with_read source) before rs ≡ after = number_same _ _ counts in
-        subst (λ n. after ≤ before + n) (blocks_counted rs ∙ ap length same) (subst (λ n. n ≤ before + length (filter is_block_seen rs)) is few)
+        subst (λ n. after ≤ before + n) (count_seen rs ∙ ap length same) (subst (λ n. n ≤ before + length (filter is_block_seen rs)) is few)
 
 -- where the addresses of these blocks are marked, the walk that keeps the marked ones keeps those at stops
 stops_in : (pairs : Pairs) (test : ℕ → Bool) (stops : List Expect) (under : Under) (anew : Anew) (sup : Super) (chunks : List Chunk) (e : Expect)

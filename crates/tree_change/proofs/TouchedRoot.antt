@@ -3,6 +3,8 @@ use Rattle.std.proofs.Common.{◌≡◌, ℕ, zero, suc, ◌<◌, ◌-◌, Bool,
 use Rattle.std.specs.Prelude.{Option, Some, None, Result, Ok, Err}
 use Rattle.std.specs.Ordering.{nat_cmp}
 use Rattle.std.specs.FinMap.{FinMap}
+use Rattle.tree_laws.proofs.Knowing.{starts_length}
+use Rattle.tree_laws.proofs.OldTrees.{not_some}
 use Rattle.verdict.specs.declared.key.Key.{Key}
 use Rattle.live_index.specs.Pairs.{Pairs}
 use Rattle.node_reader.specs.Stored.{CopyFault, stored_in}
@@ -25,10 +27,6 @@ use Rattle.tree_change.proofs.OneNew.{IsKeptBlock}
 use Rattle.tree_change.proofs.OneOld.{are_both, old_is}
 use Rattle.tree_change.proofs.OnePlain.{kept_same, plain}
 use Rattle.tree_change.proofs.Whole.{none_of}
-
-pub starts_length : (level : ℕ) (e : Expect) (starts : List Start) → length (starts_of level e starts) ≡ length starts
-starts_length level e [] = refl
-starts_length level e (start ∷ starts) = ap suc (starts_length level e starts)
 
 -- a marked block and one that moved are not kept
 marked_not : (pairs : Pairs) (marked : Marks) (moved : ℕ → Bool) (under : Under) (e : Expect) → marked e.tree e.address ≡ true
@@ -65,9 +63,6 @@ new_unknown image old trees table now has tables_are others address =
     tables_are now.tree address
     ∙ (ap (λ lives. table_of lives now.tree address) (lives_all old.sup trees old.seen walk.0 walk.1)
     ∙ table_none (all_lives old.sup trees) now.tree address (others_all old.sup trees old.seen now.tree walk.1 others))
-
-not_some : (here : Option Key) (last : Key) → here ≡ None → here ≡ Some last → ⊥
-not_some here last none some = cc
 
 -- below a kept leaf no child is walked
 node_under : (level : ℕ) (e : Expect) (starts : List Start) (test : ℕ → Bool) (block : Result (List ℕ) CopyFault) → 0 < length starts

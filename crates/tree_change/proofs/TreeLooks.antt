@@ -5,6 +5,7 @@ use Rattle.std.specs.Prelude.{Option, Some, None, IfSome, is_some, Ok}
 use Rattle.std.specs.List.{AllByRecursion}
 use Rattle.std.specs.Ordering.{nat_cmp}
 use Rattle.std.specs.FinMap.{FinMap}
+use Rattle.tree_change.proofs.OneOld.{ok_some}
 use Rattle.walk_laws.proofs.Trees.{step_ok}
 use Rattle.verdict.specs.Rules.{and_then}
 use Rattle.verdict.specs.declared.key.Key.{Key}
@@ -39,11 +40,11 @@ use Rattle.tree_change.proofs.EachTree.{one_tree}
 use Rattle.tree_change.proofs.FewLooks.{entries_all, entries_lives, few_seen, old_few}
 use Rattle.tree_change.proofs.LedTree.{AreLed, led as led_tree}
 use Rattle.tree_change.proofs.MetVisits.{few_met}
-use Rattle.tree_change.proofs.Olds.{among, fine_records, fine_step, gathered, old_given, old_skip, old_stands, same_ok}
+use Rattle.tree_change.proofs.Olds.{fine_step, gathered, old_given, old_skip, old_stands, same_ok}
 use Rattle.tree_change.proofs.OneRead.{old_read, one_read}
 use Rattle.tree_change.proofs.OfTree.{LeadsIn, read_in}
 use Rattle.tree_change.proofs.TouchedRoot.{root_led}
-use Rattle.tree_change.proofs.Vanished.{blocks_count, pairs_seen}
+use Rattle.tree_change.proofs.Vanished.{blocks_count, pairs_seen, among}
 use Rattle.tree_change.proofs.Whole.{none_stopped, unkept_whole}
 use Rattle.tree_change.proofs.WholeOld.{walks_whole}
 
@@ -230,7 +231,7 @@ gone_looks image old trees pairs known before parts has pairs_are is low given =
     (old_stands image old trees has) in
     let a = step_ok (old_walk known [] was before) (λ old. fine_step (parts_of pairs no_walk old)) parts given in
     let count = read_gone image old trees pairs known before pairs_are stands a.0 a.1 in
-    let whole = fine_records (walk_of old.sup (old_tree image old before).0 before) stands.each.fine in
+    let whole = ok_some (walk_of old.sup (old_tree image old before).0 before) stands.each.fine in
     subst (GoesByFew image old known before) (same_ok (parts_of pairs no_walk a.0) parts a.2) (record {
       old_few = old_few image old pairs known pairs_are before.tree [] before a.0 (none_lead known before.tree) refl low whole.0
           (old_skip known [] image old (none_stopped known.pairs known.under) before ∙ whole.1) a.1 count;

@@ -6,6 +6,8 @@ use Rattle.std.specs.Prelude.{IfSome, Option, Some, None, Result, Ok, Err, map}
 use Rattle.std.specs.List.{AllByRecursion, list_any}
 use Rattle.std.specs.Ordering.{nat_cmp}
 use Rattle.std.specs.FinMap.{FinMap}
+use Rattle.tree_laws.proofs.Mixing.{same_itself}
+use Rattle.verdict.proofs.Numbers.{itself}
 use Rattle.walk_laws.proofs.Trees.{step_ok}
 use Rattle.verdict.specs.OnDisk.{key_same}
 use Rattle.verdict.specs.Rules.{and_then}
@@ -119,19 +121,13 @@ joined_cost was is some more a b x y =
 
 -- ---- a tree that is walked does not stay
 
-same_nat : (n : ℕ) → (n == n) ≡ true
-same_nat n = grind (arith, nat_tests)
-
-same_key : (k : Key) → key_same k k ≡ true
-same_key k = rw (same_nat k.objectid, same_nat k.kind, same_nat k.offset) refl
-
 same_limit : (k : Option Key) → same_bound k k ≡ true
 same_limit None = refl
-same_limit (Some k) = same_key k
+same_limit (Some k) = same_itself k
 
 expected_itself : (e : Expect) → is_expected (Some e) e ≡ true
 expected_itself e =
-    rw (same_nat e.tree, same_nat e.address, same_nat e.generation, same_nat e.level, same_nat e.parent, same_limit e.low, same_limit e.high) refl
+    rw (itself e.tree, itself e.address, itself e.generation, itself e.level, itself e.parent, same_limit e.low, same_limit e.high) refl
 
 pub stays_false : (is_same : Bool) (pairs : Pairs) (known : Known) (before : Option Expect) (now : Expect) → is_same ≡ true
     → stays_by is_same known before now ≡ false → Stays pairs known before now → ⊥

@@ -5,6 +5,7 @@ use Rattle.std.specs.Prelude.{Option, Some, None, is_some, Result, Ok}
 use Rattle.std.specs.List.{AllByRecursion, cons_option, filter, filter_map}
 use Rattle.std.specs.Ordering.{nat_cmp}
 use Rattle.std.specs.FinMap.{FinMap}
+use Rattle.tree_laws.proofs.OldTrees.{none_at}
 use Rattle.walk_laws.proofs.Trees.{step_ok}
 use Rattle.verdict.specs.Rules.{and_then}
 use Rattle.verdict.specs.declared.finding.Finding.{Finding}
@@ -52,18 +53,13 @@ among P tree (one ∷ trees) (inr later) all = among P tree trees later all.1
 abbrev pub ok_one : {A : Type 0} → A → Result A Finding
 ok_one a = Ok a
 
--- no block is kept where there are no stops
-none_kept : (pairs : Pairs) (under : Under) (e : Expect) → kept_at pairs [] under e ≡ None
-unfolding kept_at
-none_kept pairs under e = refl
-
 some_not : (last : Key) (made : Option Key) → made ≡ None → made ≡ Some last → ⊥
 some_not last made none some = absurd (cc)
 
 none_sound : (tree : ℕ) (pairs : Pairs) (under : Under) (sup : Super) (stored : Stored)
     → IsSound tree (kept_at pairs [] under) nothing (anew_of under) sup stored
 none_sound tree pairs under sup stored = record {
-  gives = λ e last of is. elim (some_not last (kept_at pairs [] under e) (none_kept pairs under e) is) [ ];
+  gives = λ e last of is. elim (some_not last (kept_at pairs [] under e) (none_at pairs under e) is) [ ];
   next = λ e. each e (under e.tree e.address);
 }
   where
@@ -140,7 +136,7 @@ module _ (image : List ℕ) (pending : FinMap nat_cmp ℕ) (old new : Walked) (t
 
       each : (es : List Expect) → AllByRecursion (λ v. is_some (kept v) ≡ false) es
       each [] = tt
-      each (v ∷ es) = (ap is_some (none_kept known.pairs known.under v), each es)
+      each (v ∷ es) = (ap is_some (none_at known.pairs known.under v), each es)
 
       comes : Comes (λ v. is_some (kept v) ≡ false) old.sup stored e
       comes = record { fine = rw has refl; each = each (visited old.sup stored e) }

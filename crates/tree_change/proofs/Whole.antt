@@ -2,6 +2,7 @@
 use Rattle.std.proofs.Common.{◌≡◌, ℕ, zero, suc, ◌-◌, Bool, true, false, ◌||◌, List, [], ◌∷◌, ◌++◌, refl, ap, sym, ◌∙◌, if◌then◌else◌}
 use Rattle.std.specs.Prelude.{Option, Some, None, Ok, Err}
 use Rattle.std.specs.List.{flat_map}
+use Rattle.tree_laws.proofs.OldTrees.{not_some}
 use Rattle.verdict.specs.Rules.{and_then, no_key}
 use Rattle.verdict.specs.declared.key.Key.{Key}
 use Rattle.super_reader.specs.declared.Super.{Super}
@@ -48,9 +49,6 @@ none_at pairs stops under none e = by (is_stop stops e.address)
 pub none_stopped : (pairs : Pairs) (under : Under) → KeepsNone (kept_at pairs [] under)
 unfolding kept_at
 none_stopped pairs under e = refl
-
-not_some : (here : Option Key) (last : Key) → here ≡ None → here ≡ Some last → ⊥
-not_some here last none some = cc
 
 module _ (kept : Kept) (none : KeepsNone kept) (sup : Super) (stored : Stored) where
   parts_own : (es : List Expect) → each (part_of kept nothing sup stored) es ≡ each (own_of sup stored) es

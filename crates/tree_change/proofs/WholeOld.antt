@@ -3,6 +3,7 @@ use Rattle.std.proofs.Common.{◌≡◌, ℕ, List, ◌⊎◌, inl, inr, ap, sub
 use Rattle.std.specs.Prelude.{Option, Some, Ok}
 use Rattle.std.specs.Ordering.{nat_cmp}
 use Rattle.std.specs.FinMap.{FinMap}
+use Rattle.tree_change.proofs.Vanished.{among}
 use Rattle.live_index.specs.Pairs.{Pairs}
 use Rattle.node_reader.specs.Stored.{Stored, stored_in}
 use Rattle.node_reader.specs.declared.expect.Expect.{Expect}
@@ -18,10 +19,10 @@ use Rattle.tree_laws.specs.TableLaw.{Tree}
 use Rattle.tree_change.specs.Looks.{met_by}
 use Rattle.tree_change.specs.OneTree.{IsOldOf, IsTree, KnowsNothing, KnowsTree, old_tree, unchanged}
 use Rattle.tree_change.specs.Walks.{Known, Side, kept_by, lasts_by, listed_by}
-use Rattle.tree_change.proofs.Olds.{among, fine_records, old_skip, old_stands}
+use Rattle.tree_change.proofs.Olds.{old_skip, old_stands}
 use Rattle.tree_change.proofs.OneGives.{AreBoth}
 use Rattle.tree_change.proofs.OneNew.{met_is}
-use Rattle.tree_change.proofs.OneOld.{are_both, old_is}
+use Rattle.tree_change.proofs.OneOld.{are_both, old_is, ok_some}
 use Rattle.tree_change.proofs.OnePlain.{met_same, plain}
 use Rattle.tree_change.proofs.OneSupers.{unkept_fine}
 use Rattle.tree_change.proofs.Whole.{none_at}
@@ -72,5 +73,5 @@ module _ (image : List ℕ) (pending : FinMap nat_cmp ℕ) (old : Walked) (trees
       by : KnowsTree image pending old is known before ⊎ KnowsNothing old is known → Walks known e
       by (inl knows) = known_whole e old_of (subst (KnowsTree image pending old is known) is_some knows) news walk
       by (inr knows) =
-          let whole = fine_records (walk_of old.sup (old_tree image old e).0 e) stands.each.fine in
+          let whole = ok_some (walk_of old.sup (old_tree image old e).0 e) stands.each.fine in
           (whole.0, old_skip known (met_by known is now) image old (none_at known.pairs (met_by known is now) known.under knows.none) e ∙ whole.1)

@@ -67,7 +67,7 @@ put_each P c (d ∷ sorted) all = by (nat_le d.start c.start) all (put_each P c 
     by true all rest = let more = rest all.1 in (more.0, (all.0, more.1))
     by false all rest = (all.0, all.1)
 
-all_each : (P : Chunk → Type 0) (sorted chunks : List Chunk) → AllByRecursion P (all_by_start sorted chunks)
+pub all_each : (P : Chunk → Type 0) (sorted chunks : List Chunk) → AllByRecursion P (all_by_start sorted chunks)
     → AllByRecursion P sorted × AllByRecursion P chunks
 unfolding all_by_start
 all_each P sorted [] all = (all, tt)

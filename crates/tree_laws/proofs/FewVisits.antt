@@ -105,7 +105,7 @@ behind_none (Err finding) = refl
 behind_none (Ok records) = refl
 
 -- children are on the level that they are expected on
-children_at : (level : ℕ) (e : Expect) (pointers : List Pointer) → AllByRecursion (λ c. c.level ≡ level) (children_of level e pointers)
+pub children_at : (level : ℕ) (e : Expect) (pointers : List Pointer) → AllByRecursion (λ c. c.level ≡ level) (children_of level e pointers)
 children_at level e [] = tt
 children_at level e (pointer ∷ pointers) = (refl, children_at level e pointers)
 

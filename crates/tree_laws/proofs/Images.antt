@@ -98,7 +98,7 @@ visited_same (suc level) a b stored fsid e =
     ap (λ more. e ∷ more) (flat_same (visited_from level a stored) (visited_from level b stored) (visited_same level a b stored fsid) (children_in level e (block_in stored a.fsid e))
     ∙ ap (λ id. flat_map (visited_from level b stored) (children_in level e (block_in stored id e))) fsid)
 
-own_same : (a b : Super) (bytes : List ℕ) (e : Expect) → a.nodesize ≡ b.nodesize → a.incompat ≡ b.incompat → a.compat_ro ≡ b.compat_ro → a.devid ≡ b.devid → own_records a e bytes ≡ own_records b e bytes
+pub own_same : (a b : Super) (bytes : List ℕ) (e : Expect) → a.nodesize ≡ b.nodesize → a.incompat ≡ b.incompat → a.compat_ro ≡ b.compat_ro → a.devid ≡ b.devid → own_records a e bytes ≡ own_records b e bytes
 unfolding own_records
 own_same a b bytes e nodesize incompat compat_ro devid = rw (nodesize, incompat, compat_ro, devid) refl
 

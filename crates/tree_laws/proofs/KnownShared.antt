@@ -22,7 +22,7 @@ use Rattle.tree_laws.proofs.OldTells.{HasSame, has_same}
 use Rattle.tree_laws.proofs.Sharing.{found}
 
 -- one of several, with what holds of each
-one_with : (P Q : Expect → Type 0) (es : List Expect) → AllByRecursion P es → OneOf Q es → (v : Expect) × P v × Q v
+pub one_with : (P Q : Expect → Type 0) (es : List Expect) → AllByRecursion P es → OneOf Q es → (v : Expect) × P v × Q v
 one_with P Q [] all one = elim one [ ]
 one_with P Q (e ∷ es) all (inl here) = (e, all.0, here)
 one_with P Q (e ∷ es) all (inr later) = one_with P Q es all.1 later
@@ -33,7 +33,7 @@ one_map P Q R (e ∷ es) all f (inl here) = inl (f e all.0 here)
 one_map P Q R (e ∷ es) all f (inr later) = inr (one_map P Q R es all.1 f later)
 
 -- a walk comes to its own block
-passes_here : (test : ℕ → Bool) (sup : Super) (stored : Stored) (v : Expect) → comes_to test sup stored v ≡ false → test v.address ≡ false
+pub passes_here : (test : ℕ → Bool) (sup : Super) (stored : Stored) (v : Expect) → comes_to test sup stored v ≡ false → test v.address ≡ false
 unfolding visited_from
 passes_here test sup stored v is = by v.level is
   where

@@ -122,16 +122,16 @@ module _ (pairs : Pairs) (moving held went : Marks) (moved : ℕ → Bool) (unde
           ((refl, one_led start all.0 (kept (start_of (e.level - 1) e start)) refl), each_led starts all.1)
 
 -- what passes a test is kept alone
-if_passes : (b : Bool) (found : Option Key) (last : Key) → (if b then found else None) ≡ Some last → (b ≡ true) × (found ≡ Some last)
+pub if_passes : (b : Bool) (found : Option Key) (last : Key) → (if b then found else None) ≡ Some last → (b ≡ true) × (found ≡ Some last)
 if_passes true found last is = (refl, is)
 if_passes false found last is = absurd (cc)
 
-if_not : (b : Bool) (found : Option Key) (last : Key) → (if b then None else found) ≡ Some last → (b ≡ false) × (found ≡ Some last)
+pub if_not : (b : Bool) (found : Option Key) (last : Key) → (if b then None else found) ≡ Some last → (b ≡ false) × (found ≡ Some last)
 if_not true found last is = absurd (cc)
 if_not false found last is = (refl, is)
 
 -- what is kept by what is known of a tree did not move
-known_rest : (pairs : Pairs) (marked : Marks) (moved : ℕ → Bool) (under : Under) → IsAtRest pairs moved under (kept_of pairs marked moved under)
+pub known_rest : (pairs : Pairs) (marked : Marks) (moved : ℕ → Bool) (under : Under) → IsAtRest pairs moved under (kept_of pairs marked moved under)
 unfolding kept_of
 known_rest pairs marked moved under e last is =
     let parts = if_not (marked e.tree e.address || moved e.address) (last_if_same e (under e.tree e.address) (pairs e.tree e.address)) last is in
@@ -142,7 +142,7 @@ leading pairs marked moving held went moved under are =
     led pairs moving held went moved under are (kept_of pairs marked moved under) (known_rest pairs marked moved under)
 
 -- a block at the address of a stop did not move
-stop_rest : (moved : ℕ → Bool) (stops : List Expect) (address : ℕ) → AreAtRest moved stops → is_stop stops address ≡ true → moved address ≡ false
+pub stop_rest : (moved : ℕ → Bool) (stops : List Expect) (address : ℕ) → AreAtRest moved stops → is_stop stops address ≡ true → moved address ≡ false
 stop_rest moved [] address rest is = absurd (cc)
 stop_rest moved (s ∷ stops) address rest is = by (s.address == address) refl is (stop_rest moved stops address rest.1)
   where
@@ -151,7 +151,7 @@ stop_rest moved (s ∷ stops) address rest is = by (s.address == address) refl i
     by true same h later = subst (λ a. moved a ≡ false) (eqb-true s.address address same) rest.0
     by false same h later = later h
 
-at_rest : (pairs : Pairs) (moved : ℕ → Bool) (under : Under) (stops : List Expect) → AreAtRest moved stops → IsAtRest pairs moved under (kept_at pairs stops under)
+pub at_rest : (pairs : Pairs) (moved : ℕ → Bool) (under : Under) (stops : List Expect) → AreAtRest moved stops → IsAtRest pairs moved under (kept_at pairs stops under)
 unfolding kept_at
 at_rest pairs moved under stops rest e last is =
     let parts = if_passes (is_stop stops e.address) (last_if_same e (under e.tree e.address) (pairs e.tree e.address)) last is in

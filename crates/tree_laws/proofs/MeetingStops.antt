@@ -96,11 +96,11 @@ no_walk kept anew sup stored e last sound is above fine = by (trail_of sup store
         not_same kept sup stored e last visits (first_is e.level sup stored e visits t.1) is
         (sym (unkept_is kept nothing sup stored e ∙ ap (unkept_in kept nothing) same) ∙ whole ∙ t.0)
 
-first_fine : (a b : Records) → IsOk (then_records a b) → IsOk a
+pub first_fine : (a b : Records) → IsOk (then_records a b) → IsOk a
 first_fine (Err finding) b fine = fine
 first_fine (Ok records) b fine = refl
 
-later_fine : (a b : Records) → IsOk (then_records a b) → IsOk b
+pub later_fine : (a b : Records) → IsOk (then_records a b) → IsOk b
 unfolding behind
 later_fine (Err finding) b fine = absurd (not_ok finding fine)
 later_fine (Ok records) (Err finding) fine = fine

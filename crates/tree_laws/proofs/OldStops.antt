@@ -32,11 +32,11 @@ pub all_append : (P : Expect → Type 0) (es fs : List Expect) → AllByRecursio
 all_append P [] fs all more = more
 all_append P (e ∷ es) fs all more = (all.0, all_append P es fs all.1 more)
 
-all_first : (P : Expect → Type 0) (es fs : List Expect) → AllByRecursion P (es ++ fs) → AllByRecursion P es
+pub all_first : (P : Expect → Type 0) (es fs : List Expect) → AllByRecursion P (es ++ fs) → AllByRecursion P es
 all_first P [] fs all = tt
 all_first P (e ∷ es) fs all = (all.0, all_first P es fs all.1)
 
-all_later : (P : Expect → Type 0) (es fs : List Expect) → AllByRecursion P (es ++ fs) → AllByRecursion P fs
+pub all_later : (P : Expect → Type 0) (es fs : List Expect) → AllByRecursion P (es ++ fs) → AllByRecursion P fs
 all_later P [] fs all = all
 all_later P (e ∷ es) fs all = all_later P es fs all.1
 

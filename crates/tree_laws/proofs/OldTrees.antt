@@ -41,7 +41,7 @@ use Rattle.tree_laws.proofs.Skipping.{skips}
 use Rattle.tree_laws.proofs.Treed.{trees_walk}
 
 -- the roots of an image's trees have no low key and no high key
-roots_of : (image : List ℕ) (whole : Walked) (trees : List Tree) → HasTrees image whole trees → AllByRecursion (λ tree. IsRoot tree.1) trees
+pub roots_of : (image : List ℕ) (whole : Walked) (trees : List Tree) → HasTrees image whole trees → AllByRecursion (λ tree. IsRoot tree.1) trees
 roots_of image whole trees has =
     subst (AllByRecursion (λ (tree : Tree). IsRoot tree.1)) (sym has.trees_are) ((refl, refl), ((refl, refl), by has.roots))
   where
@@ -72,11 +72,11 @@ unkept_same kept other sup stored root all =
     ap (λ parts. and_then (walk_of sup stored root) (λ _. parts)) (parts_same kept other sup stored (visited sup stored root) all)
 
 -- at no stop no block is kept
-none_at : (pairs : Pairs) (under : Under) (e : Expect) → kept_at pairs [] under e ≡ None
+pub none_at : (pairs : Pairs) (under : Under) (e : Expect) → kept_at pairs [] under e ≡ None
 unfolding kept_at
 none_at pairs under e = refl
 
-not_some : (here : Option Key) (last : Key) → here ≡ None → here ≡ Some last → ⊥
+pub not_some : (here : Option Key) (last : Key) → here ≡ None → here ≡ Some last → ⊥
 not_some here last none some = cc
 
 module _ (image : List ℕ) (pending : FinMap nat_cmp ℕ) (old new : Walked) (before after : List Tree) (pairs : Pairs) (marked moving : Marks)

@@ -61,7 +61,7 @@ pub copied_same : (stored : Stored) (a b : ℕ) (p q : List ℕ) → stored a �
 copied_same stored a b p q x y is = let h : stored b ≡ stored a = ap stored is in cc
 
 -- a block and one below it
-over : (stored : Stored) (n : ℕ) (v w : Expect) (bytes : List ℕ) → stored v.address ≡ Ok bytes → level_of bytes ≡ n → Lower stored n w → w.address ≡ v.address → ⊥
+pub over : (stored : Stored) (n : ℕ) (v w : Expect) (bytes : List ℕ) → stored v.address ≡ Ok bytes → level_of bytes ≡ n → Lower stored n w → w.address ≡ v.address → ⊥
 over stored n v w bytes is at low same =
     less (level_of bytes) (level_of low.bytes) n at (ap level_of (copied_same stored v.address w.address bytes low.bytes is low.is same)) low.lower
   where
@@ -69,7 +69,7 @@ over stored n v w bytes is at low same =
     less a b n at same low = absurd (omega arith)
 
 -- blocks of two children
-apart : (stored : Stored) (low middle : Key) (high : Option Key) (v w : Expect) → Spans stored low (Some middle) v → Spans stored middle high w → w.address ≡ v.address → ⊥
+pub apart : (stored : Stored) (low middle : Key) (high : Option Key) (v w : Expect) → Spans stored low (Some middle) v → Spans stored middle high w → w.address ≡ v.address → ⊥
 apart stored low middle high v w a b same =
     let h : a.bytes ≡ b.bytes = copied_same stored v.address w.address a.bytes b.bytes a.is b.is same in
     let less : key_below (first_at b.bytes) middle ≡ true = subst (λ bytes. key_below (first_at bytes) middle ≡ true) h a.upto in

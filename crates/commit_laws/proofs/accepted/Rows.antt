@@ -4,6 +4,7 @@ use Rattle.std.proofs.Common.{drop, inl, inr, refl, ap, sym, subst, ◌∙◌, a
 use Rattle.std.proofs.lemmas.Bool.{and_parts, eqb-true, ltb-false, or_parts}
 use Rattle.std.proofs.lemmas.Bool.Decides.{nat_tests}
 use Rattle.std.specs.Prelude.{Result, Ok, Err, None, ◌≤◌, ◌⊎◌, nat_lt}
+use Rattle.tree_change.proofs.ByMap.{size_some}
 use Rattle.verdict.proofs.Numbers.{above_zero, rule_of_some, not_zero}
 use Rattle.verdict.specs.Items.{is_multiple, passes_64}
 use Rattle.verdict.specs.Rules.{TableRow, finding_or, first_failing}
@@ -99,10 +100,6 @@ size_whole n is = by (n == 4096) (n == 8192) (n == 16384) (n == 32768) (n == 655
     by false false false true e ai bi ci di ei is = rw (eqb-true n 32768 di) refl
     by false false false false true ai bi ci di ei is = rw (eqb-true n 65536 ei) refl
     by false false false false false ai bi ci di ei is = absurd (cc)
-
-size_some : (n : ℕ) → is_node_size n ≡ true → 0 < n
-size_some zero sound = absurd (cc)
-size_some (suc n) sound = omega arith
 
 -- the range of an extent
 abbrev IsRange : ℕ → ℕ → Type 0

@@ -9,6 +9,8 @@ use Rattle.std.proofs.lemmas.List.Sorted.{IsPermutation-append, IsPermutation-ap
 use Rattle.std.specs.Prelude.{Option, Some, None, Ok, map}
 use Rattle.std.specs.List.{AllByRecursion, AllPairs, cons_option, filter, filter_map}
 use Rattle.std.specs.List.Sorted.{IsPermutation}
+use Rattle.tree_change.proofs.RisenLists.{filter_permuted}
+use Rattle.tree_change.proofs.RootItems.{items_are_seen}
 use Rattle.walk_laws.proofs.Trees.{step_ok}
 use Rattle.tree_laws.proofs.Mixing.{same_itself, apart_first}
 use Rattle.verdict.proofs.Lists.{all_later, filter_alike as filter_same, all_map as each_map}
@@ -39,7 +41,7 @@ use Rattle.tree_laws.proofs.Treed.{has_trees, steps_of, trees_walk}
 use Rattle.touched_blocks.specs.Touched.{written_in}
 use Rattle.tree_change.specs.Gathered.{located_item}
 use Rattle.tree_change.specs.Merging.{has_named, named_before, root_at, root_at_of, roots_among, roots_left}
-use Rattle.tree_change.proofs.Free.{named_ascend, none_left, roots_ascend}
+use Rattle.tree_change.proofs.Free.{named_ascend, none_left, roots_ascend, roots_are}
 use Rattle.tree_change.proofs.Olds.{same_ok}
 use Rattle.tree_change.proofs.Split.{of_trees}
 use Rattle.tree_change.proofs.Unique.{only_list}
@@ -47,20 +49,9 @@ use Rattle.tree_change.proofs.Unordered.{of_id, permuted_pairs}
 use Rattle.commit_laws.specs.Flags.{RootsLaw}
 use Rattle.commit_laws.specs.Items.{items_of}
 use Rattle.commit_laws.specs.Same.{HoldSame, RecordsLaw, live_record, records_at, records_of}
-use Rattle.commit_laws.proofs.steps_between.Flat.{filter_map_permuted, filter_permuted}
+use Rattle.commit_laws.proofs.steps_between.Flat.{filter_map_permuted}
 
 -- ---- the root items among records
-
--- the roots among items are those of their root items
-roots_are : (all : List Located) → roots_among all ≡ map root_at (filter_map (λ (one : Located). root_in one.part) all)
-roots_are [] = refl
-roots_are (one ∷ all) = by (root_in one.part) (roots_are all)
-  where
-    by : (root : Option RootItem) → roots_among all ≡ map root_at (filter_map (λ (one : Located). root_in one.part) all)
-        → cons_option (root_at_of root) (roots_among all)
-        ≡ map root_at (cons_option root (filter_map (λ (one : Located). root_in one.part) all))
-    by None rest = rest
-    by (Some root) rest = ap (λ more. root_at root ∷ more) rest
 
 -- what accounts see has the roots of the items
 accounted_roots : (seen : List Seen) → roots_among (filter_map accounted seen) ≡ roots_among (items seen)
@@ -99,18 +90,6 @@ of_root_tree (one ∷ found) all = by (one.tree == 1) refl (of_root_tree found a
     by true is rest = rw is (ap (cons_option (root_at_of (root_in one.part))) rest)
     by false is rest =
         rw is (rest ∙ ap (λ (root : Option RootAt). cons_option root (roots_among found)) (sym (no_root one.tree one.key one.part all.0 is)))
-
--- the root items of an image are those among the records of its root tree
-items_are_seen : (sup : Super) (chunks : List Chunk) (image : List ℕ) (records : List Seen) (roots : List RootItem)
-    → root_records sup chunks image ≡ Ok records → root_items_in sup chunks image ≡ Ok roots → roots_seen records ≡ roots
-items_are_seen sup chunks image records roots is has =
-    let made : root_items_in sup chunks image
-    ≡ and_then (finding_or (roots_fault sup.compat_ro (roots_seen records)) (tt {0})) (λ _. Ok (roots_seen records)) =
-    roots_are_seen sup chunks image ∙ ap (λ (walk : Records). and_then walk (λ all.
-    and_then (finding_or (roots_fault sup.compat_ro (roots_seen all)) (tt {0})) (λ _. Ok (roots_seen all)))) is in
-    let step =
-    step_ok (finding_or (roots_fault sup.compat_ro (roots_seen records)) (tt {0})) (λ _. Ok (roots_seen records)) roots (sym made ∙ has) in
-    same_ok (roots_seen records) roots step.2
 
 -- where trees begin, by the items of an image
 pub record AreRoots (whole : Walked) (roots : List RootItem) : Type 0 where

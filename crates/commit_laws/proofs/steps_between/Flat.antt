@@ -7,6 +7,7 @@ use Rattle.std.proofs.lemmas.List.Sorted.{IsPermutation-keeps, IsPermutation-ref
 use Rattle.std.specs.Prelude.{Option, Some, None}
 use Rattle.std.specs.List.{filter, filter_map, flat_map, swap}
 use Rattle.std.specs.List.Sorted.{IsPermutation, SwapsInRange, apply_swaps}
+use Rattle.tree_change.proofs.RisenLists.{filter_permuted}
 use Rattle.commit_laws.proofs.Elements.{swap_first}
 
 -- two elements of a list change places, where a third is read past its end
@@ -100,15 +101,6 @@ module _ {X Z : Type 0} (give : X → Option Z) where
       → filter_map give xs ≡ filter_map give ys
   filter_map_alike alike unseen xs ys same =
       sym (as_flat xs) ∙ (flat_alike (λ x. optional (give x)) alike (λ x. ap optional (unseen x)) xs ys same ∙ as_flat ys)
-
--- what passes a test, in another order
-pub filter_permuted : {X : Type 0} (test : X → Bool) (xs ys : List X) → IsPermutation xs ys → IsPermutation (filter test xs) (filter test ys)
-filter_permuted {X} test xs ys perm =
-    subst (λ left. IsPermutation left (filter test ys)) (as_filter xs)
-    (subst (λ right. IsPermutation (flat_map one xs) right) (as_filter ys) (flat_permuted one xs ys perm))
-  where
-    one : X → List X
-    one x = if test x then x ∷ [] else []
 
     as_filter : (zs : List X) → flat_map one zs ≡ filter test zs
     as_filter [] = refl

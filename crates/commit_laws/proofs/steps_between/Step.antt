@@ -8,6 +8,7 @@ use Rattle.std.proofs.lemmas.List.Sorted.{IsPermutation-append_comm, IsPermutati
 use Rattle.std.proofs.lemmas.List.Sorted.{IsPermutation-cons, IsPermutation-sym, IsPermutation-trans}
 use Rattle.std.specs.List.{All, AllByRecursion, AllPairs, Contains, filter}
 use Rattle.std.specs.List.Sorted.{IsPermutation}
+use Rattle.tree_change.proofs.RisenLists.{filter_permuted}
 use Rattle.commit_laws.proofs.next_index.Roots.{all_pass}
 use Rattle.commit_laws.proofs.next_index.Flags.{ascend_items}
 use Rattle.accounts.specs.Context.{Context}
@@ -34,7 +35,7 @@ use Rattle.commit_laws.specs.Kept.{AreFound, kept_items}
 use Rattle.commit_laws.specs.Paired.{ArePaired, PairedLaw, anywhere, came_items, gone_items, name_of}
 use Rattle.commit_laws.specs.Same.{live_record, records_at, records_of}
 use Rattle.commit_laws.specs.Steps.{IsStep, StepLaw, change_records}
-use Rattle.commit_laws.proofs.steps_between.Flat.{Ordered, filter_permuted, ordered}
+use Rattle.commit_laws.proofs.steps_between.Flat.{Ordered, ordered}
 use Rattle.commit_laws.proofs.steps_between.Named.{none_named, none_stands}
 use Rattle.commit_laws.proofs.steps_between.Postings.{block_posts}
 use Rattle.commit_laws.proofs.steps_between.Records.{HoldApart, IsBlock, hold_apart, records_changed}

@@ -1,8 +1,9 @@
 use Rattle.std.proofs.Common.{refl, rules}
+use Rattle.tree_change.proofs.ByMap.{size_some}
 use Rattle.live_index.specs.Table.{pairs_of}
 use Rattle.touched_blocks.specs.Marks.{marked_by}
 use Rattle.shared_trees.specs.Under.{under_of}
-use Rattle.tree_change.proofs.ByArray.{array_known, known_array, known_as, map_told, refused, size_some}
+use Rattle.tree_change.proofs.ByArray.{array_known, known_array, known_as, map_told, refused}
 use Rattle.tree_change.proofs.Changing.{listed_either}
 use Rattle.tree_change.proofs.ComparedLooks.{map_few}
 use Rattle.tree_change.proofs.compared.change_map.Goals as goal
