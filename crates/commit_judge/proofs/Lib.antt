@@ -10,6 +10,7 @@ pub mod COpened
 pub mod CReady
 pub mod CTables
 pub mod EFresh
+pub mod EKnown
 pub mod EPlan
 pub mod ERoots
 pub mod JCounts
