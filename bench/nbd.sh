@@ -8,8 +8,8 @@
 # - and by itself the disk's own flush of 4 KiB that were just written.
 # Elapsed seconds, and processor seconds of client, nbdkit and recon together, each the least of RUNS runs (3) of each
 # side in turns; on a busy machine the second are the ones to compare. The volume is made of FOLDER (bench/volume.sh), by
-# default of docs/. A flush and a commit at the bridge cost a check of it. TMPDIR names the disk; in memory (/dev/shm) a
-# flush is free. Usage: bench/nbd.sh [MIB [FOLDER [RUNS]]]. RECON names the program, by default the one that `rt run`
+# default of docs/. A flush and a commit at the bridge are judged by the tree blocks that they changed; the start walks all of them.
+# TMPDIR names the disk; in memory (/dev/shm) a flush is free. Usage: bench/nbd.sh [MIB [FOLDER [RUNS]]]. RECON names the program, by default the one that `rt run`
 # makes. It wants nbdkit with its Python plugin, libnbd's Python module and btrfs-progs.
 set -eu
 cd "$(dirname "$0")/.."

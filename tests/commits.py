@@ -2,8 +2,8 @@
 
 Usage: tests/commits.py [PROGRAM], by default crates/recon/out/recon. Prints one line, and ends with 1 at the first row
 that differs. A row: what it is, the changes that the commit makes, and how the line of the commit goes on, up to its end.
-Each commit has the generation 2 and copies on write the file tree, the extent tree and the root tree. What passes then
-stands on the device; what is rejected leaves it as it was.
+Each commit has the generation 2 and copies on write the file tree, the extent tree and the root tree. Further rows are
+commits of one image over another, in place. What passes then stands on the device; what is rejected leaves it as it was.
 
 The numbers of a line that passes are reckoned by hand: each tree has one block, so that a commit has three old blocks and
 three new ones that the images do not share, and one more where it brings a tree. Where a feature word changes, all blocks
@@ -11,8 +11,8 @@ of both count. Each is also what the model of tests/image_diff.py counts, which 
 """
 from image_diff import Difference, Image
 from rows import (
-    BASE, DATA_AT, Device, ENTRY, EXTENTS, GROUPS, GROUP_TREE, HELLO, LEFT, NO_GROUP_TREE, OWN_GROUPS, RIGHT, ROOTS, SUPERBLOCK, changed,
-    data_group, drop, fail, leaf, made, metadata_group, put, used, write)
+    BASE, CHUNKS, DATA_AT, Device, ENTRY, EXTENTS, FILES, GROUPS, GROUP_TREE, HELLO, LEFT, NO_GROUP_TREE, OWN_GROUPS, RIGHT, ROOTS,
+    SUPERBLOCK, changed, data_group, drop, fail, leaf, made, metadata_group, put, used, write)
 
 PASSES, ONE_TREE_MORE = 'passed generation 2 blocks 6 hot 0', 'passed generation 2 blocks 7 hot 0'
 BELOW = 5373952
@@ -56,6 +56,14 @@ NAMES = [
      files(10, hashed(256, entry(257, 2, b'hello')), I, FILE, NAME_OF_FILE), 'rejected A10 tree 5 block 0 key 257 1 0 detail 2'),
     ('the name `..` of a directory that is no root',
      files(0, inode(258, 0, 0, made.DIRECTORY), name(258, 258, 0, b'..')), 'rejected A12 tree 5 block 0 key 258 12 258 detail 0'),
+    ('no entry by its index, and the size that goes with that',
+     files(5, H, FILE, NAME_OF_FILE), 'rejected A11 tree 5 block 0 key 256 84 1570712351 detail 257'),
+    ('and the size that goes with both', files(10, H, FILE, NAME_OF_FILE), 'rejected A9 tree 5 block 0 key 256 1 0 detail 0'),
+    ('an entry that leads to no inode', files(10, H, I), 'rejected A9 tree 5 block 0 key 257 1 0 detail 0'),
+    ('two links and one name', files(10, H, I, inode(257, links=2), NAME_OF_FILE), 'rejected A9 tree 5 block 0 key 257 1 0 detail 0'),
+    ('the second name of an item says another index',
+     files(18, H, hashed(256, LINKED), I, indexed(256, 3, LINKED), inode(257, links=2),
+           ((257, made.INODE_REF, 256), NAME_OF_FILE[1] + name(257, 256, 4, b'link')[1])), 'rejected A12 tree 5 block 0 key 257 12 256 detail 3'),
     ('an attribute of no inode', files(0, made.zeros((300, made.XATTR_ITEM, 7), 30)), 'rejected A9 tree 5 block 0 key 300 1 0 detail 0'),
 ]
 
@@ -73,6 +81,10 @@ BYTES = [
     ('a hole and a reserved range', files(10, H, I, inode(257, 0, 8192), NAME_OF_FILE, HOLE, RESERVED) + DATA, PASSES),
     ('the bytes of the reserved range left out', files(10, H, I, inode(257, 0, 0), NAME_OF_FILE, HOLE, RESERVED) + DATA, WRONG_BYTES),
     ('those of the hole counted', files(10, H, I, inode(257, 0, 12288), NAME_OF_FILE, HOLE, RESERVED) + DATA, WRONG_BYTES),
+    ('a range that is compressed', files(10, H, I, FILE, NAME_OF_FILE, made.file_range(0, DATA_AT, 4096, compression=1)),
+     'rejected U13 tree 5 block 5324800 key 257 108 0 detail 1'),
+    ('the used bytes of the metadata group', files(10, H, I, FILE, NAME_OF_FILE) + [metadata_group(77824)],
+     'rejected A6 tree 0 block 0 key 5242880 192 8388608 detail 36'),
     ('those of a hole alone counted', files(10, H, I, inode(257, 0, 4096), NAME_OF_FILE, HOLE), WRONG_BYTES),
 ]
 
@@ -177,27 +189,92 @@ def commit(row, before, image, line):
     device.must_hold(row, (image if passes else before).bytes())
 
 
-def as_checked(row, before, image):
-    """A commit that makes an image of another is answered as a check of that image is."""
+def as_checked(row, before, image, line):
+    """A commit that makes an image of another is answered so, and as a check of that image is."""
     device.fill(image)
-    _, lines = device.run('check')
-    found = lines.split('\n')[0].removeprefix('image refused ')
-    commit(row, before, image, f'passed {found[15:]} {counted(before, image)}' if found.startswith('image accepted') else f'rejected {found}')
+    finding = line.removeprefix('rejected ')
+    wanted = f'image accepted {line[7:].split(" blocks ")[0]}\n' if finding == line else f'image refused {finding}\n'
+    device.must_say(row, int(finding != line), wanted, 'check')
+    commit(row, before, image, line)
 
 
-# What no item that changed says: kept items whose chunk is another or went, and words of the superblock by which all blocks are read.
-ONE_FILE = changed(BASE, [*HELLO, put(5, inode(257, 4096)), put(5, made.file_range(0, DATA_AT, 4096)), put(2, made.extent(DATA_AT, 4096)),
-                          data_group(4096), put(7, made.sums(DATA_AT, 1)), used(102400)])
+# A file of one sector; one of three, whose middle sector was written again, so that one reference counts both ranges of the first
+# extent; and the first without checksums, whose inode stands in another leaf than its range: the root of the file tree is a node.
+TOP_AND_NAME = [*HELLO, put(5, inode(257, 4096)), put(5, made.file_range(0, DATA_AT, 4096))]
+ONE_EXTENT = [put(2, made.extent(DATA_AT, 4096)), data_group(4096), used(102400)]
+ONE_FILE = changed(BASE, TOP_AND_NAME + ONE_EXTENT + [put(7, made.sums(DATA_AT, 1))])
+THREE_SECTORS = changed(BASE, [
+    *HELLO, put(5, inode(257, 12288)), put(5, made.file_range(0, DATA_AT, 12288)), put(5, made.file_range(4096, 13643776, 4096)),
+    put(5, made.file_range(8192, DATA_AT, 12288, 8192)), put(2, made.extent(DATA_AT, 12288, references=2, count=2)),
+    put(2, made.extent(13643776, 4096, origin=4096)), data_group(16384), put(7, made.sums(DATA_AT, 4)), used(114688)])
+
+
+def split(image):
+    """The leaf of the file tree becomes two, the second of which begins with the file's range."""
+    items = image.items(FILES)
+    first, behind = min(items), (257, made.EXTENT_DATA, 0)
+    image.put_leaf(LEFT, 5, {key: item for key, item in items.items() if key < behind})
+    image.put_leaf(RIGHT, 5, {key: item for key, item in items.items() if key >= behind})
+    image.blocks[FILES] = made.node(FILES, 5, [(first, LEFT), (behind, RIGHT)])
+
+
+SPLIT = [split, put(1, made.root(5, FILES, level=1)), drop(2, FILES, made.METADATA_ITEM, 0), put(2, made.block(FILES, 5, 1)),
+         put(2, made.block(LEFT, 5)), put(2, made.block(RIGHT, 5)), metadata_group(114688), used(135168)]
+WITHOUT_SUMS = changed(BASE, TOP_AND_NAME + ONE_EXTENT + [put(5, inode(257, 4096, flags=1))] + SPLIT)
+FLAG_GONE = put(5, inode(257, 4096))
+MOVES += [
+    ('a file of one sector, in place', BASE, ONE_FILE, 'passed generation 1 blocks 6 hot 3'),
+    ('a file of three sectors, in place', BASE, THREE_SECTORS, 'passed generation 1 blocks 6 hot 3'),
+    ('a file is to have checksums, and its range stands in a leaf that stays', WITHOUT_SUMS, changed(WITHOUT_SUMS, [FLAG_GONE]),
+     'rejected A5 tree 0 block 13631488 key 0 0 0 detail 0'),
+    # The leaf with the inode, the root above it and the leaf of checksums, before and after; the root stays as it is on the device.
+    ('and it has one', WITHOUT_SUMS, changed(WITHOUT_SUMS, [FLAG_GONE, put(7, made.sums(DATA_AT, 1))]), 'passed generation 1 blocks 6 hot 2'),
+]
+
+# What no item that changed says: kept items whose chunk is another or went, the flag of an inode whose ranges are kept, and words of
+# the superblock by which all blocks are read. Each line is also that of a check of the image.
 DATA_CHUNK = made.CHUNKS[-1]
+FREE_FILE = changed(WITHOUT_SUMS, [put(5, inode(257, 5000, 4096, flags=1))])
+
+
+def data_chunk(start=DATA_AT, length=8388608, kind=1, place=22020096):
+    return put(3, made.chunk(start, length, kind, [place]))
+
+
 KEPT = [
-    ('the chunk of a kept extent is of another class',
-     ONE_FILE, changed(ONE_FILE, [put(3, made.chunk(*DATA_CHUNK[:2], 4, DATA_CHUNK[3])), data_group(4096, 4)])),
-    ('it is longer by a sector', ONE_FILE, changed(ONE_FILE, [put(3, made.chunk(DATA_AT, 8388608 + 65536, *DATA_CHUNK[2:]))])),
-    ('it went', ONE_FILE, changed(ONE_FILE, [drop(3, 256, made.CHUNK_ITEM, DATA_AT)])),
-    ('another size of a tree block', ONE_FILE, changed(ONE_FILE, [write(SUPERBLOCK + 0x94, (4096).to_bytes(4, 'little'))])),
-    ('a word of features that none has', ONE_FILE, changed(ONE_FILE, [write(SUPERBLOCK + 0xbc, made.number(1 << 40))])),
-    ('a sector of the file has no checksum any more', ONE_FILE, changed(ONE_FILE, [drop(7, *made.sums(DATA_AT, 1)[0])])),
-    ('the file is to have none', ONE_FILE, changed(ONE_FILE, [put(5, inode(257, 4096, flags=1))])),
+    ('the chunk of a kept extent is of another class', ONE_FILE, changed(ONE_FILE, [data_chunk(kind=4), data_group(4096, 4)]),
+     'rejected A7 tree 2 block 13631488 key 0 0 0 detail 0'),
+    ('it is longer by 16 sectors', ONE_FILE, changed(ONE_FILE, [data_chunk(length=8388608 + 65536)]),
+     'rejected A6 tree 0 block 0 key 13631488 192 8388608 detail 1'),
+    ('it ends before the second of two extents', THREE_SECTORS, changed(THREE_SECTORS, [data_chunk(length=12288)]),
+     'rejected A5 tree 0 block 13643776 key 0 0 0 detail 0'),
+    ('which has no checksum then, and the group and the place are as long', THREE_SECTORS, changed(THREE_SECTORS, [
+        drop(7, *made.sums(DATA_AT, 4)[0]), put(7, made.sums(DATA_AT, 3)),
+        data_chunk(length=12288), drop(2, DATA_AT, made.BLOCK_GROUP_ITEM, 8388608), put(2, made.group(DATA_AT, 12288, 1, 12288)),
+        put(4, made.device_extent(22020096, DATA_AT, 12288)), put(3, made.device(29360128 - 8388608 + 12288))]),
+     'rejected A8 tree 2 block 13643776 key 0 0 0 detail 0'),
+    ('it went', ONE_FILE, changed(ONE_FILE, [drop(3, 256, made.CHUNK_ITEM, DATA_AT)]),
+     'rejected A5 tree 0 block 13631488 key 0 0 0 detail 0'),
+    ('its place is another', ONE_FILE, changed(ONE_FILE, [
+        data_chunk(place=22024192), drop(4, 1, made.DEV_EXTENT, 22020096), put(4, made.device_extent(22024192, DATA_AT, 8388608))]),
+     'passed generation 1 blocks 4 hot 2'),
+    ('the classes of two chunks are exchanged', ONE_FILE, changed(ONE_FILE, [
+        data_chunk(kind=4), put(3, made.chunk(5242880, 8388608, 33, [5242880, 13631488])), data_group(4096, 4),
+        put(2, made.group(5242880, 8388608, 33, 81920))]), 'rejected A7 tree 2 block 5242880 key 0 0 0 detail 0'),
+    ('another size of a tree block', ONE_FILE, changed(ONE_FILE, [write(SUPERBLOCK + 0x94, made.number(4096, 4))]),
+     f'rejected N3 tree 3 block 1048576 key 0 0 0 detail {made.crc32c(ONE_FILE.blocks[CHUNKS][32:4096])}'),
+    ('a word of features that none has', ONE_FILE, changed(ONE_FILE, [write(SUPERBLOCK + 0xbc, made.number(1 << 40))]),
+     'rejected U2 tree 0 block 0 key 0 0 0 detail 1099511627776'),
+    ('a sector of the file has no checksum any more', ONE_FILE, changed(ONE_FILE, [drop(7, *made.sums(DATA_AT, 1)[0])]),
+     'rejected A5 tree 0 block 13631488 key 0 0 0 detail 0'),
+    ('the file is to have none', ONE_FILE, changed(ONE_FILE, [put(5, inode(257, 4096, flags=1))]), 'passed generation 1 blocks 2 hot 1'),
+    ('a file without checksums grows', WITHOUT_SUMS, FREE_FILE, 'passed generation 1 blocks 4 hot 1'),
+    ('its inode goes, and its range stands in a leaf that stays', WITHOUT_SUMS, changed(WITHOUT_SUMS, [drop(5, 257, made.INODE_ITEM, 0)]),
+     'rejected A5 tree 0 block 13631488 key 0 0 0 detail 0'),
+    ('another generation in an entry, which no rule reads', ONE_FILE, changed(ONE_FILE, [
+        put(5, indexed(256, 2, entry(257, 1, b'hello', generation=9)))]), 'passed generation 1 blocks 2 hot 1'),
+    ('another last byte of a name', ONE_FILE, changed(ONE_FILE, [put(5, indexed(256, 2, entry(257, 1, b'hellp')))]),
+     'rejected A11 tree 5 block 0 key 256 84 332582996 detail 257'),
 ]
 
 rows = [(row, BASE, changed(NEXT, changes), line) for table in (NAMES, BYTES, SUBVOLUMES) for row, changes, line in table] + MOVES
@@ -205,4 +282,11 @@ for row in rows:
     commit(*row)
 for row in KEPT:
     as_checked(*row)
-print(f'commits: {len(rows) + len(KEPT)} commits pass or are rejected as they are to be')
+# Two commits in one run: the second is judged by an index that the first one moved.
+GONE = changed(ONE_FILE, [drop(2, DATA_AT, made.EXTENT_ITEM, 4096), data_group(0), drop(7, *made.sums(DATA_AT, 1)[0]), used(98304)])
+device.fill(BASE)
+device.must_say('a file of one sector, and then without its extent', 1, 'image accepted generation 1\ncommit 1 passed generation 1 blocks 6 hot 3\n'
+                'commit 2 rejected A2 tree 5 block 13631488 key 257 178 0 detail 0\nend passed 1 rejected 1\n', 'replay',
+                trace=made.HEADER + b''.join(made.writes(ONE_FILE, BASE) + made.writes(GONE, ONE_FILE)) + made.END)
+device.must_hold('a file of one sector, and then without its extent', ONE_FILE.bytes())
+print(f'commits: {len(rows) + len(KEPT) + 2} commits pass or are rejected as they are to be')

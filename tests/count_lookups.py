@@ -7,7 +7,8 @@ Usage: tests/count_lookups.py [PROGRAM]                  by default crates/count
 Prints a table: a case, an event, its looks, the bound, which is 64 times the work, and the looks in per cent of it. It ends
 with 1 where there are more looks than the bound. The work is counted by a model that reads all blocks of both images: the
 pairs of a tree and a block that the two do not share, what stands in these blocks, what it posts to accounts, the spans with
-a sector that it posts to, and a few more. A rejected event has no bound. The workloads are made by crates/recon/out/recon.
+a sector that it posts to, and a few more. A rejected event has no bound. Some events are to have as many looks as others.
+The workloads are made by crates/recon/out/recon.
 With --real each commit of each trace of a directory is a case: NAME.img.xz with NAME.trace.xz."""
 import collections
 import os
@@ -287,6 +288,13 @@ class Runs:
             fail(case, f'the bound is {found[-1].bound}, and not {most}')
         return data
 
+    def looks_of_last(self, case, image, trace):
+        """How often the last event looks, which is to pass."""
+        last = self.judged(case, image, trace)[0][-1]
+        if last.bound is None:
+            fail(case, f'{last.line!r} is not to come')
+        return last.looks
+
     def sum_up(self, case, image, trace):
         """A line of the table for the start, and one for all events together, with the greatest share of the bound. The last image."""
         (start, *events), data = self.judged(case, image, trace)
@@ -348,6 +356,27 @@ def with_file(count, flags):
     return changed(BASE, *((5, item) for item in items + ranges), *((2, item) for item in extents + [made.group(DATA_AT, DATA_LENGTH, 1, length)]))
 
 
+def chunk_grows(image, sectors):
+    """The image with a data chunk that is 16 sectors longer, of which so many are used."""
+    length = DATA_LENGTH + 65536
+    return changed(image, (3, made.device(29360128 + 65536)), (3, made.chunk(DATA_AT, length, 1, [22020096])),
+                   (4, made.device_extent(22020096, DATA_AT, length)), (2, ((DATA_AT, made.BLOCK_GROUP_ITEM, DATA_LENGTH), None)),
+                   (2, made.group(DATA_AT, length, 1, SECTOR * sectors)))
+
+
+def with_empty_ranges(offsets):
+    """A file of four sectors, which also has ranges of no bytes at these bytes of its extent."""
+    taken, one = 4 * SECTOR, made.entry(257, 1, b'hello')
+    places = [(taken + SECTOR * k, offset) for k, offset in enumerate(offsets)]
+    items = [made.top(10), made.hashed(256, one), made.indexed(256, 2, one), made.inode(257, taken), made.name(257, 256, 2, b'hello'),
+             made.file_range(0, DATA_AT, taken, length=taken), *(made.file_range(at, DATA_AT, taken, offset, 0) for at, offset in places)]
+    references = [((DATA_AT, made.EXTENT_DATA_REF, at), made.struct.pack('<QQQI', 5, 257, at - offset, 1)) for at, offset in places]
+    image = changed(BASE, *((5, item) for item in items), *((2, item) for item in references), (7, made.sums(DATA_AT, 4)),
+                    (2, made.extent(DATA_AT, taken, references=1 + len(places))), (2, made.group(DATA_AT, DATA_LENGTH, 1, taken)))
+    image.write(PLACE + 0x78, made.number(98304 + taken))
+    return image
+
+
 def trace(*records):
     return made.HEADER + b''.join(records) + made.END
 
@@ -368,11 +397,27 @@ def rows(runs):
     runs.show('a file of 40 extents is to have checksums', before.bytes(), trace(*made.writes(flag, before), *made.writes(sums, before)))
     # The chunk of 40 extents grows, of which all but one stand in a leaf that stays.
     before = changed(with_file(count, 0), (7, made.sums(DATA_AT, count)))
-    before, length = split(before, 2, (DATA_AT + SECTOR, made.EXTENT_ITEM, SECTOR), SECTOR * count), DATA_LENGTH + 65536
-    grown = changed(before, (3, made.device(29360128 + 65536)), (3, made.chunk(DATA_AT, length, 1, [22020096])),
-                    (4, made.device_extent(22020096, DATA_AT, length)), (2, ((DATA_AT, made.BLOCK_GROUP_ITEM, DATA_LENGTH), None)),
-                    (2, made.group(DATA_AT, length, 1, SECTOR * count)))
-    runs.show('the chunk of 40 extents grows', before.bytes(), trace(*made.writes(grown, before)))
+    before = split(before, 2, (DATA_AT + SECTOR, made.EXTENT_ITEM, SECTOR), SECTOR * count)
+    runs.show('the chunk of 40 extents grows', before.bytes(), trace(*made.writes(chunk_grows(before, count), before)))
+    same_looks(runs, new_file)
+
+
+def same_looks(runs, new_file):
+    """Events that look as often as others do."""
+    # The chunk grows of an extent that ranges of no bytes show: all that are at one place cost as many looks as one.
+    def looks(offsets):
+        before = with_empty_ranges(offsets)
+        return runs.looks_of_last(f'ranges of no bytes at {offsets}', before.bytes(), trace(*made.writes(chunk_grows(before, 4), before)))
+
+    none, one, five, three_places = map(looks, ([], [SECTOR], [SECTOR] * 5, [SECTOR, 2 * SECTOR, 3 * SECTOR, SECTOR]))
+    if not none < one == five < three_places or three_places - none != 3 * (one - none):
+        fail('ranges of no bytes', f'none {none} looks, one {one}, five at a place {five}, at three places {three_places}')
+    # An entry whose generation is another, which no rule reads, is no change: as many looks as for the block with its own bytes.
+    entry = changed(new_file, (5, made.indexed(256, 2, made.entry(257, 1, b'hello', generation=1))))
+    own, other = ([made.write(place, image.blocks[LEFT]) for place in made.places(LEFT)] for image in (new_file, entry))
+    own, other = (runs.looks_of_last('an entry', new_file.bytes(), trace(*writes, made.SETTLE)) for writes in (own, other))
+    if own != other or entry.blocks[LEFT] == new_file.blocks[LEFT]:
+        fail('an entry of another generation', f'{other} looks, and {own} with the same bytes')
 
 
 def workload(runs, seed, commits):

@@ -31,8 +31,26 @@ SUPERBLOCK_AND_CHUNKS = [
     ('the generation of the superblock', [write(SUPERBLOCK + 0x48, bytes(8))], 'N7 tree 1 block 5242880 key 0 0 0 detail 1'),
     ('its level of the root tree', [write(SUPERBLOCK + 0xc6, b'\1')], 'N8 tree 1 block 5242880 key 0 0 0 detail 0'),
     ('a level of the root tree that no tree has', [write(SUPERBLOCK + 0xc6, b'\x08')], 'S6 tree 0 block 0 key 0 0 0 detail 8'),
+    ('an array that ends in its first key', [write(SUPERBLOCK + 0xa0, made.number(16, 4))], 'S9 tree 0 block 0 key 0 0 0 detail 0'),
+    ('the id of the file system', [write(SUPERBLOCK + 0x20, b'\2')], 'N4 tree 3 block 1048576 key 0 0 0 detail 0'),
+    ('the generation of the chunk tree', [write(SUPERBLOCK + 0xa4, made.number(2))], 'N7 tree 3 block 1048576 key 0 0 0 detail 1'),
+    ('its level', [write(SUPERBLOCK + 0xc7, b'\1')], 'N8 tree 3 block 1048576 key 0 0 0 detail 0'),
+    ('the device of the superblock', [write(SUPERBLOCK + 0xc9, made.number(2))], 'U5 tree 3 block 0 key 256 228 1048576 detail 1'),
 ]
 
+# The checksum of a block of zeros, as a program in another language computed it.
+ZEROS = 3840130486
+# Where a root block may stand: whole in one chunk. There it has zeros.
+PLACES = [(f'the root tree at {at}', [write(SUPERBLOCK + 0x50, made.number(at))],
+           f'{"N3" if stands else "N1"} tree 1 block {at} key 0 0 0 detail {ZEROS if stands else 0}')
+          for at, stands in [
+              (0, False), (1032192, False), (1044480, False), (1064960, True), (5226496, True), (5230592, False), (5238784, False),
+              (13615104, True), (13619200, False), (13627392, False), (13631488, True), (22003712, True), (22007808, False), (22020096, False),
+              (30408704, False), (2 ** 64 - 16384, False), (2 ** 64 - 4096, False)]]
+PLACES.append(('the chunk tree at another block of the system chunk', [write(SUPERBLOCK + 0x58, made.number(1064960))],
+               f'N3 tree 3 block 1064960 key 0 0 0 detail {ZEROS}'))
+PLACES.append(('the chunk tree in a chunk that the array does not say', [write(SUPERBLOCK + 0x58, made.number(5242880))],
+               'N1 tree 3 block 5242880 key 0 0 0 detail 0'))
 
 
 def byte(at, value):
@@ -125,6 +143,14 @@ ITEMS = [
      [put(1, made.root(9, LEFT)), leaf(LEFT, 9, ATTRIBUTE)], 'A1 tree 9 block 5324800 key 5324800 176 9 detail 0'),
 ]
 
+# Trees 9 and 10 with an empty leaf each, tree -9 with a copy of the file tree's items, and items that stay unread.
+UNREAD = [((5, made.INODE_REF, 6), 160), ((6, made.INODE_ITEM, 0), 160), ((6, made.INODE_REF, 6), 160), ((6, made.DIR_ITEM, 2378154706), 160)]
+FURTHER_TREES = [('further trees, items of the root tree and the device tree that stay unread, and words of the free space tree', [
+    write(SUPERBLOCK + 0xb4, made.number(3)), leaf(LEFT, 9), leaf(RIGHT, 10), leaf(5357568, MOVED, made.top(0), made.name(256, 256, 0, b'..')),
+    *(put(1, made.root(tree, at)) for tree, at in [(9, LEFT), (10, RIGHT), (MOVED, 5357568)]), *(put(1, made.zeros(*one)) for one in UNREAD),
+    put(4, made.zeros((0, 249, 1), 40)), *(put(2, made.block(at, tree)) for tree, at in [(9, LEFT), (10, RIGHT), (MOVED, 5357568)]),
+    metadata_group(131072), used(147456)], None)]
+
 # The file tree as a node over two leaves of one item, and an item that is not right.
 A, B = made.zeros((256, made.XATTR_ITEM, 0), 1), made.zeros((257, made.XATTR_ITEM, 0), 1)
 BAD = made.zeros((256, made.EXTENT_DATA, 0), 52, [(20, 1)])
@@ -143,6 +169,7 @@ WALKS = [(what, TWO_LEAVES + changes, finding) for what, changes, finding in [
     ('the generation of a pointer comes before any leaf',
      [write(FILES + 159, made.number(2)), write(LEFT + 0x50, made.number(2))], 'N13 tree 5 block 5292032 key 0 0 0 detail 1'),
     ('a leaf outside every chunk', [write(FILES + 118, made.number(22020096))], 'N1 tree 5 block 22020096 key 256 24 0 detail 0'),
+    ('a leaf without items', [leaf(RIGHT, 5)], 'N9 tree 5 block 5341184 key 257 24 0 detail 0'),
     ('a leaf at no multiple of a sector',
      [write(FILES + 118, made.number(5324801))], 'N1 tree 5 block 5324801 key 256 24 0 detail 0'),
 ]]
@@ -194,11 +221,16 @@ NOT_REFERRED = 'A2 tree 5 block 13631488 key 257 178 0 detail 0'
 REFERENCES += [(what, FILE_OF_ONE + [reference_as(at, width, value), data_group(4096), ONE_SUM, ONE_USED], NOT_REFERRED)
                for what, at, width, value in [('the file is one of another tree', 25, 8, 256), ('or another file', 33, 8, 258),
                                               ('or begins elsewhere in the extent', 41, 8, 4096)]]
+# The file of one sector shows it once more behind it: the extent would begin there a sector later.
+SHOWN_TWICE = [*FILE_OF_ONE, put(5, made.inode(257, 8192)), put(5, made.file_range(4096, DATA_AT, 4096)), data_group(4096), ONE_USED,
+               put(2, ((DATA_AT, made.EXTENT_ITEM, 4096),
+                       made.extent(DATA_AT, 4096, references=2)[1] + made.extent(DATA_AT, 4096, origin=4096)[1][24:]))]
 REFERENCES += [
     ('an extent without a reference', FILE_OF_ONE + [put(2, ((DATA_AT, made.EXTENT_ITEM, 4096), made.extent(DATA_AT, 4096)[1][:24])),
                                                       data_group(4096), ONE_SUM, ONE_USED], NOT_REFERRED),
     ('a reference that counts two', FILE_OF_ONE + [put(2, made.extent(DATA_AT, 4096, references=2, count=2)), data_group(4096), ONE_SUM,
                                                    ONE_USED], NOT_REFERRED),
+    ('a file that shows the sector twice, with two references in the extent', SHOWN_TWICE + [ONE_SUM], ''),
     ('a block whose reference has an item of its own',
      [put(2, ((FILES, made.METADATA_ITEM, 0), made.block(FILES, 5)[1][:24])), put(2, ((FILES, made.TREE_BLOCK_REF, 5), b''))], ''),
     ('a block that is another tree\'s', [put(2, made.block(FILES, 7))], 'A1 tree 5 block 5292032 key 5292032 176 5 detail 0'),
@@ -268,6 +300,16 @@ SECTORS = [
          put(5, made.inode(257, 8192)), put(5, made.file_range(4096, DATA_AT + 4096, 4096)),
          put(2, made.extent(DATA_AT + 4096, 4096, origin=4096)), data_group(12288), TWO_SUMS, used(110592)],
      'A5 tree 0 block 13635584 key 0 0 0 detail 0'),
+    ('a sector that is shown twice has no checksum', SHOWN_TWICE, 'A5 tree 0 block 13631488 key 0 0 0 detail 0'),
+    ('a range of no bytes at the end of the extent', FILE_OF_ONE + [
+        put(5, made.file_range(4096, DATA_AT, 4096, offset=4096, length=0)), put(2, made.extent(DATA_AT, 4096, references=2, count=2)),
+        data_group(4096), ONE_SUM, ONE_USED], ''),
+    ('checksums in two items, of two extents that touch', FILE_OF_THREE + [
+        put(2, made.extent(DATA_AT, 12288, references=2)), put(2, made.reference(DATA_AT, 9)), drop(7, *made.sums(DATA_AT, 4)[0]), ONE_SUM,
+        put(7, made.sums(DATA_AT + 4096, 3))], ''),
+    ('an extent that begins in the last sector of a tree block', [
+        *HELLO, ONE_INODE, put(5, made.file_range(0, FILES + 12288, 4096)), put(2, made.extent(FILES + 12288, 4096))],
+     'A5 tree 0 block 5304320 key 0 0 0 detail 0'),
     ('of two sectors without checksums the first', FILE_OF_THREE + [
         put(2, made.extent(DATA_AT, 12288, references=2)), put(2, made.reference(DATA_AT, 9)), drop(7, *made.sums(DATA_AT, 4)[0])],
      'A5 tree 0 block 13631488 key 0 0 0 detail 0'),
@@ -317,8 +359,8 @@ def judge(row, finding):
     device.must_say(row, 1 if finding else 3, line + more, 'replay')
 
 
-tables = [SUPERBLOCK_AND_CHUNKS, SUPERBLOCK_RULES, CHUNK_MAP, ROOT_TREE, ITEMS, WALKS, REFERENCES, DEVICE_EXTENTS, GROUP_ITEMS, GROUPS_APART,
-          SECTORS, HOMES]
+tables = [SUPERBLOCK_AND_CHUNKS, PLACES, SUPERBLOCK_RULES, CHUNK_MAP, ROOT_TREE, ITEMS, FURTHER_TREES, WALKS, REFERENCES, DEVICE_EXTENTS,
+          GROUP_ITEMS, GROUPS_APART, SECTORS, HOMES]
 for table in tables:
     for row, changes, finding in table:
         device.fill(changed(BASE, changes))

@@ -1,12 +1,15 @@
-"""Traces over the base image: their lines as text and as JSON, and what they leave on the device.
+"""Traces over the base image: their lines as text and as JSON, and what they leave on the device; and who has the device.
 
 Usage: tests/traces.py [PROGRAM], by default crates/recon/out/recon. Prints one line, and ends with 1 at the first row
 that differs. A row: what it is, the records behind the header, the status, the lines behind the image's as text, those
 as JSON or none where they are not compared, and the writes that then stand on the device: places and bytes.
 """
+import fcntl
+import itertools
 import os
+import subprocess
 
-from rows import BASE, Device, SUMS, SUPERBLOCK, changed, made, metadata_group, used
+from rows import BASE, Device, SUMS, SUPERBLOCK, changed, fail, made, metadata_group, program, put, used
 
 write, fetch, SETTLE, END = made.write, made.fetch, made.SETTLE, made.END
 PLACE = BASE.superblock
@@ -41,6 +44,8 @@ BROKEN = [
     ('an empty write', [write(0, b''), END], 3, ['trace fault 3 BadLength record 1'], None, []),
     ('a fetch that is longer than 64 KiB', [fetch(0, 65537), END], 3, ['trace fault 3 BadLength record 1'], None, []),
     ('a write that is cut off', [write(0, b'123456789', 10)], 3, ['trace fault 4 Truncated record 1'], None, []),
+    ('a trace of its header alone', [], 3, ['trace fault 4 Truncated record 1'],
+     ['{"event":"trace fault","fault":"Truncated","number":4,"record":1}'], []),
     ('a bad tag behind a settle', [SETTLE, b'\x09', END], 3,
      ['settle 1 passed generation 1 blocks 0 hot 0', 'trace fault 2 BadTag record 2'],
      ['{"blocks":0,"event":"settle","generation":1,"hot":0,"number":1,"result":"passed"}',
@@ -72,7 +77,16 @@ BROKEN = [
      ['settle 1 passed generation 1 blocks 0 hot 0', 'trace past end record 2 at 18446744073709551615 len 1 end 33554432'], None, []),
 ]
 
+# The superblock of a new file before its blocks, which a settle then lets through; its root tree's block has only zeros yet.
+EARLY_SUPERBLOCK = [NEW_FILE_WRITES[-1], *NEW_FILE_WRITES[:-1], SETTLE, END]
+
 REJECTED = [
+    ('the superblock of a new file before its blocks', EARLY_SUPERBLOCK, 1,
+     ['commit 1 rejected N3 tree 1 block 5357568 key 0 0 0 detail 3840130486', 'settle 2 passed generation 1 blocks 0 hot 0',
+      'end passed 1 rejected 1'],
+     ['{"event":"commit","finding":{"block":5357568,"detail":3840130486,"key":[0,0,0],"rule":"N3","tree":1},"number":1,"result":"rejected"}',
+      '{"blocks":0,"event":"settle","generation":1,"hot":0,"number":2,"result":"passed"}', '{"event":"end","passed":1,"rejected":1}'],
+     NEW_FILE_LEFT[:-1]),
     ('a superblock without its magic number', [NO_MAGIC, END], 1, [NO_MAGIC_LINE, 'end passed 0 rejected 1'], None, []),
     ('another generation under the old checksum, and then a right superblock', [NEXT, AT_PLACE, END], 1,
      ['commit 1 rejected S3 tree 0 block 0 key 0 0 0 detail 4274492710', 'commit 2 passed generation 1 blocks 0 hot 0',
@@ -87,7 +101,22 @@ REJECTED = [
 # The block of the tree of checksums once more, as it is, over both copies.
 SAME_BLOCK = [write(place, BASE.blocks[SUMS]) for place in made.places(SUMS)]
 FROM_23_MIB = bytes(range(256)) * 4096
+# The top directory with another mode, in the block where it stands.
+MODE = changed(BASE, [put(5, made.top(0, 0o40700))])
 LAWFUL = [
+    ('nothing', [END], 0, ['end passed 0 rejected 0'], ['{"event":"end","passed":0,"rejected":0}'], []),
+    ('a write up to the end of the device, which no commit lets through', [AT_LAST, END], 0, ['end passed 0 rejected 0'], None, []),
+    ('and with one that does', [AT_LAST, AT_PLACE, END], 0, [PASSED, 'end passed 1 rejected 0'], None, [(LAST, b'abcdefgh')]),
+    ('the first mebibyte of the device as it is', [write(0, bytes(BASE.bytes()[:1 << 20])), END], 0, [PASSED, 'end passed 1 rejected 0'], None, []),
+    ('a new file', [*NEW_FILE_WRITES, END], 0, ['commit 1 passed generation 2 blocks 6 hot 0', 'end passed 1 rejected 0'],
+     ['{"blocks":6,"event":"commit","generation":2,"hot":0,"number":1,"result":"passed"}', '{"event":"end","passed":1,"rejected":0}'],
+     NEW_FILE_LEFT),
+    ('a live block written over, with a settle', [*made.writes(MODE, BASE)[:-1], SETTLE, END], 0,
+     ['settle 1 passed generation 1 blocks 2 hot 1', 'end passed 1 rejected 0'], None, list(MODE.pieces(BASE))),
+    ('the last byte of the second copy of a block, with a settle', [DIFFERS, SETTLE, END], 1,
+     ['settle 1 rejected N2 tree 5 block 5292032 key 0 0 0 detail 16383', 'end passed 0 rejected 1'],
+     ['{"event":"settle","finding":{"block":5292032,"detail":16383,"key":[0,0,0],"rule":"N2","tree":5},"number":1,"result":"rejected"}',
+      '{"event":"end","passed":0,"rejected":1}'], []),
     ('what stands behind the end', [WRITE_ABCD, END, WRITE_ABCD, b'\x09'], 0, ['end passed 0 rejected 0'], None, []),
     ('the longest write and the longest fetch', [write(23 << 20, FROM_23_MIB), fetch(0, 65536), SETTLE, END], 0,
      [f'fetch 0 65536 {"00" * 65536}', 'settle 1 passed generation 1 blocks 0 hot 0', 'end passed 1 rejected 0'], None,
@@ -202,7 +231,18 @@ longer = made.LENGTH + 4096
 try_row('a write up to the end of a longer device', [write(longer - 8, b'abcdefgh'), END], 0, ['end passed 0 rejected 0'], None, [], more=4096)
 try_row('a write past its end', [write(longer - 7, b'abcdefgh'), END], 3,
         ['trace past end record 1 at 33558521 len 8 end 33558528'], None, [], more=4096)
+# The writes of two submitters, of which each sends one copy of each block in its order, may come in any order of the two.
+first, second, superblock = NEW_FILE_LEFT[0::2][:3], NEW_FILE_LEFT[1::2][:3], NEW_FILE_LEFT[-1]
+orders = list(itertools.combinations(range(6), 3))
+for order in orders:
+    sent = [(1, *first[order.index(at)]) if at in order else (2, *second[at - sum(one < at for one in order)]) for at in range(6)]
+    records = [made.struct.pack('<BHQI', 1, submitter, place, len(data)) + data for submitter, place, data in [*sent, (0, *superblock)]]
+    try_row(f'a new file in the order {order}', [*records, END], 0, ['commit 1 passed generation 2 blocks 6 hot 0', 'end passed 1 rejected 0'],
+            None, NEW_FILE_LEFT)
 # An image that is refused, as JSON.
+device.fill(BASE, 16)
+device.must_say('an image of 16 bytes', 1, '{"event":"image","finding":{"block":0,"detail":16,"key":[0,0,0],"rule":"S1","tree":0},'
+                '"result":"refused"}\n', 'replay', '--json', trace=made.HEADER + END)
 device.fill(changed(BASE, [metadata_group(77824)]))
 device.must_say('an image that is refused', 1, '{"event":"image","finding":{"block":0,"detail":36,"key":[5242880,192,8388608],"rule":"A6",'
                 '"tree":0},"result":"refused"}\n', 'replay', '--json', trace=made.HEADER + END)
@@ -215,6 +255,11 @@ for cut in range(len(WHOLE)):
     fault = f'trace fault 4 Truncated record {taken + 1 if cut >= 16 else 0}'
     device.must_say(f'a trace that is cut to {cut} bytes', 3, ''.join(f'{line}\n' for line in [TEXT, *LINES[:max(0, taken - 1)], fault]),
                     'replay', trace=WHOLE[:cut])
+# At the ends of the header and of each record, also in pieces of one byte.
+for cut, taken in (15, 0), (16, 0), (34, 0), (35, 1), (36, 2), (48, 2), (49, 3):
+    fault = f'trace fault 4 Truncated record {taken + 1 if cut >= 16 else 0}'
+    device.must_say(f'a trace that is cut to {cut} bytes, in pieces of one', 3,
+                    ''.join(f'{line}\n' for line in [TEXT, *LINES[:max(0, taken - 1)], fault]), 'replay', trace=WHOLE[:cut], step=1)
 for step in 1, 3:
     device.fill(BASE)
     for trace, status, last in (WHOLE, 0, 'end passed 1 rejected 0'), (WHOLE[:-1] + b'\xfe', 3, 'trace fault 2 BadTag record 4'):
@@ -227,4 +272,30 @@ os.rename(called, device.path)
 end, end_json = 'end passed 0 rejected 0', '{"event":"end","passed":0,"rejected":0}'
 for words, lines in (('replay', '--json'), f'{TEXT}\n{end}\n'), (('replay', '--json', '--json'), f'{JSON}\n{end_json}\n'):
     device.must_say('an image that is called --json', 0, lines, *words, trace=made.HEADER + END, folder=device.folder.name)
+
+
+def locks():
+    """A check shares the image with other checks, and a replay and a make have it for themselves."""
+    device.path = called
+    os.rename(os.path.join(device.folder.name, '--json'), called)
+    device.fill(BASE)
+    forms = ('check',), ('replay',), ('make', '7', '1')
+    for how, statuses in (fcntl.LOCK_SH, (0, 4, 4)), (fcntl.LOCK_EX, (4, 4, 4)):
+        with open(called, 'rb') as other:
+            fcntl.flock(other, how)
+            for words, wanted in zip(forms, statuses):
+                device.must_say(f'an image that another has by the lock {how}', wanted, TEXT + '\n' if wanted == 0 else '', *words)
+                device.must_hold(f'an image that another has by the lock {how}', BASE.bytes())
+    # A replay that waits for its trace.
+    running = subprocess.Popen([program, 'replay', called], stdin=subprocess.PIPE, stdout=subprocess.PIPE, bufsize=0)
+    if running.stdout.readline().decode() != TEXT + '\n':
+        fail('a replay that waits', 'another line')
+    for words in forms:
+        device.must_say('an image over which a replay runs', 4, '', *words)
+    device.must_hold('an image over which a replay runs', BASE.bytes())
+    if running.communicate(made.HEADER + END, timeout=60)[0] != b'end passed 0 rejected 0\n' or running.returncode:
+        fail('a replay that waits', 'another line or status')
+
+
+locks()
 print(f'traces: {device.runs} runs have their lines and leave their device')

@@ -2,6 +2,8 @@
 use Rattle.std.specs.Prelude.{ℕ, ◌+◌, ◌-◌, min, Bool, true, false, ◌||◌, ◌==◌, List, Option, Some, None, if◌then◌else◌}
 use Rattle.std.specs.BTreeMap.{get}
 use Rattle.accounts.specs.declared.account.Account.{Account}
+use Rattle.accounts.specs.declared.kind.TheConstants.{BLOCK_REF, DATA_REF, EXTENT, EXTENT_FORM, INODE, INODE_TYPE, NAME_ENTRY, LINK, SUBVOLUME_PAIR, STRIPE, BYTES_USED, SUBVOLUME, DEVICE}
+use Rattle.accounts.specs.declared.sum.TheConstants.{EXTENT_ITEMS, EXTENT_REFS_SAID, EXTENT_REFS_FOUND, FORM_ITEMS, FORM_USES, INODE_ITEMS, INODE_OTHERS, INODE_LINKS, INODE_NAMES, INODE_ORPHANS, DIR_SIZE, DIR_NAMES, FILE_BYTES, FILE_RANGES, TYPE_ENTRIES, TYPE_ITEMS}
 use Rattle.accounts.specs.declared.postings.Posting.{Posting}
 use Rattle.accounts.specs.declared.totals.Totals.{Totals}
 use Rattle.accounts.specs.declared.tally.Tally.{Tally}
@@ -15,7 +17,9 @@ Sums = Account → ℕ → ℕ
 -- whether the rule on a kind of account is that its first two sums are equal, so that their difference alone decides
 abbrev pub balances : ℕ → Bool
 balances kind =
-    kind == 1 || (kind == 2 || (kind == 11 || (kind == 12 || (kind == 14 || (kind == 15 || (kind == 16 || (kind == 17 || kind == 18)))))))
+    kind == BLOCK_REF || (kind == DATA_REF
+    || (kind == NAME_ENTRY || (kind == LINK || (kind == SUBVOLUME_PAIR
+    || (kind == STRIPE || (kind == BYTES_USED || (kind == SUBVOLUME || kind == DEVICE)))))))
 
 -- the difference of the first two sums, in the one that is more; the other, and all others, are zero
 abbrev pub difference : (ℕ → ℕ) → ℕ → ℕ
@@ -30,31 +34,34 @@ difference_if false f = f
 -- and its names, with one left of both where it has both; the differences of the others
 abbrev pub inode_class : (ℕ → ℕ) → ℕ → ℕ
 inode_class f field =
-    if field == 0 then min (f 0) 2 else
-    (if field == 1 then min (f 1) 1 else
-    (if field == 2 then (f 2 - f 3) + min 1 (min (f 2) (f 3)) else
-    (if field == 3 then (f 3 - f 2) + min 1 (min (f 2) (f 3)) else
-    (if field == 4 then min (f 4) 1 else
-    (if field == 5 then f 5 - f 6 else
-    (if field == 6 then f 6 - f 5 else
-    (if field == 7 then f 7 - f 8 else
-    (if field == 8 then f 8 - f 7 else 0))))))))
+    if field == INODE_ITEMS then min (f INODE_ITEMS) 2 else
+    (if field == INODE_OTHERS then min (f INODE_OTHERS) 1 else
+    (if field == INODE_LINKS then (f INODE_LINKS - f INODE_NAMES) + min 1 (min (f INODE_LINKS) (f INODE_NAMES)) else
+    (if field == INODE_NAMES then (f INODE_NAMES - f INODE_LINKS) + min 1 (min (f INODE_LINKS) (f INODE_NAMES)) else
+    (if field == INODE_ORPHANS then min (f INODE_ORPHANS) 1 else
+    (if field == DIR_SIZE then f DIR_SIZE - f DIR_NAMES else
+    (if field == DIR_NAMES then f DIR_NAMES - f DIR_SIZE else
+    (if field == FILE_BYTES then f FILE_BYTES - f FILE_RANGES else
+    (if field == FILE_RANGES then f FILE_RANGES - f FILE_BYTES else 0))))))))
 
 -- what is kept of a type of an inode: whether an entry says it, and the items that do up to two
 abbrev pub type_class : (ℕ → ℕ) → ℕ → ℕ
-type_class f field = if field == 0 then min (f 0) 1 else (if field == 1 then min (f 1) 2 else 0)
+type_class f field =
+    if field == TYPE_ENTRIES then min (f TYPE_ENTRIES) 1 else (if field == TYPE_ITEMS then min (f TYPE_ITEMS) 2 else 0)
 
 -- what is kept of an extent: its items up to two; the difference of the references that its item says and of those that there are, and
 -- whether there are both
 abbrev pub extent_class : (ℕ → ℕ) → ℕ → ℕ
 extent_class f field =
-    if field == 0 then min (f 0) 2 else
-    (if field == 1 then (f 1 - f 2) + min 1 (min (f 1) (f 2)) else
-    (if field == 2 then (f 2 - f 1) + min 1 (min (f 1) (f 2)) else 0))
+    if field == EXTENT_ITEMS then min (f EXTENT_ITEMS) 2 else
+    (if field == EXTENT_REFS_SAID
+    then (f EXTENT_REFS_SAID - f EXTENT_REFS_FOUND) + min 1 (min (f EXTENT_REFS_SAID) (f EXTENT_REFS_FOUND)) else
+    (if field == EXTENT_REFS_FOUND
+    then (f EXTENT_REFS_FOUND - f EXTENT_REFS_SAID) + min 1 (min (f EXTENT_REFS_SAID) (f EXTENT_REFS_FOUND)) else 0))
 
 -- what is kept of a form of an extent: whether its item has it, and whether who refers to it does
 abbrev pub form_class : (ℕ → ℕ) → ℕ → ℕ
-form_class f field = if field == 0 then min (f 0) 1 else (if field == 1 then min (f 1) 1 else 0)
+form_class f field = if field == FORM_ITEMS then min (f FORM_ITEMS) 1 else (if field == FORM_USES then min (f FORM_USES) 1 else 0)
 
 -- what is kept of the sums of an inode, of a type, of an extent, of a form, or of another account
 abbrev pub kept_as : Bool → Bool → Bool → Bool → Bool → (ℕ → ℕ) → ℕ → ℕ
@@ -66,7 +73,7 @@ kept_as false false false false balanced f = difference_if balanced f
 
 -- what is kept of the sums of an account of a kind: no more than what the rule on the kind looks at
 unfoldable pub kept : ℕ → (ℕ → ℕ) → ℕ → ℕ
-kept kind f = kept_as (kind == 9) (kind == 10) (kind == 3) (kind == 4) (balances kind) f
+kept kind f = kept_as (kind == INODE) (kind == INODE_TYPE) (kind == EXTENT) (kind == EXTENT_FORM) (balances kind) f
 
 -- some sums, with an amount added to one
 abbrev pub with_amount : (ℕ → ℕ) → ℕ → ℕ → ℕ → ℕ

@@ -3,7 +3,7 @@
 ghost use Rattle.std.specs.Prelude.{◌≡◌, [], IfOk};
 ghost use Rattle.accounts.specs.Kinds as kinds;
 
-use crate::{Account, Home};
+use crate::{Account, Home, kind};
 use std::alloc::Global;
 use verdict::kinds::{
     BLOCK_GROUP_ITEM, DEV_EXTENT, DEV_ITEM, DIR_ITEM, EXTENT_DATA_REF, INODE_ITEM, INODE_REF,
@@ -64,7 +64,7 @@ impl Account {
     {
         plain(
             alloc,
-            1,
+            kind::BLOCK_REF,
             root,
             address,
             key_by(address, TREE_BLOCK_REF, root),
@@ -78,7 +78,7 @@ impl Account {
     {
         plain(
             alloc,
-            1,
+            kind::BLOCK_REF,
             0,
             address,
             key_by(address, SHARED_BLOCK_REF, parent),
@@ -93,7 +93,7 @@ impl Account {
     {
         plain(
             alloc,
-            2,
+            kind::DATA_REF,
             root,
             address,
             key_by(ino, EXTENT_DATA_REF, origin),
@@ -105,28 +105,42 @@ impl Account {
     pub fn shared_data_ref(alloc: Global, parent: u64, address: u64) -> Account
         ensures { result ≡ kinds.shared_data_ref parent address }
     {
-        plain(alloc, 2, 0, address, key_by(parent, SHARED_DATA_REF, 0), 0)
+        plain(
+            alloc,
+            kind::DATA_REF,
+            0,
+            address,
+            key_by(parent, SHARED_DATA_REF, 0),
+            0,
+        )
     }
 
     /// A3: the extent at a logical address.
     pub fn extent(alloc: Global, address: u64) -> Account
         ensures { result ≡ kinds.extent address }
     {
-        plain(alloc, 3, 2, address, Key::none(), 0)
+        plain(alloc, kind::EXTENT, 2, address, Key::none(), 0)
     }
 
     /// A4: the form of the extent at a logical address: of kind 168 its length in bytes, of kind 169 its level.
     pub fn extent_form(alloc: Global, address: u64, kind: u8, form: u64) -> Account
         ensures { result ≡ kinds.extent_form address kind form }
     {
-        plain(alloc, 4, 2, address, key_by(0, kind, form), 0)
+        plain(
+            alloc,
+            kind::EXTENT_FORM,
+            2,
+            address,
+            key_by(0, kind, form),
+            0,
+        )
     }
 
     /// A5: the sector at a logical address.
     pub fn sector(alloc: Global, address: u64) -> Account
         ensures { result ≡ kinds.sector address }
     {
-        plain(alloc, 5, 0, address, Key::none(), 0)
+        plain(alloc, kind::SECTOR, 0, address, Key::none(), 0)
     }
 
     /// A6: the block group, and the chunk, from a logical address on with a length in bytes and a type.
@@ -135,7 +149,7 @@ impl Account {
     {
         plain(
             alloc,
-            6,
+            kind::GROUP,
             0,
             0,
             key_by(start, BLOCK_GROUP_ITEM, length),
@@ -154,21 +168,21 @@ impl Account {
     pub fn group_class(alloc: Global, address: u64) -> Account
         ensures { result ≡ kinds.group_class address }
     {
-        plain(alloc, 7, 2, address, Key::none(), 0)
+        plain(alloc, kind::GROUP_CLASS, 2, address, Key::none(), 0)
     }
 
     /// A8: the extent at a logical address, outside every chunk.
     pub fn outside(alloc: Global, address: u64) -> Account
         ensures { result ≡ kinds.outside address }
     {
-        plain(alloc, 8, 2, address, Key::none(), 0)
+        plain(alloc, kind::OUTSIDE, 2, address, Key::none(), 0)
     }
 
     /// A9: an inode of a tree.
     pub fn inode(alloc: Global, tree: u64, ino: u64) -> Account
         ensures { result ≡ kinds.inode tree ino }
     {
-        plain(alloc, 9, tree, 0, key_by(ino, INODE_ITEM, 0), 0)
+        plain(alloc, kind::INODE, tree, 0, key_by(ino, INODE_ITEM, 0), 0)
     }
 
     /// A10: a type of an inode, 1 regular file to 7 symbolic link.
@@ -177,7 +191,7 @@ impl Account {
     {
         plain(
             alloc,
-            10,
+            kind::INODE_TYPE,
             tree,
             0,
             key_by(ino, INODE_ITEM, 0),
@@ -202,7 +216,7 @@ impl Account {
         tail.push(sort)?;
         tail.push(location.kind)?;
         Ok(Account {
-            kind: 11,
+            kind: kind::NAME_ENTRY,
             tree,
             block: 0,
             key: key_by(dir, DIR_ITEM, u64::from(hash)),
@@ -222,7 +236,14 @@ impl Account {
     ) -> Result<Account, NoMemory>
         ensures { IfOk result (λ account. account ≡ kinds.link tree ino dir index name.now) }
     {
-        named(alloc, 12, tree, key_by(ino, INODE_REF, dir), index, name)
+        named(
+            alloc,
+            kind::LINK,
+            tree,
+            key_by(ino, INODE_REF, dir),
+            index,
+            name,
+        )
     }
 
     /// A13: the name of the subvolume `child`, at an index of a directory of the tree `parent`.
@@ -237,7 +258,14 @@ impl Account {
         ensures { IfOk result (λ account.
             account ≡ kinds.subvolume_entry parent child dir index name.now) }
     {
-        named(alloc, 13, parent, key_by(child, ROOT_REF, dir), index, name)
+        named(
+            alloc,
+            kind::SUBVOLUME_ENTRY,
+            parent,
+            key_by(child, ROOT_REF, dir),
+            index,
+            name,
+        )
     }
 
     /// A14: the same name, from the parent and from the child.
@@ -254,7 +282,7 @@ impl Account {
     {
         named(
             alloc,
-            14,
+            kind::SUBVOLUME_PAIR,
             parent,
             key_by(child, ROOT_BACKREF, dir),
             index,
@@ -268,7 +296,7 @@ impl Account {
     {
         plain(
             alloc,
-            15,
+            kind::STRIPE,
             4,
             start,
             key_by(devid, DEV_EXTENT, physical),
@@ -280,20 +308,20 @@ impl Account {
     pub fn bytes_used(alloc: Global) -> Account
         ensures { result ≡ kinds.bytes_used }
     {
-        plain(alloc, 16, 0, 0, Key::none(), 0)
+        plain(alloc, kind::BYTES_USED, 0, 0, Key::none(), 0)
     }
 
     /// A17: the references to a subvolume.
     pub fn subvolume(alloc: Global, id: u64) -> Account
         ensures { result ≡ kinds.subvolume id }
     {
-        plain(alloc, 17, 1, 0, key_by(id, ROOT_ITEM, 0), 0)
+        plain(alloc, kind::SUBVOLUME, 1, 0, key_by(id, ROOT_ITEM, 0), 0)
     }
 
     /// A18: the bytes of a device that its ranges take.
     pub fn device(alloc: Global, devid: u64) -> Account
         ensures { result ≡ kinds.device devid }
     {
-        plain(alloc, 18, 3, 0, key_by(1, DEV_ITEM, devid), 0)
+        plain(alloc, kind::DEVICE, 3, 0, key_by(1, DEV_ITEM, devid), 0)
     }
 }

@@ -3,12 +3,15 @@
 
 mod account;
 mod context;
+pub mod kind;
 mod kinds;
 mod laws;
 mod name;
 mod postings;
+pub mod sum;
 mod tally;
 mod totals;
+mod user;
 
 pub use account::Account;
 pub use context::{Ctx, Home};
@@ -17,3 +20,4 @@ pub use name::NameAccount;
 pub use postings::{Poster, Posting, Postings};
 pub use tally::Tally;
 pub use totals::{Totals, broken, finding_of, sector_keeps};
+pub use user::User;

@@ -5,7 +5,16 @@ ghost use Rattle.accounts.specs.Sums.{sum_in};
 ghost use Rattle.accounts.specs.Tally.{balances, difference, kept, with_amount};
 ghost use Rattle.accounts.specs.Broken.{broken_finding, extent_keeps, group_keeps, inode_keeps, is_broken, sector_keeps};
 
-use crate::Account;
+use crate::sum::{
+    BYTES_IN_GROUPS, BYTES_SAID, CHUNK_STRIPES, DEVICE_RANGES, DEVICE_SAID, DEVICE_TAKEN,
+    DIR_NAMES, DIR_SIZE, ENTRIES_BY_HASH, ENTRIES_BY_INDEX, EXTENT_ITEMS, EXTENT_REFS_FOUND,
+    EXTENT_REFS_SAID, FILE_BYTES, FILE_RANGES, FORM_ITEMS, FORM_USES, FROM_CHILD, FROM_PARENT,
+    GROUP_CHUNKS, GROUP_ITEMS, GROUP_TAKEN, GROUP_USED, INODE_ITEMS, INODE_LINKS, INODE_NAMES,
+    INODE_ORPHANS, INODE_OTHERS, LINK_ENTRIES, LINK_NAMES, OTHER_CLASS, OUTSIDE_CHUNKS, REFERENCES,
+    ROOT_REFS_FOUND, ROOT_REFS_SAID, SECTOR_DATA, SECTOR_EXTENTS, SECTOR_SHOWN, SECTOR_SUMS,
+    SUBVOLUME_ENTRIES, SUBVOLUME_REFS, TYPE_ENTRIES, TYPE_ITEMS, USES,
+};
+use crate::{Account, kind};
 use verdict::{Family, Finding, NoMemory, Rule};
 
 /// The nine sums of an account.
@@ -21,6 +30,14 @@ impl Totals {
         ensures { (n : ℕ) → sum_in result n ≡ 0 }
     {
         Totals { f: [0; 9] }
+    }
+
+    /// The sum with this number.
+    pub fn at(&self, field: u8) -> u128
+        requires { field < 9 }
+        ensures { result ≡ sum_in self.now field }
+    {
+        self.f[usize::from(field)]
     }
 
     /// Adds an amount to the sum with this number. A sum that would pass 128 bits is want of memory, and stays.
@@ -66,7 +83,18 @@ impl Totals {
 pub fn balances(kind: u8) -> bool
     ensures { result ≡ balances kind }
 {
-    matches!(kind, 1 | 2 | 11 | 12 | 14..=18)
+    matches!(
+        kind,
+        kind::BLOCK_REF
+            | kind::DATA_REF
+            | kind::NAME_ENTRY
+            | kind::LINK
+            | kind::SUBVOLUME_PAIR
+            | kind::STRIPE
+            | kind::BYTES_USED
+            | kind::SUBVOLUME
+            | kind::DEVICE
+    )
 }
 
 // Whether an account of this kind with these sums stands as one without postings: its difference is zero.
@@ -81,26 +109,26 @@ pub fn is_settled(kind: u8, totals: &Totals) -> bool
 pub fn broken(account: &Account, totals: &Totals) -> bool
     ensures { result ≡ is_broken account.now (sum_in totals.now) }
 {
-    let f = &totals.f;
+    let f = totals;
     !match account.kind {
-        1 => f[0] == f[1],
-        2 => f[0] == f[1],
-        3 => extent_keeps(totals),
-        4 => f[1] == 0 || f[0] >= 1,
-        5 => sector_keeps(totals),
-        6 => group_keeps(totals),
-        7 => f[0] == 0,
-        8 => f[0] == 0,
-        9 => inode_keeps(totals),
-        10 => f[0] == 0 || f[1] == 1,
-        11 => f[0] == f[1],
-        12 => f[0] == f[1],
-        13 => f[0] <= f[1],
-        14 => f[0] == f[1],
-        15 => f[0] == f[1],
-        16 => f[0] == f[1],
-        17 => f[0] == f[1],
-        18 => f[0] == f[1],
+        kind::BLOCK_REF => f.at(REFERENCES) == f.at(USES),
+        kind::DATA_REF => f.at(REFERENCES) == f.at(USES),
+        kind::EXTENT => extent_keeps(f),
+        kind::EXTENT_FORM => f.at(FORM_USES) == 0 || f.at(FORM_ITEMS) >= 1,
+        kind::SECTOR => sector_keeps(f),
+        kind::GROUP => group_keeps(f),
+        kind::GROUP_CLASS => f.at(OTHER_CLASS) == 0,
+        kind::OUTSIDE => f.at(OUTSIDE_CHUNKS) == 0,
+        kind::INODE => inode_keeps(f),
+        kind::INODE_TYPE => f.at(TYPE_ENTRIES) == 0 || f.at(TYPE_ITEMS) == 1,
+        kind::NAME_ENTRY => f.at(ENTRIES_BY_HASH) == f.at(ENTRIES_BY_INDEX),
+        kind::LINK => f.at(LINK_ENTRIES) == f.at(LINK_NAMES),
+        kind::SUBVOLUME_ENTRY => f.at(SUBVOLUME_REFS) <= f.at(SUBVOLUME_ENTRIES),
+        kind::SUBVOLUME_PAIR => f.at(FROM_PARENT) == f.at(FROM_CHILD),
+        kind::STRIPE => f.at(CHUNK_STRIPES) == f.at(DEVICE_RANGES),
+        kind::BYTES_USED => f.at(BYTES_SAID) == f.at(BYTES_IN_GROUPS),
+        kind::SUBVOLUME => f.at(ROOT_REFS_SAID) == f.at(ROOT_REFS_FOUND),
+        kind::DEVICE => f.at(DEVICE_SAID) == f.at(DEVICE_TAKEN),
         _ => true,
     }
 }
@@ -109,10 +137,10 @@ pub fn broken(account: &Account, totals: &Totals) -> bool
 fn extent_keeps(totals: &Totals) -> bool
     ensures { result ≡ extent_keeps (sum_in totals.now) }
 {
-    let f = &totals.f;
-    match f[0] {
-        0 => f[2] == 0,
-        1 => f[1] == f[2] && f[1] >= 1,
+    let (said, found) = (totals.at(EXTENT_REFS_SAID), totals.at(EXTENT_REFS_FOUND));
+    match totals.at(EXTENT_ITEMS) {
+        0 => found == 0,
+        1 => said == found && said >= 1,
         _ => false,
     }
 }
@@ -122,28 +150,33 @@ fn extent_keeps(totals: &Totals) -> bool
 pub fn sector_keeps(totals: &Totals) -> bool
     ensures { result ≡ sector_keeps (sum_in totals.now) }
 {
-    let f = &totals.f;
-    f[0] <= 1 && f[2] <= 1 && (f[2] != 1 || f[1] == 1) && (f[3] == 0 || f[2] == 1)
+    let sums = totals.at(SECTOR_SUMS);
+    totals.at(SECTOR_EXTENTS) <= 1
+        && sums <= 1
+        && (sums != 1 || totals.at(SECTOR_DATA) == 1)
+        && (totals.at(SECTOR_SHOWN) == 0 || sums == 1)
 }
 
 // The rule on a block group.
 fn group_keeps(totals: &Totals) -> bool
     ensures { result ≡ group_keeps (sum_in totals.now) }
 {
-    let f = &totals.f;
-    f[0] == f[1] && f[0] <= 1 && f[2] == f[3]
+    let items = totals.at(GROUP_ITEMS);
+    items == totals.at(GROUP_CHUNKS)
+        && items <= 1
+        && totals.at(GROUP_USED) == totals.at(GROUP_TAKEN)
 }
 
 // The rule on an inode.
 fn inode_keeps(totals: &Totals) -> bool
     ensures { result ≡ inode_keeps (sum_in totals.now) }
 {
-    let f = &totals.f;
-    (f[1] == 0 || f[0] == 1)
-        && f[2] == f[3]
-        && (f[0] != 1 || f[2] != 0 || f[4] > 0)
-        && f[5] == f[6]
-        && f[7] == f[8]
+    let (items, links) = (totals.at(INODE_ITEMS), totals.at(INODE_LINKS));
+    (totals.at(INODE_OTHERS) == 0 || items == 1)
+        && links == totals.at(INODE_NAMES)
+        && (items != 1 || links != 0 || totals.at(INODE_ORPHANS) > 0)
+        && totals.at(DIR_SIZE) == totals.at(DIR_NAMES)
+        && totals.at(FILE_BYTES) == totals.at(FILE_RANGES)
 }
 
 /// The finding of a broken account: the rule A with the kind as its number, at the account's tree, block, key and

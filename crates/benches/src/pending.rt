@@ -126,9 +126,8 @@ fn taken(alloc: Global, order: Order, count: u64, size: usize) -> Result<WriteCa
 fn sizes(cache: &mut WriteCache) -> (u64, u64) {
     let mut count = 0u64;
     let mut length = 0u64;
-    cache.join();
-    if let Some(pieces) = cache.pieces() {
-        for (_, bytes) in pieces {
+    if let Ok(joined) = cache.join() {
+        for (_, bytes) in joined.pieces() {
             count = count.wrapping_add(1);
             length = length.wrapping_add(bytes.len() as u64);
         }

@@ -5,16 +5,12 @@ use Rattle.std.specs.Option.{unwrap_or}
 use Rattle.std.specs.Ordering.{nat_cmp}
 use Rattle.std.specs.FinMap.{FinMap, get}
 use Rattle.std.proofs.lemmas.Bool.{cases_lt}
+use Rattle.verdict.proofs.Truth.{and_parts}
 use Rattle.verdict.specs.Image.{range}
 use Rattle.recon_disk.proofs.Undoing.{length-range}
 use Rattle.write_cache.specs.Cache.{overlaid}
 use Rattle.write_cache.proofs.CacheLaws.{range-overlaid_image}
 use Rattle.block_source.specs.Counts.{cover}
-
-both : (a b : Bool) → (a && b) ≡ true → (a ≡ true) × (b ≡ true)
-both true true is = (refl, refl)
-both true false is = absurd (cc)
-both false b is = absurd (cc)
 
 -- the bytes from an offset on are covered where each is
 all_there : (m : FinMap nat_cmp ℕ) (at n : ℕ) → ((i : ℕ) → at ≤ i → i < at + n → IsSome (get m i)) → cover m at n ≡ true
@@ -29,7 +25,7 @@ each_there : (m : FinMap nat_cmp ℕ) (at n : ℕ) → cover m at n ≡ true →
 unfolding cover
 each_there m at zero all i low high = absurd (omega (arith, low, high))
 each_there m at (suc n) all i low high =
-    let parts = both (is_some (get m at)) (cover m (at + 1) n) all in
+    let parts = and_parts (is_some (get m at)) (cover m (at + 1) n) all in
     elim (cases_lt at i) [
       | inl above ↦ each_there m (at + 1) n parts.1 i (omega (arith, above)) (omega (arith, high))
       | inr here ↦ subst (λ j. is_some (get m j) ≡ true) (omega (arith, low, here)) parts.0
@@ -50,7 +46,7 @@ same_laid m at [] [] same all = refl
 same_laid m at [] (y ∷ ys) same all = absurd (omega (arith, same))
 same_laid m at (x ∷ xs) [] same all = absurd (omega (arith, same))
 same_laid m at (x ∷ xs) (y ∷ ys) same all =
-    let parts = both (is_some (get m at)) (cover m (at + 1) (length xs)) all in
+    let parts = and_parts (is_some (get m at)) (cover m (at + 1) (length xs)) all in
     ap (λ b. b ∷ overlaid m (at + 1) xs) (first (get m at) parts.0)
     ∙ ap (λ bs. unwrap_or (get m at) y ∷ bs) (same_laid m (at + 1) xs ys (omega (arith, same)) parts.1)
   where

@@ -19,7 +19,7 @@ use Rattle.accounts.specs.Context.{Context}
 use Rattle.extent_items.specs.ExtentRow.{ExtentFields}
 use Rattle.fs_items.specs.declared.file_extent.FileExtent.{FileExtent}
 use Rattle.live_index.specs.Pairs.{Pairs}
-use Rattle.records.specs.declared.owned.ItemAt.{ItemAt}
+use Rattle.records.specs.declared.rec.ItemAt.{ItemAt}
 use Rattle.records.specs.Part.{Located, Part}
 use Rattle.records.specs.Part.Part.{RootPart, LinkPart, DevicePart, ChunkPart, DevExtentPart, ExtentPart, KeyedPart, GroupPart, InodePart, NamesPart, XattrPart, OrphanPart, EntriesPart, FileExtentPart, SumsPart, UnreadPart, SuperPart, BlockPart}
 use Rattle.records.specs.SpacePostings.{is_data}
@@ -35,9 +35,9 @@ use Rattle.change_records.specs.Refs.{is_named, ref_cmp, ref_to}
 use Rattle.change_records.specs.Search.{IsFound, IsHit, SortNames, SpanDiffers, SpanNames, known, new_flags}
 use Rattle.change_records.specs.Spans.{AreItemsOf, IsLawfulExtent, IsLawfulIn, IsLawfulRange, extent_span, is_written, shown_span, span_in, span_of, sums_span}
 use Rattle.change_records.specs.SumFree.{flags_after}
-use Rattle.change_records.proofs.ItemLaws.{item_of, lawful_of, one_span, stands_of}
+use Rattle.change_records.proofs.ItemLaws.{item_of, lawful_of, stands_of}
 use Rattle.change_records.proofs.MadeLaws.{tied_ref}
-use Rattle.change_records.proofs.PostingLaws.{IsWhole, item_differs, item_plain, span_differs}
+use Rattle.change_records.proofs.PostingLaws.{IsWhole, item_differs, item_plain, span_differs, one_span}
 use Rattle.change_records.proofs.SearchLaws.{same_ref}
 
 -- ---- the order of names

@@ -11,7 +11,7 @@ use Rattle.verdict.specs.declared.place.Chunk.{Chunk}
 use Rattle.accounts.specs.Context.{home_in}
 use Rattle.change_records.specs.Homes.{StandApart, is_kept, is_like}
 
-one_chunk : (h g : Chunk) → Some h ≡ Some g → h ≡ g
+pub one_chunk : (h g : Chunk) → Some h ≡ Some g → h ≡ g
 one_chunk h g is = ap (λ o. unwrap_or o h) is
 
 -- what is answered is of the list and holds the range

@@ -8,6 +8,7 @@ use Rattle.std.proofs.lemmas.Bool.{and_parts, cases_order, eqb-true}
 use Rattle.std.proofs.lemmas.List.{get_or_default}
 use Rattle.std.proofs.lemmas.List.Elements.{All-contains}
 use Rattle.std.proofs.lemmas.Nat.{div-add-mod'}
+use Rattle.change_records.proofs.PostingLaws.{one_span}
 use Rattle.verdict.specs.declared.kinds.TheConstants.{EXTENT_DATA}
 use Rattle.fs_items.specs.declared.file_extent.FileExtent.{FileExtent}
 use Rattle.records.specs.Part.{Located, Part}
@@ -66,9 +67,6 @@ to_one {X} {Y} h (x ∷ xs) (suc k) d y small is = behind (h x) (to_one h xs k d
     behind (Some z) there = contains_more z (filter_map h xs) y there
 
 -- ---- items of a table
-
-pub one_span : (s t : Span) → Some s ≡ Some t → s ≡ t
-one_span s t is = ap (λ o. unwrap_or o s) is
 
 -- a span that stands is that of an item
 pub item_of : (n : ℕ) (table : Table) (items : List Located) (span : Span) → AreItemsOf n table items → 0 < table span

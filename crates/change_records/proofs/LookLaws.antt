@@ -9,6 +9,7 @@ use Rattle.std.specs.Cmp.{tied_itself}
 use Rattle.std.proofs.lemmas.Bool.{and_from, and_parts, both_ways, eqb-true, lt-ltb, ltb-true, or_cases}
 use Rattle.std.proofs.lemmas.Bool.Decides.{nat_tests}
 use Rattle.std.proofs.lemmas.List.Sums.{sum_by-cons, sum_by-le-sum_by, sum_by-take-le, sum_by_more, sum_by_more_le}
+use Rattle.verdict.proofs.Truth.{is_equal, is_less, false_of_not}
 use Rattle.verdict.specs.declared.place.Chunk.{Chunk}
 use Rattle.span_index.specs.Order.{is_below, is_same, span_cmp}
 use Rattle.span_index.specs.OrderLaws.{span_exact, span_total}
@@ -59,19 +60,9 @@ count_none p (y ∷ ys) none =
 
 -- ---- the order of spans
 
-equal_by : (o : Ordering) → is_eq o ≡ true → o ≡ Equal
-equal_by Less e = absurd (cc)
-equal_by Equal e = refl
-equal_by Greater e = absurd (cc)
-
-less_by : (o : Ordering) → is_lt o ≡ true → o ≡ Less
-less_by Less e = refl
-less_by Equal e = absurd (cc)
-less_by Greater e = absurd (cc)
-
 pub same_is : (x y : Span) → is_same x y ≡ true → x ≡ y
 unfolding is_same
-same_is x y e = span_exact x y (equal_by (span_cmp x y) e)
+same_is x y e = span_exact x y (is_equal (span_cmp x y) e)
 
 below_itself : (x : Span) → is_below x x ≡ false
 unfolding is_below
@@ -79,7 +70,7 @@ below_itself x = ap is_lt (tied_itself span_total x)
 
 below_trans : (x y z : Span) → is_below x y ≡ true → is_below y z ≡ true → is_below x z ≡ true
 unfolding is_below
-below_trans x y z a b = ap is_lt (span_total.trans x y z (less_by (span_cmp x y) a) (less_by (span_cmp y z) b))
+below_trans x y z a b = ap is_lt (span_total.trans x y z (is_less (span_cmp x y) a) (is_less (span_cmp y z) b))
 
 -- ---- a pass over the spans that a range meets
 
@@ -93,10 +84,6 @@ two_tests true true q never f g = absurd (never refl refl)
 two_tests true false q never f g = let one : cond {A = ℕ} q 1 0 ≡ 1 = ap (λ z. cond z 1 0) (f refl) in omega arith
 two_tests false true q never f g = let one : cond {A = ℕ} q 1 0 ≡ 1 = ap (λ z. cond z 1 0) (g refl) in omega arith
 two_tests false false q never f g = omega arith
-
-not_true : (b : Bool) → not b ≡ true → b ≡ false
-not_true true e = absurd (cc)
-not_true false e = refl
 
 some_here : {X : Type 0} (f : X → Bool) (x : X) (xs : List X) (b : Bool) → f x ≡ b → (b || list_any f xs) ≡ true
     → (list_any f xs ≡ true → 0 < count_by f xs) → 0 < count_by f (x ∷ xs)
@@ -219,9 +206,9 @@ module _ (table : Table) (stops : List Span) (are : AreStopsOf table stops) (sor
         let two = count_two (is_passed sort from until now after) (stands_for next) (is_passed sort from until (max now next.first) (Some next)) stops
         (λ x. two_tests (is_passed sort from until now after x) (stands_for next x) (is_passed sort from until (max now next.first) (Some next) x)
         (λ p s. (let past = and_parts (overlaps sort from until x) (not (is_ahead now after x)) p in
-        both_ways (is_ahead now after x) (not_true _ past.1) (comes x s).before))
+        both_ways (is_ahead now after x) (false_of_not _ past.1) (comes x s).before))
         (λ p. (let past = and_parts (overlaps sort from until x) (not (is_ahead now after x)) p in
-        and_from _ _ past.0 (ap not (still x (not_true _ past.1) (is_ahead (max now next.first) (Some next) x) refl))))
+        and_from _ _ past.0 (ap not (still x (false_of_not _ past.1) (is_ahead (max now next.first) (Some next) x) refl))))
         (λ s. and_from _ _ (comes x s).reach (ap not (comes x s).then))) in
         omega (arith, two, some)
       where
@@ -265,9 +252,9 @@ module _ (table : Table) (all : List Span) (are : AreSpansOf table all) (inode :
       let two = count_two (is_read inode after) (is_same next) (is_read inode (Some (offset_of next.sort))) all
       (λ x. two_tests (is_read inode after x) (is_same next x) (is_read inode (Some (offset_of next.sort)) x)
       (λ p s. (let past = and_parts (is_shown inode x) (not (is_behind after (offset_of x.sort))) p in
-      both_ways (is_behind after (offset_of x.sort)) (not_true _ past.1) (subst (λ y. is_behind after (offset_of y.sort) ≡ true) (same_is next x s) shown.1)))
+      both_ways (is_behind after (offset_of x.sort)) (false_of_not _ past.1) (subst (λ y. is_behind after (offset_of y.sort) ≡ true) (same_is next x s) shown.1)))
       (λ p. (let past = and_parts (is_shown inode x) (not (is_behind after (offset_of x.sort))) p in
-      and_from _ _ past.0 (ap not (still_read after (offset_of next.sort) (offset_of x.sort) shown.1 (not_true _ past.1)))))
+      and_from _ _ past.0 (ap not (still_read after (offset_of next.sort) (offset_of x.sort) shown.1 (false_of_not _ past.1)))))
       (λ s. subst (λ y. is_read inode (Some (offset_of next.sort)) y ≡ true) (same_is next x s) here)) in
       omega (arith, two, times, stands)
 

@@ -16,7 +16,7 @@ use Rattle.span_index.specs.declared.span.Span.{Span}
 use Rattle.span_index.specs.declared.span.SpanSort.{SpanSort}
 use Rattle.span_index.specs.declared.span.SpanSort.TheVariants.{Owned, Summed, Shown}
 use Rattle.std.proofs.Math.Path.{fun_ext}
-use Rattle.records.specs.declared.owned.ItemAt.{ItemAt}
+use Rattle.records.specs.declared.rec.ItemAt.{ItemAt}
 use Rattle.change_records.specs.declared.changes.ItemChange.{ItemChange}
 use Rattle.change_records.specs.declared.kept.Inode.{Inode}
 use Rattle.change_records.specs.declared.kept.Made.{Made}

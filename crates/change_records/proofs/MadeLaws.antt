@@ -23,7 +23,9 @@ use Rattle.std.proofs.Common.{inl, inr}
 use Rattle.std.proofs.lemmas.List.{get_or_default, length-append}
 use Rattle.std.proofs.lemmas.List.Quantifiers.{all_pairs_push}
 use Rattle.std.proofs.lemmas.List.Elements.{Contains-append_left, Contains-push_cases}
-use Rattle.records.specs.declared.owned.ItemAt.{ItemAt}
+use Rattle.verdict.proofs.Answers.{ok_follows}
+use Rattle.verdict.proofs.Truth.{then_tied, and_alike as both, or_swapped}
+use Rattle.records.specs.declared.rec.ItemAt.{ItemAt}
 use Rattle.change_records.specs.declared.changes.ItemChange.{ItemChange}
 use Rattle.change_records.specs.declared.changes.ItemChange.TheVariants.{Altered}
 use Rattle.change_records.specs.declared.kept.Made.{Made}
@@ -31,12 +33,6 @@ use Rattle.change_records.specs.Refs.{is_named, names, stands_at}
 use Rattle.change_records.specs.SumFree.{flag_at, sum_free_after, without_flag}
 use Rattle.change_records.specs.Made.{AreOnce, IsApplied, IsMade, IsPut, IsTaken, ListsOneMore, flag_by, has_name}
 use Rattle.change_records.specs.Listed.{AreListed, inode_cmp}
-
-then_tied : (o p : Ordering) → is_eq (ordering_then o p) ≡ (is_eq o && is_eq p)
-then_tied = elim [ Less ↦ λ p. refl | Equal ↦ λ p. refl | Greater ↦ λ p. refl ]
-
-both : (a b c d : Bool) → a ≡ b → c ≡ d → (a && c) ≡ (b && d)
-both a b c d e f = ap (λ x. x && c) e ∙ ap (λ x. b && x) f
 
 pub tied_ref : (k q : ItemRef) → is_at (ref_cmp k) q ≡ (k.tree == q.tree && key_same k.key q.key)
 tied_ref k q =
@@ -79,12 +75,6 @@ pub record IsHalf (olds news : List ItemAt) (all left : List ItemChange) (made :
   pub so_far : done + length left ≡ length all
   pub once : AreOnce made.flags made.inodes.items (2 * done)
 
-swap_or : (a b c : Bool) → (a || (b || c)) ≡ ((b || a) || c)
-swap_or true true c = refl
-swap_or true false c = refl
-swap_or false true c = refl
-swap_or false false c = refl
-
 or_false : (a : Bool) → (a || false) ≡ a
 or_false true = refl
 or_false false = refl
@@ -107,7 +97,7 @@ half_cons olds news all left change made more applied half = record {
   so_far = let had : half.done + suc (length left) ≡ length all = half.so_far in omega (arith, had);
   once =
       subst (AreOnce more.flags more.inodes.items) (let same : 2 * half.done + 2 ≡ 2 * (half.done + 1) = omega arith in same) (applied.once (2 * half.done) half.once);
-  named = λ at. ap (λ b. is_named olds news left at || b) (applied.named at) ∙ swap_or (is_named olds news left at) (names olds news at change) (has_name made at) ∙ half.named at;
+  named = λ at. ap (λ b. is_named olds news left at || b) (applied.named at) ∙ or_swapped (is_named olds news left at) (names olds news at change) (has_name made at) ∙ half.named at;
   flags = λ tree ino free. ap (sum_free_after olds news tree ino left) (applied.flags tree ino free) ∙ half.flags tree ino free;
 }
 
@@ -129,19 +119,13 @@ half_all olds news all made half = record {
       half.once;
 }
 
-or_front : (a b c : Bool) → (a || (b || c)) ≡ ((b || a) || c)
-or_front true true c = refl
-or_front true false c = refl
-or_front false true c = refl
-or_front false false c = refl
-
 -- an altered item is taken and put
 pub altered : (olds news : List ItemAt) (change : ItemChange) (was is : ℕ) (o n : Option ItemAt) (made taken more : Made) → change ≡ Altered was is → o ≡ slice_get olds was
     → n ≡ slice_get news is → IsTaken made taken o → IsPut taken more n → IsApplied olds news change made more
 altered olds news change was is o n made taken more it at_o at_n take put =
     subst (λ c. IsApplied olds news c made more) (sym it) (record {
       named = λ at.
-          put.named at ∙ ap (λ b. stands_at at n || b) (take.named at) ∙ or_front (stands_at at n) (stands_at at o) (has_name made at)
+          put.named at ∙ ap (λ b. stands_at at n || b) (take.named at) ∙ or_swapped (stands_at at n) (stands_at at o) (has_name made at)
           ∙ ap (λ x. (stands_at at x || stands_at at n) || has_name made at) at_o ∙ ap (λ x. (stands_at at (slice_get olds was) || stands_at at x) || has_name made at) at_n;
       flags = λ tree ino free.
           put.flags tree ino free ∙ ap (unwrap_or (flag_at tree ino n)) (take.flags tree ino free)
@@ -150,10 +134,6 @@ altered olds news change was is o n made taken more it at_o at_n take put =
       once = λ most had.
           subst (AreOnce more.flags more.inodes.items) (let same : most + 1 + 1 ≡ most + 2 = omega arith in same) (put.once (most + 1) (take.once most had));
     })
-
-pub on_ok : {T E P Q : Type 0} (r : Result T E) → (P → Q) → OnOk r P → OnOk r Q
-on_ok (Ok x) f h = f h
-on_ok (Err e) f h = h
 
 -- ---- the inodes on the list
 
@@ -189,14 +169,6 @@ listed_insert m n inodes k free (Ok x) there updates same listed = listed_put m 
 listed_insert m n inodes k free (Err e) there updates same listed = listed_same m n inodes same listed
 
 -- ---- each inode is on the list once
-
-pub once_none : (m : map.BTreeMap Inode Bool) (inodes : List Inode) → inodes ≡ [] → AreOnce m inodes 0
-once_none m inodes none =
-    subst (λ l. AreOnce m l 0) (sym none) (record {
-      distinct = λ i j d below small. absurd (omega (arith, small));
-      flagged = λ inode among. absurd (let small = among.1 in omega (arith, small));
-      few = omega arith;
-    })
 
 pub once_same : (m n : map.BTreeMap Inode Bool) (xs ys : List Inode) → n ≡ m → ys ≡ xs → (most : ℕ) → AreOnce m xs most → AreOnce n ys (most + 1)
 once_same m n xs ys same_map same most had =

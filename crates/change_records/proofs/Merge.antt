@@ -8,8 +8,8 @@ use Rattle.std.proofs.lemmas.Bool.{cases_lt}
 use Rattle.std.proofs.lemmas.List.Elements.{Contains-append_cases, Contains-append_left, Contains-append_right, Contains-get_or, Contains-push, Contains-push_cases, filter_map-append}
 use Rattle.std.proofs.lemmas.List.Quantifiers.{all_pairs_push}
 use Rattle.std.proofs.lemmas.Option.{slice_get_within, slice_get-get_or}
-use Rattle.records.specs.Owned.{owned_part}
-use Rattle.records.specs.declared.owned.ItemAt.{ItemAt}
+use Rattle.records.specs.Part.{owned_part}
+use Rattle.records.specs.declared.rec.ItemAt.{ItemAt}
 use Rattle.change_records.specs.declared.changes.ItemChange.{ItemChange}
 use Rattle.change_records.specs.declared.changes.ItemChange.TheVariants.{Added, Removed, Altered}
 use Rattle.change_records.specs.Changes.{Ascend, AreChanges, HasNone, HaveOneKey, IsChange, is_before, item_of}
@@ -37,20 +37,6 @@ pub record IsMerged (old new : List ItemAt) (i j : ℕ) (changes : List ItemChan
 pub contains_none : {X : Type 0} (x : X) → Contains [] x → ⊥
 contains_none x is = omega (arith, is.1)
 
-pub merged_none : (old new : List ItemAt) → IsMerged old new 0 0 []
-merged_none old new = record {
-  hold = λ change is. absurd (contains_none change is);
-  all = λ change is passed. absurd (none_passed change passed);
-  ascend = λ i k d small within. absurd (omega (arith, within));
-  olds = λ k m one other small. absurd (omega (arith, small));
-  news = λ k m one other small. absurd (omega (arith, small));
-}
-  where
-    none_passed : (change : ItemChange) → IsPassed 0 0 change → ⊥
-    none_passed (Added at) h = omega (arith, h)
-    none_passed (Removed at) h = omega (arith, h)
-    none_passed (Altered was is) h = omega (arith, h)
-
 still_passed : (i j i' j' : ℕ) (c : ItemChange) → i ≤ i' → j ≤ j' → IsPassed i j c → IsPassed i' j' c
 still_passed i j i' j' (Added at) more_i more_j by = omega (arith, more_j, by)
 still_passed i j i' j' (Removed at) more_i more_j by = omega (arith, more_i, by)
@@ -76,7 +62,7 @@ contains_more x xs y is = Contains-append_right (x ∷ []) xs y is
 pub contains_first : {X : Type 0} (x : X) (xs : List X) → Contains (x ∷ xs) x
 contains_first x xs = Contains-append_left (x ∷ []) xs x (Contains-push [] x)
 
-only_one : {X : Type 0} (x y : X) → Contains (x ∷ []) y → x ≡ y
+pub only_one : {X : Type 0} (x y : X) → Contains (x ∷ []) y → x ≡ y
 only_one x y is = elim (Contains-push_cases [] x y is) [ inl never ↦ absurd (contains_none y never) | inr same ↦ same ]
 
 -- an item that is made of a list is made of one element

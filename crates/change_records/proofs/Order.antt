@@ -5,7 +5,7 @@ use Rattle.std.proofs.lemmas.Bool.Decides.{nat_tests}
 use Rattle.std.proofs.lemmas.Option.{get_or_from_slice_get, slice_get_within}
 use Rattle.verdict.specs.OnDisk.{key_below}
 use Rattle.verdict.specs.declared.key.Key.{Key}
-use Rattle.records.specs.declared.owned.ItemAt.{ItemAt}
+use Rattle.records.specs.declared.rec.ItemAt.{ItemAt}
 use Rattle.change_records.specs.Changes.{Ascend, HaveOneKey, is_before}
 
 -- ---- an order by one number after another

@@ -37,9 +37,6 @@ space_same before after one same =
 
 -- ---- the place of an extent
 
-no_posting : Posting
-no_posting = to (outside 0) 0 0
-
 home_same : (d : Bool) (a n : ℕ) (h g : Option Home) → place_postings d a n h ≡ place_postings d a n g → h ≡ g
 home_same d a n None None is = refl
 home_same d a n None (Some g) is = absurd (let kinds : 8 ≡ 6 = ap (λ l. (get_or l 0 (to (outside 0) 0 0)).account.kind) is in omega (arith, kinds))
@@ -115,7 +112,7 @@ unwritten_shows context tree range unwritten =
 
 -- ---- an item and its span
 
-one_span : (s t : Span) → Some s ≡ Some t → s ≡ t
+pub one_span : (s t : Span) → Some s ≡ Some t → s ≡ t
 one_span s t is = ap (λ o. unwrap_or o s) is
 
 -- the bytes of an extent are whole sectors

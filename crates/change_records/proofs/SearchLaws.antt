@@ -21,6 +21,10 @@ use Rattle.std.specs.Bool.{beq}
 use Rattle.std.proofs.Common.{◌-◌, not, min, max, length, get_or, nat_lt}
 use Rattle.std.proofs.lemmas.Bool.Decides.{nat_tests}
 use Rattle.std.proofs.lemmas.Bool.{and_from, and_parts, lt-ltb, ltb-true, or_left, both_ways, cases_lt, cases_order, eqb-true, or_cases, or_right}
+use Rattle.live_index.proofs.PlaceLaws.{same_name}
+use Rattle.change_records.proofs.HomeLaws.{one_chunk as some_chunk}
+use Rattle.verdict.proofs.Numbers.{at_least}
+use Rattle.verdict.proofs.Truth.{is_less}
 use Rattle.accounts.specs.Context.{Context}
 use Rattle.verdict.specs.OnDisk.{key_same}
 use Rattle.verdict.specs.declared.key.Key.{Key}
@@ -33,20 +37,11 @@ use Rattle.change_records.specs.Refs.{ref_cmp}
 use Rattle.change_records.specs.Search.{AreAlone, AreLawful, Has, IsHit, IsLawfulSort, IsLawfulSpan, IsNameOf, IsShownBy, Known, MeetsChanged, MeetsChunk, Overlaps, ShowsChanged, Searched, SortDiffers, SpanDiffers, SpanNames, Takes}
 use Rattle.change_records.proofs.MadeLaws.{name_put}
 
-same_key : (a b : Key) → key_same a b ≡ true → a ≡ b
-same_key a b is =
-    let first = and_parts (a.objectid == b.objectid) (a.kind == b.kind && a.offset == b.offset) is in
-    let rest = and_parts (a.kind == b.kind) (a.offset == b.offset) first.1 in
-    let e1 : a.objectid ≡ b.objectid = eqb-true _ _ first.0 in
-    let e2 : a.kind ≡ b.kind = eqb-true _ _ rest.0 in
-    let e3 : a.offset ≡ b.offset = eqb-true _ _ rest.1 in
-    λ i. record { objectid = e1 i; kind = e2 i; offset = e3 i }
-
 pub same_ref : (a b : ItemRef) → (a.tree == b.tree && key_same a.key b.key) ≡ true → a ≡ b
 same_ref a b is =
     let both = and_parts (a.tree == b.tree) (key_same a.key b.key) is in
     let e1 : a.tree ≡ b.tree = eqb-true _ _ both.0 in
-    let e2 : a.key ≡ b.key = same_key a.key b.key both.1 in
+    let e2 : a.key ≡ b.key = same_name a.key b.key both.1 in
     λ i. record { tree = e1 i; key = e2 i }
 
 pub taken : (k : Known) (span : Span) (name : ItemRef) (old new : set.BTreeSet ItemRef) → set.Updates ref_cmp old new name true → IsHit k span name
@@ -97,11 +92,6 @@ taken_named k pairs span name old same its named = record {
 
 -- ---- spans in their order
 
-less_by : (o : Ordering) → is_lt o ≡ true → o ≡ Less
-less_by Less is = refl
-less_by Equal is = absurd (cc)
-less_by Greater is = absurd (cc)
-
 -- of two spans one is below the other, or they are one
 below_by : (s t : Span) (o : Ordering) → span_cmp t s ≡ o → is_lt (ordering_reverse o) ≡ false → is_lt o ≡ false → s ≡ t
 below_by s t Less e first second = absurd (cc)
@@ -131,14 +121,6 @@ BeginsBy now (Some after) = after.first ≤ now
 abbrev pub IsWalked : SortName → ℕ → ℕ → ℕ → Option Span → Span → Type 0
 IsWalked sort from until now after span = Overlaps sort from until span × (is_ahead now after span ≡ false)
 
-pub walk_none : (k : Known) (table : Table) (sort : SortName) (from until : ℕ) (refs : set.BTreeSet ItemRef)
-    → Searched k table (IsWalked sort from until from None) refs refs
-walk_none k table sort from until refs = record {
-  stay = λ at had. had;
-  hold = λ at had. inl had;
-  all = λ span at stands reached hit. absurd (both_ways _ reached.1 (and_from _ _ (lt-ltb from (end_of span) reached.0.1) refl));
-}
-
 met : (sort : SortName) (now : ℕ) (after : Option Span) (span : Span) → is_sort sort span.sort ≡ true → is_ahead now after span ≡ true
     → is_met sort now after span ≡ true
 unfolding is_met
@@ -153,17 +135,14 @@ some_sort n first sectors (Shown t i o e l) before after lawful differs = differ
 
 not_both : (x y : Span) → is_below y x ≡ true → is_below x y ≡ false
 unfolding is_below
-not_both x y less = ap is_lt (span_total.antisymm x y ∙ ap ordering_reverse (less_by (span_cmp y x) less))
-
-not_less : (a b : ℕ) → nat_lt a b ≡ false → b ≤ a
-not_less a b is = grind (arith, nat_tests)
+not_both x y less = ap is_lt (span_total.antisymm x y ∙ ap ordering_reverse (is_less (span_cmp y x) less))
 
 -- one above another that ends where that begins has none
 none_left : (now : ℕ) (next span : Span) → is_below next span ≡ true → now < end_of span → nat_lt (max now next.first) (end_of span) ≡ false → span.sectors ≡ 0
 none_left now next span above ends passed = elim (cases_lt span.first next.first) [
   | inl sooner ↦ absurd (both_ways _ (not_both next span (below_first span next sooner)) above)
   | inr later ↦
-      let low : end_of span ≤ max now next.first = not_less (max now next.first) (end_of span) passed in
+      let low : end_of span ≤ max now next.first = at_least (max now next.first) (end_of span) passed in
       omega (arith, later, low, ends)
 ]
 
@@ -233,13 +212,6 @@ walk_behind k table sort from until now after next start old least behind search
 abbrev pub IsRead : ℕ → ℕ → Option ℕ → Span → Type 0
 IsRead tree ino after span = IsShownBy tree ino span × (is_behind after (offset_of span.sort) ≡ false)
 
-pub file_none : (k : Known) (table : Table) (tree ino : ℕ) (refs : set.BTreeSet ItemRef) → Searched k table (IsRead tree ino None) refs refs
-file_none k table tree ino refs = record {
-  stay = λ at had. had;
-  hold = λ at had. inl had;
-  all = λ span at stands reached hit. absurd (both_ways true reached.1 refl);
-}
-
 shows : (tree ino : ℕ) (after : Option ℕ) (sort : SpanSort) → shows_behind tree ino None sort ≡ true → is_behind after (offset_of sort) ≡ true → shows_behind tree ino after sort ≡ true
 shows tree ino after (Owned d) shown behind = absurd (cc)
 shows tree ino after Summed shown behind = absurd (cc)
@@ -278,19 +250,6 @@ file_more k table tree ino after next start old new alone least searched takes =
         let gone : table span ≡ 0 = least.2 span (shows tree ino after span.sort reached.0 behind) (or_left _ _ (lt-ltb _ _ sooner)) in absurd (omega (arith, gone, stands))
     by span at stands reached hit true behind (inr (inr later)) = absurd (both_ways _ reached.1 (lt-ltb _ _ later))
 
-pub file_all : (k : Known) (table : Table) (tree ino : ℕ) (after : Option ℕ) (start old : set.BTreeSet ItemRef) → IsNextShown table tree ino after None
-    → Searched k table (IsRead tree ino after) start old → Searched k table (IsShownBy tree ino) start old
-file_all k table tree ino after start old none searched = record {
-  stay = searched.stay;
-  hold = searched.hold;
-  all = λ span at stands reached hit. by span at stands reached hit (is_behind after (offset_of span.sort)) refl;
-}
-  where
-    by : (span : Span) (at : ItemRef) → 0 < table span → IsShownBy tree ino span → IsHit k span at → (b : Bool) → is_behind after (offset_of span.sort) ≡ b → Has old at
-    by span at stands reached hit false behind = searched.all span at stands (reached, behind) hit
-    by span at stands reached hit true behind =
-        let gone : table span ≡ 0 = none span (shows tree ino after span.sort reached behind) in absurd (omega (arith, gone, stands))
-
 -- ---- searches one after the other
 
 pub searched_less : (k : Known) (table : Table) (P Q : Span → Type 0) (old new : set.BTreeSet ItemRef) → ((span : Span) → Q span → P span) → Searched k table P old new
@@ -312,22 +271,12 @@ searched_both k table P Q R old mid new parts first second = record {
   ];
 }
 
-pub searched_none : (k : Known) (table : Table) (P : Span → Type 0) (old : set.BTreeSet ItemRef) → ((span : Span) → P span → ⊥) → Searched k table P old old
-searched_none k table P old none = record {
-  stay = λ at had. had;
-  hold = λ at had. inl had;
-  all = λ span at stands reached hit. absurd (none span reached);
-}
-
 pub chunk_parts : (chunk : Chunk) (until : ℕ) (span : Span) → until ≡ min (chunk.start + chunk.length) (2 ^ 64 - 1) → MeetsChunk chunk span
     → Overlaps OwnedName chunk.start until span ⊎ Overlaps ShownName chunk.start until span
 chunk_parts chunk until span is meets = elim meets.sort [
   | inl owned ↦ inl (owned, meets.ends, subst (λ u. span.first < u) (sym is) meets.begins)
   | inr shown ↦ inr (shown, meets.ends, subst (λ u. span.first < u) (sym is) meets.begins)
 ]
-
-some_chunk : (h g : Chunk) → Some h ≡ Some g → h ≡ g
-some_chunk h g is = ap (λ o. unwrap_or o h) is
 
 some_inode : (h g : Inode) → Some h ≡ Some g → h ≡ g
 some_inode h g is = ap (λ o. unwrap_or o h) is
@@ -356,9 +305,6 @@ chunk_kept_more chunks searched i d span within kept m = elim (cases_lt m.at i) 
   | inr late ↦ absurd (both_ways _ kept (ap searched (sym (chunk_here chunks searched i d span m within late)) ∙ m.gone))
 ]
 
-pub chunk_first : (chunks : List Chunk) (searched : Chunk → Bool) (span : Span) → MeetsChanged chunks searched 0 span → ⊥
-chunk_first chunks searched span m = let small = m.small in omega (arith, small)
-
 inode_early : (inodes : List Inode) (before after : ℕ → ℕ → Bool) (i : ℕ) (span : Span) (m : ShowsChanged inodes before after (i + 1) span) → m.at < i
     → ShowsChanged inodes before after i span
 inode_early inodes before after i span m small = record { inode = m.inode; at = m.at; small = small; among = m.among; other = m.other; shown = m.shown }
@@ -384,9 +330,6 @@ inode_same_more inodes before after i d span within same m = elim (cases_lt m.at
   | inr late ↦
       absurd (m.other (subst (λ n. after n.tree n.ino ≡ before n.tree n.ino) (sym (inode_here inodes before after i d span m within late)) same))
 ]
-
-pub inode_first : (inodes : List Inode) (before after : ℕ → ℕ → Bool) (span : Span) → ShowsChanged inodes before after 0 span → ⊥
-inode_first inodes before after span m = let small = m.small in omega (arith, small)
 
 pub beq_same : (a b : Bool) → not (beq a b) ≡ false → a ≡ b
 beq_same true true is = refl

@@ -2,8 +2,8 @@
 use Rattle.std.specs.Prelude.{◌≡◌, ℕ, Bool, true, ◌&&◌, ◌||◌, ◌==◌, nat_lt, List, slice_get, Option, Some}
 use Rattle.std.specs.List.{AllPairs, Contains, filter_map}
 use Rattle.verdict.specs.OnDisk.{key_below}
-use Rattle.records.specs.declared.owned.ItemAt.{ItemAt}
-use Rattle.records.specs.Owned.{owned_part}
+use Rattle.records.specs.declared.rec.ItemAt.{ItemAt}
+use Rattle.records.specs.Part.{owned_part}
 use Rattle.change_records.specs.declared.changes.ItemChange.{ItemChange}
 use Rattle.change_records.specs.declared.changes.ItemChange.TheVariants.{Added, Removed, Altered}
 

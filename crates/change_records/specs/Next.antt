@@ -1,6 +1,6 @@
 -- Which of two lists has the next item. It serves to state what private functions keep.
 use Rattle.std.specs.Prelude.{◌≡◌, true, Option, Some, None}
-use Rattle.records.specs.declared.owned.ItemAt.{ItemAt}
+use Rattle.records.specs.declared.rec.ItemAt.{ItemAt}
 use Rattle.change_records.specs.declared.changes.Next.{Next}
 use Rattle.change_records.specs.declared.changes.Next.TheVariants.{Old, New, Both}
 use Rattle.change_records.specs.Changes.{HaveOneKey, is_before}

@@ -2,10 +2,10 @@
 use Rattle.std.specs.Prelude.{ℕ, Bool, false, ◌&&◌, ◌==◌, bit_and, List, [], ◌∷◌, slice_get, Option, Some, None, if◌then◌else◌}
 use Rattle.std.specs.Option.{unwrap_or}
 use Rattle.records.specs.Context.{nodatasum}
-use Rattle.records.specs.Owned.{owned_part}
+use Rattle.records.specs.Part.{owned_part}
 use Rattle.records.specs.Part.{Part}
 use Rattle.records.specs.Part.Part.{InodePart}
-use Rattle.records.specs.declared.owned.ItemAt.{ItemAt}
+use Rattle.records.specs.declared.rec.ItemAt.{ItemAt}
 use Rattle.change_records.specs.declared.changes.ItemChange.{ItemChange}
 use Rattle.change_records.specs.declared.changes.ItemChange.TheVariants.{Added, Removed, Altered}
 

@@ -110,8 +110,5 @@ fn stands_before(one: &ItemAt, other: &ItemAt) -> bool
 fn push(changes: &mut Vec<ItemChange>, change: ItemChange) -> Result<(), NoMemory>
     ensures { OnOk result (changes.new.items ≡ changes.old.items ++ change ∷ []) }
 {
-    match changes.push(change) {
-        Ok(()) => Ok(()),
-        Err(_) => Err(NoMemory),
-    }
+    Ok(changes.push(change)?)
 }

@@ -109,10 +109,8 @@ impl Made {
         ensures inodes { self.new.inodes ≡ self.old.inodes }
     {
         let (tree, key) = (item.tree, item.key);
-        match self.named.insert(ItemRef { tree, key }) {
-            Ok(_) => Ok(()),
-            Err(_) => Err(NoMemory),
-        }
+        self.named.insert(ItemRef { tree, key })?;
+        Ok(())
     }
 
     // Sets the flag of an inode.
@@ -124,10 +122,8 @@ impl Made {
     {
         let inode = Inode { tree, ino };
         self.list(inode)?;
-        match self.flags.insert(inode, free) {
-            Ok(_) => Ok(()),
-            Err(_) => Err(NoMemory),
-        }
+        self.flags.insert(inode, free)?;
+        Ok(())
     }
 
     // Puts an inode on the list, where it has no flag yet.
@@ -142,10 +138,7 @@ impl Made {
         if self.flags.contains_key(&inode) {
             return Ok(());
         }
-        match self.inodes.push(inode) {
-            Ok(()) => Ok(()),
-            Err(_) => Err(NoMemory),
-        }
+        Ok(self.inodes.push(inode)?)
     }
 
     /// Whether the changes name an item.
@@ -191,10 +184,8 @@ fn keep(set: &mut BTreeSet<Inode>, inode: Inode, there: bool) -> Result<(), NoMe
         set.remove(&inode);
         return Ok(());
     }
-    match set.insert(inode) {
-        Ok(_) => Ok(()),
-        Err(_) => Err(NoMemory),
-    }
+    set.insert(inode)?;
+    Ok(())
 }
 
 // The item at a place of a list, where there is one.

@@ -1,7 +1,7 @@
 //! Whether two records say the same.
 
 ghost use Rattle.std.specs.Prelude.{◌≡◌, ◌↔◌, IsTrue};
-ghost use Rattle.records.specs.Owned.{owned_part};
+ghost use Rattle.records.specs.Part.{owned_part};
 ghost use Rattle.records.specs.Part.{part_of};
 ghost use Rattle.volume_items.specs.ChunkItems.{fields_in, stripes_left};
 ghost use Rattle.extent_items.specs.ExtentItems.{extent_fields_in, references_left};

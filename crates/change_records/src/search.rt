@@ -155,10 +155,8 @@ fn take<L, B: Bases<Table = LiveIndex<L>>>(
     if sides.made.names(&name) {
         return Ok(());
     }
-    match refs.insert(name) {
-        Ok(_) => Ok(()),
-        Err(_) => Err(NoMemory),
-    }
+    refs.insert(name)?;
+    Ok(())
 }
 
 /// Puts the items among some, of all spans of a sort that end after one address and begin before another,

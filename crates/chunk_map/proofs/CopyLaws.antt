@@ -11,20 +11,11 @@ use Rattle.std.specs.declared.ops.Bound.TheVariants.{Included, Unbounded}
 use Rattle.std.proofs.lemmas.Bool.{cases_lt, leb-true, and_parts, both_ways, ne_eqb}
 use Rattle.std.proofs.lemmas.Bool.Decides.{nat_tests}
 use Rattle.std.proofs.lemmas.Map.Keys.{le_from_not_gt, ge_from_not_lt}
+use Rattle.verdict.proofs.Numbers.{same_or_not, not_above}
 use Rattle.verdict.specs.Chunks.{holds_range}
 use Rattle.verdict.specs.declared.place.Chunk.{Chunk}
 use Rattle.chunk_map.specs.Order.{copy_from, Has, AreTurned, AreOutside, NoneFrom, IsLast, IsOnlyCopy, IsFree}
 use Rattle.chunk_map.proofs.Meets.{apart_no_common, common_sym}
-
-same_or_not : (a b : ℕ) → (a ≡ b) ⊎ (a ≢ b)
-same_or_not a b =
-    elim (cases_lt a b) [
-      | inl h ↦ inr (omega arith)
-      | inr h ↦ elim (cases_lt b a) [ inl g ↦ inr (omega arith) | inr g ↦ inl (omega arith) ]
-    ]
-
-upto : (k to : ℕ) → k ≤ to → is_gt (nat_cmp k to) ≡ false
-upto k to h = grind (arith, nat_tests)
 
 -- what the ordered map finds at an offset
 from_found : (copies : List (ℕ × Chunk)) (k : ℕ) (o : Option Chunk) → lookup (is_at (nat_cmp k)) copies ≡ o → copy_from copies k ≡ o
@@ -43,11 +34,11 @@ last_found m to r range e t is =
     record {
       low = le_from_not_gt e.0 to inside.0.1;
       here = from_found m.entries e.0 (Some e.1) inside.1;
-      last = λ k low high. none_above m e k _ refl low (λ some. range.4 e t is k (tt, upto k to high) some);
+      last = λ k low high. none_above m e k _ refl low (λ some. range.4 e t is k (tt, not_above k to high) some);
     }
 
 pub none_found : (m : BTreeMap ℕ Chunk) (to : ℕ) (r : List (ℕ × Chunk)) → IsRangeOf nat_cmp Unbounded (Included to) m r → r ≡ [] → NoneFrom m.entries to
-none_found m to r range is k high = from_found m.entries k None (range.5 is k (tt, upto k to high))
+none_found m to r range is k high = from_found m.entries k None (range.5 is k (tt, not_above k to high))
 
 -- the last copy begins at an offset or behind each that begins there or before
 under_last : (copies : List (ℕ × Chunk)) (to at k : ℕ) (last copy : Chunk) → IsLast copies to at last → copy_from copies k ≡ Some copy → k ≤ to → k ≤ at
@@ -57,35 +48,12 @@ under_last copies to at k last copy is here low =
       | inr before ↦ before
     ]
 
--- bytes that the last copy in front of their end does not reach are outside all
-pub outside_last : (copies : List (ℕ × Chunk)) (to at n begin : ℕ) (last : Chunk) → AreTurned copies → IsLast copies to begin last → to ≡ at + (n - 1) → 0 < n → begin ≤ at → last.length ≤ at - begin → AreOutside copies at n
-outside_last copies to at n begin last kept is reach some low short k copy here =
-    elim (cases_lt k (at + n)) [
-      | inl in_front ↦
-          let under : k ≤ begin = under_last copies to begin k last copy is here (omega arith) in
-          inl (elim (cases_lt k begin) [
-            | inl before ↦ let end : k + copy.length ≤ begin = kept.apart k begin copy last here is.here before in omega arith
-            | inr from ↦
-                let at_it : k ≡ begin = omega arith in
-                let found : copy_from copies k ≡ Some last = subst (λ i. copy_from copies i ≡ Some last) (sym at_it) is.here in
-                let same : copy ≡ last = cc in
-                let long : copy.length ≡ last.length = ap (λ (c : Chunk). c.length) same in
-                omega arith
-          ])
-      | inr behind ↦ inr behind
-    ]
-
 pub outside_none : (copies : List (ℕ × Chunk)) (to at n : ℕ) → NoneFrom copies to → to ≡ at + (n - 1) → 0 < n → AreOutside copies at n
 outside_none copies to at n none reach some k copy here =
     elim (cases_lt k (at + n)) [
       | inl in_front ↦ let absent : copy_from copies k ≡ None = none k (omega arith) in cc
       | inr behind ↦ inr behind
     ]
-
--- they have no byte in common with one
-pub outside_free : (copies : List (ℕ × Chunk)) (at n : ℕ) → AreOutside copies at n → IsFree at n copies
-outside_free copies at n outside copy has =
-    ⊎_elim (λ h. common_sym _ _ _ _ (apart_no_common copy.start copy.length at n h)) (λ h. apart_no_common at n copy.start copy.length h) (outside copy.start copy has)
 
 -- one copy more, outside the others
 module _ (copies more : List (ℕ × Chunk)) (y : Chunk) (kept : AreTurned copies) (outside : AreOutside copies y.start y.length) (some : 0 < y.length) (here : copy_from more y.start ≡ Some y) (others : (k : ℕ) → k ≢ y.start → copy_from more k ≡ copy_from copies k) where
@@ -172,21 +140,3 @@ only_last copies p begin last kept is copy has held =
           let found : copy_from copies copy.start ≡ Some last = subst (λ i. copy_from copies i ≡ Some last) (sym at_it) is.here in
           cc
     ]
-
-pub copy_none : (copies : List (ℕ × Chunk)) (p : ℕ) → NoneFrom copies p → IsOnlyCopy copies p None
-copy_none copies p none = record {
-  only = λ copy has held. (let low : copy.start ≤ p = leb-true _ _ (and_parts _ _ held).0 in let absent : copy_from copies copy.start ≡ None = none copy.start low in cc);
-  there = tt;
-}
-
-pub copy_last : (copies : List (ℕ × Chunk)) (p begin : ℕ) (last : Chunk) → AreTurned copies → IsLast copies p begin last → holds_range last p 1 ≡ true → IsOnlyCopy copies p (Some last)
-copy_last copies p begin last kept is holds = record {
-  only = λ copy has held. ap Some (sym (only_last copies p begin last kept is copy has held));
-  there = (ap (copy_from copies) (kept.at_start begin last is.here) ∙ is.here, holds);
-}
-
-pub copy_not_last : (copies : List (ℕ × Chunk)) (p begin : ℕ) (last : Chunk) → AreTurned copies → IsLast copies p begin last → holds_range last p 1 ≡ false → IsOnlyCopy copies p None
-copy_not_last copies p begin last kept is fails = record {
-  only = λ copy has held. absurd (both_ways _ fails (subst (λ c. holds_range c p 1 ≡ true) (only_last copies p begin last kept is copy has held) held));
-  there = tt;
-}

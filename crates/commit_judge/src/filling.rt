@@ -221,8 +221,6 @@ fn put_inode(free: &mut BTreeSet<Inode>, one: &RecAt<'_>) -> Result<(), NoMemory
     let Some((tree, ino)) = one.sum_free() else {
         return Ok(());
     };
-    match free.insert(Inode { tree, ino }) {
-        Ok(_) => Ok(()),
-        Err(_) => Err(NoMemory),
-    }
+    free.insert(Inode { tree, ino })?;
+    Ok(())
 }

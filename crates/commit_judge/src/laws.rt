@@ -31,7 +31,7 @@ pub(crate) fn counts_law()
 
 /// Something is known of each image that the full check accepts. So the laws below, on what is known of an image, speak of
 /// every accepted one.
-#[tactic(auto, using(crate::proofs::EKnown::each_is_known))]
+#[tactic(auto, using(crate::proofs::judgements::Known::each_is_known))]
 pub fn known_law()
     ensures { EachIsKnown }
 {}

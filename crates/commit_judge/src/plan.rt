@@ -39,7 +39,7 @@ pub(crate) struct Plan {
 }
 
 /// What the pending writes change of the image that an index stands for, or the first finding of what the judged image holds. Of the
-/// blocks that the two images do not share the old ones are read once, and of the new ones each copy that the pending writes do not cover.
+/// blocks that the two images do not share, there is at most one read of the disk for each old one, and two for each new one.
 pub(crate) fn plan_of<D: Disk, L>(
     alloc: Global,
     disk: &mut D,
@@ -132,10 +132,7 @@ fn add_all(changes: &mut Vec<ItemChange>, count: u64) -> Result<(), NoMemory>
 fn put(changes: &mut Vec<ItemChange>, change: ItemChange) -> Result<(), NoMemory>
     ensures { OnOk result (changes.new.items ≡ changes.old.items ++ change ∷ []) }
 {
-    match changes.push(change) {
-        Ok(()) => Ok(()),
-        Err(_) => Err(NoMemory),
-    }
+    Ok(changes.push(change)?)
 }
 
 // The kept items that post otherwise. Where blocks are not read alike, no item is kept.

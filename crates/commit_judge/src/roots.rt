@@ -65,8 +65,5 @@ fn stands_behind(list: &[RootAt], root: &RootAt) -> bool
 fn put(list: &mut Vec<RootAt>, root: RootAt) -> Result<(), NoMemory>
     ensures { OnOk result (list.new.items ≡ list.old.items ++ root ∷ []) }
 {
-    match list.push(root) {
-        Ok(()) => Ok(()),
-        Err(_) => Err(NoMemory),
-    }
+    Ok(list.push(root)?)
 }

@@ -4,7 +4,7 @@ ghost use Rattle.std.specs.Prelude.{◌≡◌, ◌+◌, ◌-◌, ◌<◌, ◌≤
 ghost use Rattle.std.specs.List.{Contains};
 ghost use Rattle.records.specs.Part.{IsLawful, part_of};
 ghost use Rattle.records.specs.Part.Part.{FileExtentPart};
-ghost use Rattle.records.specs.declared.owned.ItemAt.{ItemAt as AnItem};
+ghost use Rattle.records.specs.declared.rec.ItemAt.{ItemAt as AnItem};
 ghost use Rattle.extent_items.specs.ExtentItems.{extent_fields_in};
 ghost use Rattle.live_index.specs.Pairs.{Pairs};
 ghost use Rattle.live_index.specs.declared.live.Live.{Live as ALive};

@@ -5,6 +5,7 @@ use Rattle.std.specs.Prelude.{Ok, bytes_eq}
 use Rattle.std.specs.List.{list_any}
 use Rattle.std.specs.Ordering.{nat_cmp}
 use Rattle.std.specs.FinMap.{FinMap}
+use Rattle.verdict.proofs.Truth.{false_of_not, or_right, and_parts}
 use Rattle.verdict.specs.Rules.{no_key}
 use Rattle.write_cache.specs.Cache.{overlaid}
 use Rattle.super_reader.specs.Superblock.{item_place}
@@ -24,27 +25,15 @@ use Rattle.shared_trees.specs.MergedLaw.{items}
 use Rattle.shared_trees.specs.Shared.{are_alike, are_read_alike, at_or_below, is_block_where, is_shared, is_shared_by, stands_untouched}
 use Rattle.shared_trees.specs.Skips.{own_of}
 use Rattle.shared_trees.proofs.Accepted.{IsAs}
-use Rattle.shared_trees.proofs.Bounds.{and_parts}
-use Rattle.shared_trees.proofs.Climbing.{copied}
+use Rattle.shared_trees.proofs.Climbing.{copied, ok_same as ok_bytes}
 use Rattle.shared_trees.proofs.Images.{stored_alike}
 use Rattle.shared_trees.proofs.KeptImage.{nodesize_same}
 use Rattle.shared_trees.proofs.Lives.{ok_same}
-use Rattle.shared_trees.proofs.Merged.{read_of}
+use Rattle.shared_trees.proofs.Merged.{read_of, entries_alike, pointers_alike}
 use Rattle.shared_trees.proofs.OldTells.{HasSame, has_same}
 use Rattle.shared_trees.proofs.Trails.{Visit}
 use Rattle.commit_laws.specs.Same.{live_record}
 use Rattle.commit_laws.proofs.Found.{Owns, items_at, pair_at, seen_at, stored_of}
-
--- what a block has is decided by its bytes, its tree, its address, its generation and its level, and by the words of the superblock
-pointers_alike : (e v : Expect) → IsAs e v → (pointers : List Pointer) → pointer_records e pointers ≡ pointer_records v pointers
-pointers_alike e v same [] = refl
-pointers_alike e v same (pointer ∷ pointers) = λ i.
-    PointerSeen (record { tree = same.tree i; block = same.address i; level = same.level i; pointer = pointer }) ∷ pointers_alike e v same pointers i
-
-entries_alike : (sup : Super) (e v : Expect) → IsAs e v → (bytes : List ℕ) → entry_records sup e bytes ≡ entry_records sup v bytes
-entries_alike sup e v same bytes = λ i.
-    if same.level i == 0 then leaf_records (item_place sup (same.tree i) (same.address i) (same.generation i)) (items_of bytes)
-    else Ok (pointers_alike e v same (pointers_of bytes) i)
 
 entries_by : (a b : Super) → are_read_alike a b ≡ true → (e : Expect) (bytes : List ℕ) → entry_records a e bytes ≡ entry_records b e bytes
 entries_by a b alike e bytes =
@@ -59,9 +48,6 @@ entries_by a b alike e bytes =
     let compat_ro : a.compat_ro ≡ b.compat_ro = eqb-true a.compat_ro b.compat_ro four.0 in
     let devid : a.devid ≡ b.devid = eqb-true a.devid b.devid four.1 in
     rw (nodesize, incompat, compat_ro, devid) refl
-
-ok_bytes : (a b : List ℕ) → copied a ≡ copied b → a ≡ b
-ok_bytes a b is = cc
 
 -- two blocks that are alike, of which the same is stored, have the same items where they are read alike
 pub items_alike : (a b : Super) (one other : Stored) (e v : Expect) (own more : List Seen) → are_read_alike a b ≡ true → IsAs e v
@@ -84,17 +70,9 @@ records_alike a b same = λ i. record {
   part = BlockPart (same.address i) (same.level i);
 }
 
-turned : (b : Bool) → not b ≡ true → b ≡ false
-turned true is = absurd (cc)
-turned false is = refl
-
 first_false : (a b : Bool) → (a || b) ≡ false → a ≡ false
 first_false true b is = absurd (cc)
 first_false false b is = refl
-
-or_right : (a b : Bool) → b ≡ true → (a || b) ≡ true
-or_right true b is = refl
-or_right false b is = is
 
 -- no write touches the block of a pair that is alike to an untouched one
 untouched_at : (touched : ℕ → Bool) (seen : List Seen) (live : Live) → stands_untouched touched seen live ≡ true → touched live.address ≡ false

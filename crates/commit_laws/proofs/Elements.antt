@@ -7,7 +7,7 @@ use Rattle.std.specs.List.{filter, flat_map}
 use Rattle.std.specs.List.Sorted.{IsPermutation}
 
 -- the first of two parts and the second change places before a third
-swap_first : {Z : Type 0} (p q r : List Z) → IsPermutation (p ++ (q ++ r)) (q ++ (p ++ r))
+pub swap_first : {Z : Type 0} (p q r : List Z) → IsPermutation (p ++ (q ++ r)) (q ++ (p ++ r))
 swap_first p q r =
     subst (λ left. IsPermutation left (q ++ (p ++ r))) (append_assoc p q r)
     (subst (λ right. IsPermutation ((p ++ q) ++ r) right) (append_assoc q p r)

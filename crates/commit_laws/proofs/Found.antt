@@ -4,6 +4,7 @@ use Rattle.std.proofs.lemmas.List.{map-append}
 use Rattle.std.proofs.lemmas.List.Elements.{filter_map-append}
 use Rattle.std.specs.Prelude.{Bool, Ok, map}
 use Rattle.std.specs.List.{AllByRecursion, filter_map, flat_map}
+use Rattle.verdict.proofs.Lists.{all_map as each_map}
 use Rattle.verdict.specs.declared.place.At.{At}
 use Rattle.super_reader.specs.Superblock.{item_place}
 use Rattle.super_reader.specs.declared.Super.{Super}
@@ -28,7 +29,6 @@ use Rattle.shared_trees.proofs.Forest.{all_lives, lives_all, lives_of, then_ok, 
 use Rattle.shared_trees.proofs.KeptImage.{IsOfImage, of_image}
 use Rattle.shared_trees.proofs.Lives.{NoBlocks, entries_none}
 use Rattle.shared_trees.proofs.Merged.{read_of, walks_of}
-use Rattle.shared_trees.proofs.Picking.{each_map}
 use Rattle.shared_trees.proofs.Trails.{Matches, Visit, all_own, all_own_append}
 use Rattle.shared_trees.proofs.Treed.{has_trees, steps_of, trees_walk}
 use Rattle.shared_trees.proofs.Within.{one_own}

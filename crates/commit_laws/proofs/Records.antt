@@ -7,6 +7,7 @@ use Rattle.std.specs.List.{AllByRecursion, AllPairs, filter, filter_map, flat_ma
 use Rattle.std.specs.List.Sorted.{IsPermutation}
 use Rattle.std.specs.Ordering.{nat_cmp}
 use Rattle.std.specs.FinMap.{FinMap}
+use Rattle.verdict.proofs.Lists.{all_map}
 use Rattle.write_cache.specs.Cache.{overlaid}
 use Rattle.live_index.specs.declared.live.Live.{Live}
 use Rattle.node_reader.specs.Stored.{Stored}
@@ -20,7 +21,6 @@ use Rattle.shared_trees.specs.Shared.{are_alike, is_shared}
 use Rattle.shared_trees.specs.Unshared.{items_in}
 use Rattle.shared_trees.specs.SharedLaw.{stays_between, touches_old}
 use Rattle.shared_trees.proofs.OldTells.{shared_alike}
-use Rattle.shared_trees.proofs.Picking.{each_map}
 use Rattle.shared_trees.proofs.Trails.{Visit}
 use Rattle.tree_change.proofs.Apart.{either_pair, pairs_apart}
 use Rattle.tree_change.proofs.Split.{items_filter, stands_in}
@@ -82,7 +82,7 @@ module _ (image : List ℕ) (whole : Walked) (is : walked image ≡ Ok whole) (s
       ∙ (ap (λ seen. filter (stands_in lives) (items seen)) (sym found.blocks.all)
       ∙ (ap (filter (stands_in lives)) (items_all whole.sup stored visits)
       ∙ fresh_found pair (items_at whole.sup stored) shared (live_in whole.seen) visits
-      (each_map (Owns whole.sup stored) (Stand pair (items_at whole.sup stored)) visits (stand_at whole.sup stored) found.blocks.own) told))
+      (all_map (Owns whole.sup stored) (Stand pair (items_at whole.sup stored)) visits (stand_at whole.sup stored) found.blocks.own) told))
 
   left_pairs : map live_record lives ≡ map (λ v. live_record (pair v)) left
   left_pairs =

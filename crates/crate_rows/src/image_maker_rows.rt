@@ -1,4 +1,5 @@
-//! The sums were computed by a program in another language that makes the same bytes from the format.
+//! The sums were computed by a program in another language that makes the same bytes from the format. `tests/makes.py` compares
+//! the base image.
 
 use crate::common::key;
 use image_maker::*;
@@ -7,18 +8,6 @@ use verdict::{Bytes, Event, NoMemory};
 
 fn sum_of(bytes: &Bytes) -> u32 {
     crc32c(bytes.as_slice())
-}
-
-#[test]
-fn the_base_image_has_the_bytes_of_the_format(rt: HostRuntime) -> Result<(), NoMemory> {
-    let image = base_image(rt.alloc())?;
-    assert_eq!(rt; image.as_slice().len(), 33_554_432);
-    assert_eq!(rt; sum_of(&image), 0x60EA_C5C2);
-    assert_eq!(rt;
-        crc32c(&base_superblock()[..]),
-        crc32c(&image.as_slice()[65536..69632])
-    );
-    Ok(())
 }
 
 #[test]

@@ -1,6 +1,5 @@
 use live_index::{Live, LiveIndex};
 use recon_disk::Steps;
-use std::process::Abort;
 use verdict::{Key, NoMemory};
 
 // A key of an inode with this number.
@@ -159,27 +158,4 @@ fn a_pair_takes_the_place_of_another(rt: HostRuntime) -> Result<(), NoMemory> {
     );
     assert_eq!(rt; steps.looks(), 13);
     Ok(())
-}
-
-// Puts a pair into a table with another, or into an empty one, and looks for it in each order.
-fn stands_in_all_orders(rt: &impl Abort, index: &mut LiveIndex<()>, live: Live) {
-    let mut steps = Steps::new(());
-    let before = index.at_or_after(0, 0, &mut steps);
-    let least = if index.insert(live, &mut steps).is_ok() {
-        Some(live)
-    } else {
-        before
-    };
-    assert_eq!(rt; index.at_or_after(0, 0, &mut steps), least);
-    assert_eq!(rt; index.next_of(5, None, &mut steps), least);
-    let first = least.map(|live| live.first);
-    assert_eq!(rt; index.next_first(5, 0, Key::none(), &mut steps), first);
-    assert_eq!(rt; steps.looks(), 5);
-}
-
-#[test]
-fn a_refused_pair_leaves_the_table(rt: HostRuntime) {
-    let mut index = LiveIndex::new(rt.alloc());
-    stands_in_all_orders(&rt, &mut index, pair(5, 0x8000, 0, inode(300)));
-    stands_in_all_orders(&rt, &mut index, pair(5, 0x4000, 0, inode(256)));
 }

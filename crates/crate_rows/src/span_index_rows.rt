@@ -1,6 +1,5 @@
 use recon_disk::Steps;
 use span_index::{SortName, Span, SpanIndex, SpanSort};
-use std::process::Abort;
 use verdict::NoMemory;
 
 fn owned(first: u64, sectors: u64) -> Span {
@@ -160,25 +159,4 @@ fn a_repeat_stands_twice(rt: HostRuntime) -> Result<(), NoMemory> {
     assert!(rt; !index.remove(&owned(0x2000, 99), &mut steps));
     assert_eq!(rt; steps.looks(), 17);
     Ok(())
-}
-
-// Puts a span that is shown into a table, and looks for it in both orders.
-fn stands_in_both_orders(rt: &impl Abort, index: &mut SpanIndex<()>, span: Span) {
-    let mut steps = Steps::new(());
-    let before = index.meeting(SortName::Shown, 0, None, &mut steps);
-    let least = if index.insert(span, &mut steps).is_ok() {
-        Some(span)
-    } else {
-        before
-    };
-    assert_eq!(rt; index.meeting(SortName::Shown, 0, None, &mut steps), least);
-    assert_eq!(rt; index.shown_of(5, 257, None, &mut steps), least);
-    assert_eq!(rt; steps.looks(), 4);
-}
-
-#[test]
-fn a_refused_span_leaves_the_table(rt: HostRuntime) {
-    let mut index = SpanIndex::new(rt.alloc());
-    stands_in_both_orders(&rt, &mut index, shown(0x8000, 1, 257, 0x4000));
-    stands_in_both_orders(&rt, &mut index, shown(0x4000, 1, 257, 0));
 }

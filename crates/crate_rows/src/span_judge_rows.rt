@@ -7,8 +7,6 @@ use verdict::NoMemory;
 
 const LENGTH: u64 = 0x80_0000;
 
-const SECTOR: u64 = 0x1000;
-
 // Where one chunk ends and the other begins.
 const EDGE: u64 = 0x150_0000;
 
@@ -64,36 +62,48 @@ fn is_in(start: u64, addr: u64, len: u64) -> bool
     addr >= start && u128::from(addr) + u128::from(len) <= u128::from(start) + u128::from(LENGTH)
 }
 
-fn span(first: u64, sectors: u64, sort: SpanSort) -> Span {
+// The first byte of a sector, counted from sixteen sectors before the edge.
+fn at(sector: u8) -> u64 {
+    EDGE - 0x1_0000 + u64::from(sector) * 0x1000
+}
+
+fn owned(first: u8, sectors: u64) -> Span {
     Span {
-        first,
+        first: at(first),
         sectors,
-        sort,
+        sort: SpanSort::Owned { of_data: true },
     }
 }
 
-fn owned(first: u64, sectors: u64) -> Span {
-    span(first, sectors, SpanSort::Owned { of_data: true })
+fn block(first: u8) -> Span {
+    Span {
+        first: at(first),
+        sectors: 4,
+        sort: SpanSort::Owned { of_data: false },
+    }
 }
 
-fn block(first: u64) -> Span {
-    span(first, 4, SpanSort::Owned { of_data: false })
+fn summed(first: u8, sectors: u64) -> Span {
+    Span {
+        first: at(first),
+        sectors,
+        sort: SpanSort::Summed,
+    }
 }
 
-fn summed(first: u64, sectors: u64) -> Span {
-    span(first, sectors, SpanSort::Summed)
-}
-
-// What an inode of tree 5 shows of an extent of so many bytes.
-fn shown(first: u64, ino: u64, length: u64) -> Span {
-    let sort = SpanSort::Shown {
-        tree: 5,
-        ino,
-        file_offset: 0,
-        extent: first,
-        length,
-    };
-    span(first, 1, sort)
+// What an inode of tree 5 shows of an extent of so many sectors: the first.
+fn shown(first: u8, ino: u64, sectors: u8) -> Span {
+    Span {
+        first: at(first),
+        sectors: 1,
+        sort: SpanSort::Shown {
+            tree: 5,
+            ino,
+            file_offset: 0,
+            extent: at(first),
+            length: u64::from(sectors) * 0x1000,
+        },
+    }
 }
 
 #[test]
@@ -101,15 +111,15 @@ fn many_files_show_a_sector_that_is_not_summed(rt: HostRuntime) -> Result<(), No
     let mut steps = Steps::new(());
     let mut index = SpanIndex::new(rt.alloc());
     let runs = [Run {
-        from: 0x150_0000,
+        from: EDGE,
         until: 0x150_1000,
     }];
-    index.insert(owned(EDGE, 1), &mut steps)?;
+    index.insert(owned(16, 1), &mut steps)?;
     for _ in 0..200 {
-        index.insert(shown(EDGE, 257, SECTOR), &mut steps)?;
+        index.insert(shown(16, 257, 1), &mut steps)?;
     }
     assert_eq!(rt; index.first_bad(&TwoChunks, &runs, &mut steps), Some(EDGE));
-    index.insert(summed(EDGE, 1), &mut steps)?;
+    index.insert(summed(16, 1), &mut steps)?;
     assert_eq!(rt; index.first_bad(&TwoChunks, &runs, &mut steps), None);
     Ok(())
 }
@@ -126,80 +136,31 @@ fn the_first_broken_sector(rt: HostRuntime) -> Result<(), NoMemory> {
             until: 0x150_e000,
         },
     ];
-    let before = EDGE - SECTOR;
+    let not_at_a_sector = Span {
+        first: EDGE + 0x200,
+        ..owned(16, 1)
+    };
     for (spans, bad) in [
-        (
-            &[block(EDGE - 0x4000), owned(EDGE, 1), summed(EDGE, 1)],
-            None,
-        ),
-        (
-            &[block(EDGE - 0x4000), owned(EDGE, 1), summed(before, 2)],
-            Some(before),
-        ),
-        (
-            &[owned(before, 1), shown(before, 258, SECTOR), block(EDGE)],
-            None,
-        ),
-        (
-            &[owned(before, 1), shown(before, 257, SECTOR), block(EDGE)],
-            Some(before),
-        ),
-        (&[owned(before, 2), owned(before, 2), block(EDGE)], None),
-        (
-            &[owned(before, 2), summed(before, 1), block(EDGE)],
-            Some(before),
-        ),
-        (
-            &[
-                shown(before, 257, SECTOR),
-                owned(before, 1),
-                summed(before, 1),
-            ],
-            None,
-        ),
-        (
-            &[
-                shown(before, 257, 2 * SECTOR),
-                owned(before, 1),
-                block(EDGE),
-            ],
-            None,
-        ),
-        (
-            &[
-                block(EDGE),
-                owned(EDGE + 0x3000, 1),
-                owned(EDGE + 0x4000, 1),
-            ],
-            Some(EDGE + 0x3000),
-        ),
-        (
-            &[
-                owned(EDGE + 0x6000, 1),
-                owned(EDGE + 0x4000, 8),
-                block(EDGE),
-            ],
-            None,
-        ),
-        (
-            &[
-                owned(EDGE + 0xb000, 2),
-                owned(EDGE + 0xa000, 3),
-                block(EDGE),
-            ],
-            Some(EDGE + 0xc000),
-        ),
-        (
-            &[owned(EDGE + 0x200, 1), owned(EDGE, 1), summed(EDGE, 1)],
-            None,
-        ),
+        ([block(12), owned(16, 1), summed(16, 1)], None),
+        ([block(12), owned(16, 1), summed(15, 2)], Some(15)),
+        ([owned(15, 1), shown(15, 258, 1), block(16)], None),
+        ([owned(15, 1), shown(15, 257, 1), block(16)], Some(15)),
+        ([owned(15, 2), owned(15, 2), block(16)], None),
+        ([owned(15, 2), summed(15, 1), block(16)], Some(15)),
+        ([shown(15, 257, 1), owned(15, 1), summed(15, 1)], None),
+        ([shown(15, 257, 2), owned(15, 1), block(16)], None),
+        ([block(16), owned(19, 1), owned(20, 1)], Some(19)),
+        ([owned(22, 1), owned(20, 8), block(16)], None),
+        ([owned(27, 2), owned(26, 3), block(16)], Some(28)),
+        ([not_at_a_sector, owned(16, 1), summed(16, 1)], None),
     ] {
         let mut steps = Steps::new(());
         let mut index = SpanIndex::new(rt.alloc());
         for span in spans {
-            index.insert(*span, &mut steps)?;
+            index.insert(span, &mut steps)?;
         }
-        assert_eq!(rt; index.first_bad(&TwoChunks, &runs, &mut steps), bad);
+        let found = index.first_bad(&TwoChunks, &runs, &mut steps);
+        assert_eq!(rt; found, bad.map(at));
     }
     Ok(())
 }

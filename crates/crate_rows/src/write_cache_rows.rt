@@ -84,25 +84,19 @@ fn put_all(
 // Whether the cache has exactly these pieces, once its runs are joined, and lends the same bytes in parts before.
 fn has_pieces(cache: &mut WriteCache, wanted: &[Part]) -> Result<bool, NoMemory> {
     let in_parts = sum_of(cache.parts());
-    cache.join();
-    if sum_of(cache.parts()) != in_parts {
-        return Ok(false);
-    }
-    are_pieces(cache, wanted)
+    let joined = cache.join()?;
+    Ok(sum_of(joined.cache.parts()) == in_parts && are_pieces(joined.pieces(), wanted))
 }
 
-// Whether these are the pieces of a cache whose runs are joined.
-fn are_pieces(cache: &WriteCache, wanted: &[Part]) -> Result<bool, NoMemory> {
-    let Some(mut left) = cache.pieces() else {
-        return Err(NoMemory);
-    };
+// Whether what is left is these pieces.
+fn are_pieces(mut left: Pieces<'_>, wanted: &[Part]) -> bool {
     for (at, bytes) in wanted {
         match left.next() {
             Some((begin, held)) if begin == *at && held == *bytes => {}
-            _ => return Ok(false),
+            _ => return false,
         }
     }
-    Ok(left.next().is_none())
+    left.next().is_none()
 }
 
 // How many bytes are lent, and the sum of them with their places.
@@ -127,47 +121,6 @@ fn the_pieces_are_the_maximal_runs(rt: HostRuntime) -> Result<(), NoMemory> {
                 has_pieces(&mut cache, wanted)?,
                 "row {row}, own bytes: {own}"
             );
-        }
-    }
-    Ok(())
-}
-
-// Whether a write that is taken makes the pieces `after`, and one that is refused leaves those before.
-fn takes_or_leaves(
-    rt: &impl Abort,
-    alloc: Global,
-    before: &[Part],
-    write: Part,
-    after: &[Part],
-    own: bool,
-) -> Result<bool, NoMemory> {
-    let mut cache = put_all(rt, alloc, before, own)?;
-    let taken = put(rt, alloc, &mut cache, write, own).is_ok();
-    has_pieces(&mut cache, if taken { after } else { before })
-}
-
-#[test]
-fn a_refused_write_leaves_what_waits(rt: HostRuntime) -> Result<(), NoMemory> {
-    let before: &[Part] = &[(10, &[1, 2, 3]), (20, &[4, 5, 6])];
-    let rows: [(Part, &[Part]); 5] = [
-        (
-            (30, &[7]),
-            &[(10, &[1, 2, 3]), (20, &[4, 5, 6]), (30, &[7])],
-        ),
-        ((18, &[7; 3]), &[(10, &[1, 2, 3]), (18, &[7, 7, 7, 5, 6])]),
-        ((12, &[7; 3]), &[(10, &[1, 2, 7, 7, 7]), (20, &[4, 5, 6])]),
-        (
-            (12, &[7; 9]),
-            &[(10, &[1, 2, 7, 7, 7, 7, 7, 7, 7, 7, 7, 5, 6])],
-        ),
-        ((11, &[7]), &[(10, &[1, 7, 3]), (20, &[4, 5, 6])]),
-    ];
-    for (write, after) in rows {
-        for own in [false, true] {
-            // The allocation that fails may be one of the test's own.
-            if let Ok(good) = takes_or_leaves(&rt, rt.alloc(), before, write, after, own) {
-                assert!(rt; good, "at {}, own bytes: {own}", write.0);
-            }
         }
     }
     Ok(())
@@ -253,12 +206,9 @@ fn a_range_in_one_run_is_lent(rt: HostRuntime) -> Result<(), NoMemory> {
     for (at, len, wanted) in rows {
         assert_eq!(rt; cache.lend(at, len), wanted, "{len} bytes at {at}");
     }
-    cache.join();
-    if cache.pieces().is_none() {
-        return Err(NoMemory);
-    }
-    assert_eq!(rt; cache.lend(10, 7), Some([1, 2, 3, 4, 9, 6, 7].as_slice()));
-    assert_eq!(rt; cache.lend(13, 2), Some([4, 9].as_slice()));
-    assert_eq!(rt; cache.lend(13, 5), None);
+    let joined = cache.join()?.cache;
+    assert_eq!(rt; joined.lend(10, 7), Some([1, 2, 3, 4, 9, 6, 7].as_slice()));
+    assert_eq!(rt; joined.lend(13, 2), Some([4, 9].as_slice()));
+    assert_eq!(rt; joined.lend(13, 5), None);
     Ok(())
 }

@@ -2,6 +2,7 @@
 use Rattle.std.proofs.Common.{◌≡◌, ℕ, zero, suc, ◌+◌, ◌-◌, ◌<◌, ◌≤◌, List, [], ◌∷◌, length, take, drop, get_or, false, refl, ap, sym, ◌∙◌, arith, add-zero}
 use Rattle.std.proofs.lemmas.Grind.{common_steps}
 use Rattle.std.specs.Prelude.{Option, Some, None, Ok, nat_lt}
+use Rattle.verdict.proofs.Lists.{all_behind}
 use Rattle.recon_bytes.specs.Field.{field}
 use Rattle.verdict.specs.Rules.{first_failing, finding_or, or_found}
 use Rattle.verdict.specs.declared.key.Key.{Key}
@@ -54,10 +55,6 @@ pub rows_none : (at : At) (key : Key) (offset : ℕ) (bytes : List ℕ) → leng
 rows_none at key offset bytes h =
     let none : drop offset bytes ≡ [] = grind (arith, common_steps) in
     rw none refl
-
--- all bytes behind a place
-pub all_behind : (n : ℕ) (bytes : List ℕ) → take (length bytes - n) (drop n bytes) ≡ drop n bytes
-all_behind n bytes = grind (arith, common_steps)
 
 pub ruleset reference_steps = (rows_none)
 

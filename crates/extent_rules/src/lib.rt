@@ -3,4 +3,4 @@
 
 mod rows;
 
-pub use rows::{post, post_block, post_extent, post_range, post_reference, reference_account};
+pub use rows::post;

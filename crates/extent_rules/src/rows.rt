@@ -1,25 +1,24 @@
 //! The postings of a record to the accounts of extents and of references to them.
 
-ghost use Rattle.std.specs.Prelude.{◌≡◌, [], ◌∷◌, flat_map};
+ghost use Rattle.std.specs.Prelude.{◌≡◌, ℕ, [], ◌∷◌, flat_map};
 ghost use Rattle.extent_items.specs.ExtentItems.{extent_fields_in};
-ghost use Rattle.accounts.specs.Kinds.{block_ref, data_ref, extent_form};
+ghost use Rattle.accounts.specs.Kinds.{block_ref, extent_form};
+ghost use Rattle.accounts.specs.Lent.{user_account};
 ghost use Rattle.records.specs.Post.{to};
-ghost use Rattle.verdict.specs.declared.kinds.TheConstants.{EXTENT_ITEM};
+ghost use Rattle.verdict.specs.declared.kinds.TheConstants.{METADATA_ITEM};
+ghost use Rattle.accounts.specs.declared.sum.TheConstants.{FORM_USES, USES};
 ghost use Rattle.records.specs.Part.{part_of};
-ghost use Rattle.records.specs.ExtentPostings.{extent_item_postings, extent_postings, origin_of, range_postings, reference_account, reference_postings};
+ghost use Rattle.records.specs.ExtentPostings.{extent_item_postings, extent_postings, range_postings, reference_account, reference_postings};
 
-use accounts::{Account, Ctx, Poster, Posting};
+use accounts::{Ctx, Poster, User};
 use extent_items::{ExtentItem, Reference};
-use fs_items::FileExtent;
+use fs_items::{FileExtent, INLINE};
 use records::Rec;
 use std::alloc::Global;
 use verdict::NoMemory;
 use verdict::kinds::{
     EXTENT_DATA_REF, EXTENT_ITEM, METADATA_ITEM, SHARED_BLOCK_REF, TREE_BLOCK_REF,
 };
-
-/// The type of a range of a file whose data stands in its item.
-const INLINE: u8 = 0;
 
 /// Hands on what a record of a tree, by the tree's id, says of extents and of who refers to them: of blocks, extents,
 /// references that are items of their own, and ranges of files. The accounts take their memory from this allocator.
@@ -43,9 +42,8 @@ pub fn post<C: Ctx, P: Poster>(
     }
 }
 
-/// Hands on what a block of a tree says: the tree's id, the block's logical address and its level. Out of memory, a
-/// first part of the postings may be handed on.
-pub fn post_block<P: Poster>(
+// What a block of a tree says: the tree's id, the block's logical address and its level.
+fn post_block<P: Poster>(
     alloc: Global,
     tree: u64,
     address: u64,
@@ -53,27 +51,22 @@ pub fn post_block<P: Poster>(
     into: &mut P,
 ) -> Result<(), NoMemory>
     ensures { P.Leaves into.old into.new result
-        (to (block_ref tree address) 1 1 ∷ to (extent_form address 169 level) 1 1 ∷ []) }
+        (to (block_ref tree address) USES 1
+        ∷ to (extent_form address METADATA_ITEM level) FORM_USES 1 ∷ []) }
 {
-    let form = Account::extent_form(alloc, address, METADATA_ITEM, u64::from(level));
-    into.put(Posting::to(Account::block_ref(alloc, tree, address), 1, 1))?;
-    into.put(Posting::to(form, 1, 1))
+    let user = User::Tree { root: tree };
+    into.put_use(alloc, address, &user, METADATA_ITEM, u64::from(level))
 }
 
-/// Hands on what an extent's item says, and the references in it. Out of memory, a first part of the postings may be
-/// handed on.
-pub fn post_extent<P: Poster>(
+// What an extent's item says, and the references in it.
+fn post_extent<P: Poster>(
     alloc: Global,
     item: &ExtentItem<'_>,
     into: &mut P,
 ) -> Result<(), NoMemory>
     ensures { P.Leaves into.old into.new result (extent_item_postings (extent_fields_in item.now)) }
 {
-    let address = item.key.objectid;
-    let form = Account::extent_form(alloc, address, item.key.kind, item.key.offset);
-    into.put(Posting::to(Account::extent(alloc, address), 0, 1))?;
-    into.put(Posting::to(Account::extent(alloc, address), 1, item.refs))?;
-    into.put(Posting::to(form, 0, 1))?;
+    into.put_extent(alloc, item.key, item.refs)?;
     post_references(alloc, item, into)
 }
 
@@ -94,9 +87,8 @@ fn post_references<P: Poster>(
     Ok(())
 }
 
-/// Hands on what a reference to the extent at a logical address says, in its item or with an item of its own. Out of
-/// memory, a first part of the postings may be handed on.
-pub fn post_reference<P: Poster>(
+// What a reference to the extent at a logical address says, in its item or with an item of its own.
+fn post_reference<P: Poster>(
     alloc: Global,
     address: u64,
     reference: &Reference,
@@ -104,33 +96,36 @@ pub fn post_reference<P: Poster>(
 ) -> Result<(), NoMemory>
     ensures { P.Leaves into.old into.new result (reference_postings address reference.now) }
 {
-    let count = u64::from(reference.count);
-    let account = reference_account(alloc, address, reference);
-    into.put(Posting::to(Account::extent(alloc, address), 2, count))?;
-    into.put(Posting::to(account, 0, count))
+    let user = user_of(reference);
+    into.put_reference(alloc, address, &user, u64::from(reference.count))
 }
 
-/// The account of who refers to the extent at a logical address.
-pub fn reference_account(alloc: Global, address: u64, reference: &Reference) -> Account
-    ensures { result ≡ reference_account address reference.now }
+// Who refers to an extent.
+fn user_of(reference: &Reference) -> User
+    ensures { (address : ℕ) →
+        user_account address result ≡ reference_account address reference.now }
 {
     match reference.kind {
-        TREE_BLOCK_REF => Account::block_ref(alloc, reference.root, address),
-        EXTENT_DATA_REF => Account::data_ref(
-            alloc,
-            reference.root,
-            address,
-            reference.objectid,
-            reference.offset,
-        ),
-        SHARED_BLOCK_REF => Account::shared_block_ref(alloc, reference.parent, address),
-        _ => Account::shared_data_ref(alloc, reference.parent, address),
+        TREE_BLOCK_REF => User::Tree {
+            root: reference.root,
+        },
+        EXTENT_DATA_REF => User::File {
+            root: reference.root,
+            ino: reference.objectid,
+            origin: reference.offset,
+        },
+        SHARED_BLOCK_REF => User::Block {
+            parent: reference.parent,
+        },
+        _ => User::Leaf {
+            parent: reference.parent,
+        },
     }
 }
 
-/// Hands on what a range of a file says, if it has an extent on the disk: it is not inline, and no hole. The extent would
-/// begin at the byte `origin` of the file, modulo 2^64. Out of memory, a first part of the postings may be handed on.
-pub fn post_range<P: Poster>(
+// What a range of a file says, if it has an extent on the disk: it is not inline, and no hole. The extent would begin
+// at the byte `origin` of the file, modulo 2^64.
+fn post_range<P: Poster>(
     alloc: Global,
     tree: u64,
     range: &FileExtent,
@@ -141,24 +136,10 @@ pub fn post_range<P: Poster>(
     if range.sort == INLINE || range.extent == 0 {
         return Ok(());
     }
-    post_user(alloc, tree, range, into)
-}
-
-// A range of a file that has an extent on the disk.
-fn post_user<P: Poster>(
-    alloc: Global,
-    tree: u64,
-    range: &FileExtent,
-    into: &mut P,
-) -> Result<(), NoMemory>
-    ensures { let range = range.now in P.Leaves into.old into.new result
-        (to (data_ref tree range.extent range.key.objectid (origin_of range)) 1 1
-        ∷ to (extent_form range.extent EXTENT_ITEM range.extent_length) 1 1 ∷ []) }
-{
-    let address = range.extent;
-    let origin = range.key.offset.wrapping_sub(range.offset);
-    let form = Account::extent_form(alloc, address, EXTENT_ITEM, range.extent_length);
-    let user = Account::data_ref(alloc, tree, address, range.key.objectid, origin);
-    into.put(Posting::to(user, 1, 1))?;
-    into.put(Posting::to(form, 1, 1))
+    let user = User::File {
+        root: tree,
+        ino: range.key.objectid,
+        origin: range.key.offset.wrapping_sub(range.offset),
+    };
+    into.put_use(alloc, range.extent, &user, EXTENT_ITEM, range.extent_length)
 }

@@ -88,10 +88,7 @@ impl Seen {
                     generation: item.generation,
                     level: item.level,
                 };
-                match self.roots.push(root) {
-                    Ok(()) => Ok(()),
-                    Err(_) => Err(NoMemory),
-                }
+                Ok(self.roots.push(root)?)
             }
             _ => Ok(()),
         }

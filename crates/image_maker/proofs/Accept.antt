@@ -3,6 +3,8 @@ use Rattle.std.proofs.Common.{◌≡◌, ℕ, zero, suc, ◌+◌, ◌-◌, ◌<�
 use Rattle.std.proofs.lemmas.Grind.{common_steps}
 use Rattle.std.proofs.lemmas.Slice.Eq.{bytes_eq-Decides}
 use Rattle.std.specs.Prelude.{Option, Some, None, is_some, ◌==◌, ◌||◌, ◌&&◌, bytes_eq, bit_and}
+use Rattle.verdict.proofs.Truth.{or_none, and_false}
+use Rattle.verdict.proofs.Numbers.{not_differs, not_below, itself}
 use Rattle.verdict.specs.Rules.{TableRow, first_failing}
 use Rattle.verdict.specs.OnDisk.{key_below, key_same}
 use Rattle.verdict.specs.declared.key.Key.{Key}
@@ -27,15 +29,6 @@ clear (row ∷ rows) kept = rw kept.0 (clear rows kept.1)
 
 pub both_clear : (first second : List TableRow) → first_failing first ≡ None → first_failing second ≡ None → first_failing (first ++ second) ≡ None
 both_clear first second a b = first_failing_joined first second ∙ rw a b
-
-pub same_is : (a b : ℕ) → a ≡ b → not (a == b) ≡ false
-same_is a b is = grind (arith, common_steps)
-
-pub not_below : (a b : ℕ) → b ≤ a → nat_lt a b ≡ false
-not_below a b is = grind (arith, common_steps)
-
-pub neither_is : (a b : Bool) → a ≡ false → b ≡ false → (a || b) ≡ false
-neither_is a b is_a is_b = rw (is_a, is_b) refl
 
 pub none_some : {A : Type 0} (found : Option A) → found ≡ None → is_some found ≡ false
 none_some found is = rw is refl
@@ -62,11 +55,7 @@ pub header_clear : (h : BlockHeader) (low high : Option Key) (parent : ℕ) (cou
 unfolding header_rules
 header_clear h low high parent count body bytes says =
     clear (header_rules bytes h.fsid (expect_of h low high parent))
-    (same_is _ _ says.sum, (same_bytes _ _ says.fsid, (same_is _ _ says.address, (unset _ says.flags, (same_is _ _ says.owner, (same_is _ _ says.generation, (same_is _ _ says.level, tt)))))))
-
-and_false : (a : Bool) → (a && false) ≡ false
-and_false true = refl
-and_false false = refl
+    (not_differs _ _ says.sum, (same_bytes _ _ says.fsid, (not_differs _ _ says.address, (unset _ says.flags, (not_differs _ _ says.owner, (not_differs _ _ says.generation, (not_differs _ _ says.level, tt)))))))
 
 pub not_zero : (n : ℕ) → 0 < n → (n == 0) ≡ false
 not_zero n some = grind (arith, common_steps)
@@ -80,13 +69,10 @@ pub count_clear : (bytes : List ℕ) (e : Expect) → count_of bytes ≤ room_of
 unfolding count_rules
 count_clear bytes e fits some =
     clear (count_rules bytes e)
-    (neither_is _ _ (not_below (room_of bytes e.level) (count_of bytes) fits) (some_or_none (count_of bytes) (needs_entry e) some), tt)
-
-same_number : (n : ℕ) → (n == n) ≡ true
-same_number n = grind (arith, common_steps)
+    (or_none _ _ (not_below (room_of bytes e.level) (count_of bytes) fits) (some_or_none (count_of bytes) (needs_entry e) some), tt)
 
 same_key : (a b : Key) → b ≡ a → not (key_same a b) ≡ false
-same_key a b is = rw (is, same_number a.objectid, same_number a.kind, same_number a.offset) refl
+same_key a b is = rw (is, itself a.objectid, itself a.kind, itself a.offset) refl
 
 first_is : (low : Option Key) (keys : List Key) (key : Key) → StartsAt low keys → (0 < length keys → key ≡ key_at keys 0) → differs_from low key ≡ false
 first_is None keys key starts is = refl

@@ -2,6 +2,7 @@
 use Rattle.std.proofs.Common.{◌≡◌, ℕ, ◌+◌, ◌^◌, ◌<◌, List, ◌++◌, length, take, drop, refl, sym, ap, ◌∙◌, arith}
 use Rattle.std.proofs.lemmas.List.{append_assoc, drop_at, take_at, length-append}
 use Rattle.std.specs.Prelude.{slice_index}
+use Rattle.image_maker.proofs.Sizes.{length_chunk_tree}
 use Rattle.recon_bytes.specs.Field.{field}
 use Rattle.recon_crc.specs.Checksum.{crc32c_of}
 use Rattle.recon_crc.specs.ChecksumLaws.{crc32c_of_fits}
@@ -36,10 +37,6 @@ header_right : (h : BlockHeader) (count : ℕ) (body : List ℕ) → header_byte
 unfolding header_bytes
 header_right h count body = simp append_assoc refl
 
-length_uuid : length chunk_tree_uuid ≡ 16
-unfolding chunk_tree_uuid
-length_uuid = refl
-
 sum_right : (rest : List ℕ) → with_sum rest ≡ u32 (crc32c_of rest) ++ (zeros 28 ++ rest)
 unfolding with_sum
 sum_right rest = append_assoc (u32 (crc32c_of rest)) (zeros 28) rest
@@ -58,7 +55,7 @@ length_sum rest = omega (arith, length_front rest, length-append (u32 (crc32c_of
 pub length-header : (h : BlockHeader) (count : ℕ) → IsHeader h → length (header_bytes h count) ≡ 69
 unfolding header_bytes
 length-header h count is =
-    simp length-append (omega (arith, is.fsid, length-u64 h.address, length-u8 1, length-zeros 6, length_uuid, length-u64 h.generation, length-u64 h.owner, length-u32 count, length-u8 h.level))
+    simp length-append (omega (arith, is.fsid, length-u64 h.address, length-u8 1, length-zeros 6, length_chunk_tree, length-u64 h.generation, length-u64 h.owner, length-u32 count, length-u8 h.level))
 
 pub header_says : (h : BlockHeader) (count : ℕ) (body : List ℕ) → IsHeader h → count < 2 ^ 32 → HeaderSays h count body (with_sum (header_bytes h count ++ body))
 header_says h count body is few =
@@ -79,7 +76,7 @@ header_says h count body is few =
     let at39 : drop 0x39 bytes ≡ r39 = behind bytes (u8 1) r39 0x38 1 0x39 at38 (length-u8 1) refl in
     let at3f : drop 0x3f bytes ≡ r3f = behind bytes (zeros 6) r3f 0x39 6 0x3f at39 (length-zeros 6) refl in
     let at40 : drop 0x40 bytes ≡ r40 = behind bytes (u8 1) r40 0x3f 1 0x40 at3f (length-u8 1) refl in
-    let at50 : drop 0x50 bytes ≡ r50 = behind bytes chunk_tree_uuid r50 0x40 16 0x50 at40 length_uuid refl in
+    let at50 : drop 0x50 bytes ≡ r50 = behind bytes chunk_tree_uuid r50 0x40 16 0x50 at40 length_chunk_tree refl in
     let at58 : drop 0x58 bytes ≡ r58 = behind bytes (u64 h.generation) r58 0x50 8 0x58 at50 (length-u64 h.generation) refl in
     let at60 : drop 0x60 bytes ≡ r60 = behind bytes (u64 h.owner) r60 0x58 8 0x60 at58 (length-u64 h.owner) refl in
     let at64 : drop 0x64 bytes ≡ r64 = behind bytes (u32 count) r64 0x60 4 0x64 at60 (length-u32 count) refl in

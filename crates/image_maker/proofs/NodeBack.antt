@@ -3,6 +3,7 @@ use Rattle.std.proofs.Common.{◌≡◌, ℕ, zero, suc, ◌+◌, ◌-◌, ◌*�
 use Rattle.std.proofs.lemmas.List.{append_assoc, drop-drop, length-append, length-map, get_or-map, same_lists}
 use Rattle.std.proofs.lemmas.Nat.{le-div}
 use Rattle.std.specs.Prelude.{Option, None}
+use Rattle.verdict.proofs.Numbers.{not_below}
 use Rattle.recon_bytes.specs.Field.{field}
 use Rattle.verdict.specs.Rules.{first_failing, no_key}
 use Rattle.verdict.specs.declared.key.Key.{Key}
@@ -20,7 +21,7 @@ use Rattle.image_maker.specs.declared.node.ChildPointer.{ChildPointer}
 use Rattle.image_maker.proofs.Numbers.{length-zeros}
 use Rattle.image_maker.proofs.Header.{IsHeader, HeaderSays, header_says, length_sum, length-header}
 use Rattle.image_maker.proofs.Entries.{PointerSays, pointer_says, pointers_at, length-pointers}
-use Rattle.image_maker.proofs.Accept.{clear, header_clear, count_clear, key_clear, none_at_all, not_below, not_zero}
+use Rattle.image_maker.proofs.Accept.{clear, header_clear, count_clear, key_clear, none_at_all, not_zero}
 use Rattle.image_maker.proofs.ReadBack.{rules_clear}
 
 -- a block whose header and entries are as the reader finds those of a node

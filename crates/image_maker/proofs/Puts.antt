@@ -46,6 +46,3 @@ put_part image part at n inside long =
 pub blank_superblock : replicate 4096 0 ≡ zeros 4096
 unfolding zeros
 blank_superblock = refl
-
-pub long_written : (image bytes : List ℕ) (at : ℕ) → length (written image at bytes) ≡ length image
-long_written image bytes at = length-written_any image bytes at

@@ -3,6 +3,8 @@ use Rattle.std.proofs.Common.{◌≡◌, ℕ, zero, suc, ◌+◌, ◌-◌, ◌*�
 use Rattle.std.proofs.lemmas.List.{append_assoc, append-nil, drop-drop, length-append, length-map, get_or-map, same_lists}
 use Rattle.std.proofs.lemmas.Nat.{le-div}
 use Rattle.std.specs.Prelude.{Option, Some, None, is_some, ◌==◌, ◌||◌}
+use Rattle.verdict.proofs.Truth.{or_none}
+use Rattle.verdict.proofs.Numbers.{not_differs, not_below}
 use Rattle.verdict.specs.Image.{range}
 use Rattle.verdict.specs.Rules.{first_failing, no_key}
 use Rattle.verdict.specs.declared.key.Key.{Key}
@@ -22,7 +24,7 @@ use Rattle.image_maker.specs.declared.leaf_item.LeafItem.{LeafItem}
 use Rattle.image_maker.proofs.Numbers.{length-zeros, three_joined}
 use Rattle.image_maker.proofs.Header.{IsHeader, HeaderSays, header_says, length_sum, length-header}
 use Rattle.image_maker.proofs.Entries.{HeadSays, head_says, heads_at, start_of, start_first, start_next, start_floor, start_ceiling, heads_space, length-heads, length-data, data_at}
-use Rattle.image_maker.proofs.Accept.{clear, both_clear, header_clear, count_clear, key_clear, none_at_all, neither_is, same_is, not_below}
+use Rattle.image_maker.proofs.Accept.{clear, both_clear, header_clear, count_clear, key_clear, none_at_all}
 
 item_small : (items : List LeafItem) (place : ℕ) → length (get_or items place no_item).bytes ≤ space_of items
 item_small [] place = omega arith
@@ -51,7 +53,7 @@ head_found h size items bytes says place inside =
 in_place : (bytes : List ℕ) (count place : ℕ) → item_offset bytes place + item_size bytes place ≡ end_before bytes place → 25 * count ≤ item_offset bytes place →
     misplaced_at bytes count place ≡ false
 in_place bytes count place ends low =
-    misplaced_is bytes count place ∙ neither_is _ _ (same_is (item_offset bytes place + item_size bytes place) (end_before bytes place) ends) (not_below (item_offset bytes place) (25 * count) low)
+    misplaced_is bytes count place ∙ or_none _ _ (not_differs (item_offset bytes place + item_size bytes place) (end_before bytes place) ends) (not_below (item_offset bytes place) (25 * count) low)
 
 placed : (h : BlockHeader) (size : ℕ) (items : List LeafItem) (bytes : List ℕ) → LeafSays h size items bytes → (place : ℕ) → place < length items →
     misplaced_at bytes (count_of bytes) place ≡ false

@@ -12,7 +12,7 @@ length_fsid : length fsid ≡ 16
 unfolding fsid
 length_fsid = refl
 
-length_chunk_tree : length chunk_tree_uuid ≡ 16
+pub length_chunk_tree : length chunk_tree_uuid ≡ 16
 unfolding chunk_tree_uuid
 length_chunk_tree = refl
 

@@ -10,4 +10,3 @@ pub mod Items
 pub mod Trees
 pub mod BaseImage
 pub mod Create
-pub mod WiderImage

@@ -98,8 +98,5 @@ impl Fields {
 pub fn zero_bytes(alloc: Global, count: usize) -> Result<Vec<u8>, NoMemory>
     ensures { IfOk result (λ v. v.items ≡ zeros count) }
 {
-    match vec![in alloc; 0u8; count] {
-        Ok(zeros) => Ok(zeros),
-        Err(_) => Err(NoMemory),
-    }
+    Ok(vec![in alloc; 0u8; count]?)
 }

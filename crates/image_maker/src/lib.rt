@@ -1,5 +1,5 @@
 //! Makes tree blocks and whole images: the fields of on-disk structures, leaves and nodes with their headers and
-//! checksums, the items of each tree, the base image of 32 MiB, a wider one, and the writes that make a file in it.
+//! checksums, the items of each tree, the base image of 32 MiB, and the writes that make a file in it.
 #![tactic(auto)]
 
 mod base;
@@ -12,7 +12,6 @@ mod leaf_item;
 mod node;
 mod superblock;
 mod trees;
-mod wider;
 
 pub use base::{BASE_BLOCKS, BASE_CHUNKS, BASE_LENGTH, base_image};
 pub use block::{FSID, with_checksum};
@@ -27,4 +26,3 @@ pub use leaf_item::LeafItem;
 pub use node::{ChildPointer, node_block};
 pub use superblock::{base_superblock, superblock_of};
 pub use trees::{NODESIZE, TreeBlock};
-pub use wider::wider_image;

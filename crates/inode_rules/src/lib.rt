@@ -5,4 +5,4 @@ mod rows;
 mod table;
 
 pub use rows::type_of_mode;
-pub use table::post;
+pub use table::{post, post_own};

@@ -3,6 +3,8 @@ use Rattle.std.proofs.Common.{◌≡◌, ℕ, Bool, true, false, cond, ◌&&◌,
 use Rattle.std.specs.Prelude.{◌==◌, Option, Some, None, IfSome, is_some}
 use Rattle.std.proofs.lemmas.Bool.{eqb-true}
 use Rattle.std.proofs.Math.Path.{fun_ext}
+use Rattle.verdict.proofs.Answers.{some_is}
+use Rattle.verdict.proofs.Truth.{and_left, and_right, cond_within}
 use Rattle.verdict.specs.OnDisk.{key_same}
 use Rattle.verdict.specs.declared.key.Key.{Key}
 use Rattle.live_index.specs.declared.live.Live.{Live}
@@ -14,21 +16,12 @@ use Rattle.live_index.specs.Pairs.{IsLeastFrom, IsNextFirst, Pairs, comes_before
 
 -- ---- one place of a table
 
-pub and_left : (a b : Bool) → (a && b) ≡ true → a ≡ true
-and_left = elim [ true ↦ λ b e. refl | false ↦ λ b e. e ]
-
-pub and_right : (a b : Bool) → (a && b) ≡ true → b ≡ true
-and_right = elim [ true ↦ λ b e. e | false ↦ λ b e. cc ]
-
 -- a table has one pair under one tree and address
 pub one_place : (p : Pairs) (t a t' a' : ℕ) → t ≡ t' → a ≡ a' → p t a ≡ p t' a'
 one_place p t a t' a' e f = ap (λ x. p x a) e ∙ ap (p t') f
 
 pub tested_place : (p : Pairs) (t a t' a' : ℕ) → (t == t' && a == a') ≡ true → p t' a' ≡ p t a
 tested_place p t a t' a' e = sym (one_place p t a t' a' (eqb-true _ _ (and_left _ _ e)) (eqb-true _ _ (and_right (t == t') _ e)))
-
-some_is : {A : Type 0} (x y : A) → Some x ≡ Some y → x ≡ y
-some_is x y e = cc
 
 -- ---- each pair under its own tree and address
 
@@ -83,15 +76,12 @@ key_taken = elim [
   | false ↦ λ l k a v n x h. refl
 ]
 
-pub inner : {A : Type 0} (b : Bool) (y n x : A) → cond b y (cond b n x) ≡ cond b y x
-inner = elim [ true ↦ λ y n x. refl | false ↦ λ y n x. refl ]
-
 key_moved : {A : Type 0} (t l k a l' k' : Bool) (v v' n x : A) → ((t && a) ≡ true → x ≡ cond (l' && k') v' n)
     → cond (t && (l && (k && a))) v (cond (t && (l' && (k' && a))) n x) ≡ cond (t && a) (cond (l && k) v n) x
 key_moved t l k a l' k' v v' n x h =
     ap (cond (t && (l && (k && a))) v) (key_taken t l' k' a v' n x h)
     ∙ key_added t l k a v n (cond (t && a) n x) (λ e. ap (λ b. cond b n x) e)
-    ∙ inner (t && a) (cond (l && k) v n) n x
+    ∙ cond_within (t && a) (cond (l && k) v n) n x
 
 -- ---- the orders say the same as the table
 

@@ -2,9 +2,9 @@
 use Rattle.std.proofs.Common.{◌≡◌, ℕ, ◌<◌, ◌^◌, true, false, cond, ◌&&◌, refl, subst}
 use Rattle.std.specs.Prelude.{◌==◌, Some, None, is_some}
 use Rattle.std.proofs.lemmas.Bool.{eqb-true}
+use Rattle.verdict.proofs.Truth.{and_left, and_right}
 use Rattle.live_index.specs.declared.live.Live.{Live}
 use Rattle.live_index.specs.Pairs.{AreNarrow, Pairs, with_pair, without_pair}
-use Rattle.live_index.proofs.AlikeLaws.{and_left, and_right}
 
 pub none_narrow : (p : Pairs) → ((t a : ℕ) → p t a ≡ None) → AreNarrow p
 none_narrow p none t a is = absurd (let no : false ≡ true = subst (λ y. is_some y ≡ true) (none t a) is in cc)

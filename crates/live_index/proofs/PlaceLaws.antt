@@ -12,6 +12,8 @@ use Rattle.std.specs.BTreeMap.Range.{IsRangeOf}
 use Rattle.std.specs.BTreeSet as set
 use Rattle.std.proofs.lemmas.Bool.{eqb-true}
 use Rattle.std.proofs.lemmas.Bool.Decides.{nat_tests}
+use Rattle.verdict.proofs.Numbers.{equal_from}
+use Rattle.verdict.proofs.Truth.{cond_within, then_tied, and_alike, and_left, and_right, then_less}
 use Rattle.verdict.specs.OnDisk.{key_below, key_same}
 use Rattle.verdict.specs.declared.key.Key.{Key}
 use Rattle.live_index.specs.declared.live.Live.{Live}
@@ -20,27 +22,20 @@ use Rattle.live_index.specs.declared.places.ByAddress.{ByAddress}
 use Rattle.live_index.specs.declared.places.ByFirst.{ByFirst}
 use Rattle.live_index.specs.Orders.{address_place, by_address, by_first, by_key, by_tree, is_address_of, is_key_of, key_place}
 use Rattle.live_index.specs.Pairs.{comes_before}
-use Rattle.live_index.proofs.AlikeLaws.{inner}
 
 -- ---- places that are alike
 
-then_tied : (o p : Ordering) → is_eq (ordering_then o p) ≡ (is_eq o && is_eq p)
-then_tied = elim [ Less ↦ λ p. refl | Equal ↦ λ p. refl | Greater ↦ λ p. refl ]
-
-both : (a b c d : Bool) → a ≡ b → c ≡ d → (a && c) ≡ (b && d)
-both a b c d e f = ap (λ x. x && c) e ∙ ap (λ x. b && x) f
-
 pub tied_tree : (k q : ByTree) → is_at (by_tree k) q ≡ (k.tree == q.tree && k.address == q.address)
-tied_tree k q = then_tied (nat_cmp k.tree q.tree) (nat_cmp k.address q.address) ∙ both _ _ _ _ (unsigned_tied k.tree q.tree) (unsigned_tied k.address q.address)
+tied_tree k q = then_tied (nat_cmp k.tree q.tree) (nat_cmp k.address q.address) ∙ and_alike _ _ _ _ (unsigned_tied k.tree q.tree) (unsigned_tied k.address q.address)
 
 pub tied_address : (k q : ByAddress) → is_at (by_address k) q ≡ (k.address == q.address && k.tree == q.tree)
-tied_address k q = then_tied (nat_cmp k.address q.address) (nat_cmp k.tree q.tree) ∙ both _ _ _ _ (unsigned_tied k.address q.address) (unsigned_tied k.tree q.tree)
+tied_address k q = then_tied (nat_cmp k.address q.address) (nat_cmp k.tree q.tree) ∙ and_alike _ _ _ _ (unsigned_tied k.address q.address) (unsigned_tied k.tree q.tree)
 
 tied_name : (k q : Key) → is_eq (by_key k q) ≡ key_same k q
 tied_name k q =
     then_tied (nat_cmp k.objectid q.objectid) (ordering_then (nat_cmp k.kind q.kind) (nat_cmp k.offset q.offset))
-    ∙ both _ _ _ _ (unsigned_tied k.objectid q.objectid)
-    (then_tied (nat_cmp k.kind q.kind) (nat_cmp k.offset q.offset) ∙ both _ _ _ _ (unsigned_tied k.kind q.kind) (unsigned_tied k.offset q.offset))
+    ∙ and_alike _ _ _ _ (unsigned_tied k.objectid q.objectid)
+    (then_tied (nat_cmp k.kind q.kind) (nat_cmp k.offset q.offset) ∙ and_alike _ _ _ _ (unsigned_tied k.kind q.kind) (unsigned_tied k.offset q.offset))
 
 abbrev pub same_place : ByFirst → ByFirst → Bool
 same_place k q = k.tree == q.tree && (k.level == q.level && (key_same k.first q.first && k.address == q.address))
@@ -48,17 +43,11 @@ same_place k q = k.tree == q.tree && (k.level == q.level && (key_same k.first q.
 pub tied_key : (k q : ByFirst) → is_at (by_first k) q ≡ same_place k q
 tied_key k q =
     then_tied (nat_cmp k.tree q.tree) (ordering_then (nat_cmp k.level q.level) (ordering_then (by_key k.first q.first) (nat_cmp k.address q.address)))
-    ∙ both _ _ _ _ (unsigned_tied k.tree q.tree)
+    ∙ and_alike _ _ _ _ (unsigned_tied k.tree q.tree)
     (then_tied (nat_cmp k.level q.level) (ordering_then (by_key k.first q.first) (nat_cmp k.address q.address))
-    ∙ both _ _ _ _ (unsigned_tied k.level q.level)
+    ∙ and_alike _ _ _ _ (unsigned_tied k.level q.level)
     (then_tied (by_key k.first q.first) (nat_cmp k.address q.address)
-    ∙ both _ _ _ _ (tied_name k.first q.first) (unsigned_tied k.address q.address)))
-
-and_left : (a b : Bool) → (a && b) ≡ true → a ≡ true
-and_left = elim [ true ↦ λ b e. refl | false ↦ λ b e. e ]
-
-and_right : (a b : Bool) → (a && b) ≡ true → b ≡ true
-and_right = elim [ true ↦ λ b e. e | false ↦ λ b e. cc ]
+    ∙ and_alike _ _ _ _ (tied_name k.first q.first) (unsigned_tied k.address q.address)))
 
 pub same_address : (k q : ByAddress) → (k.address == q.address && k.tree == q.tree) ≡ true → k ≡ q
 same_address k q e =
@@ -109,7 +98,7 @@ undone_address s live none place =
 pub moved_same : (m : map.BTreeMap ByFirst Live) (from to : Live) → key_place from ≡ key_place to → (place : ByFirst)
     → cond (is_key_of to place) (Some to) (map.get by_first m place) ≡ cond (is_key_of to place) (Some to) (cond (is_key_of from place) None (map.get by_first m place))
 moved_same m from to is place =
-    sym (inner (is_key_of to place) (Some to) None (map.get by_first m place))
+    sym (cond_within (is_key_of to place) (Some to) None (map.get by_first m place))
     ∙ ap (λ b. cond (is_key_of to place) (Some to) (cond b None (map.get by_first m place))) (ap (λ x. same_place x place) (sym is))
 
 pub moved_other : (m : map.BTreeMap ByFirst Live) (from to : Live) → same_place (key_place from) (key_place to) ≡ false → (place : ByFirst)
@@ -150,14 +139,8 @@ first_from s a r range first rest is =
 
 -- ---- the next key of a tree and a level
 
-pub tie : (x y : ℕ) → x ≡ y → nat_cmp x y ≡ Equal
-tie x y e = grind (arith, nat_tests)
-
 pub then_equal : (o p : Ordering) → o ≡ Equal → ordering_then o p ≡ p
 then_equal o p e = ap (λ x. ordering_then x p) e
-
-then_less : (o p : Ordering) → o ≡ Less → ordering_then o p ≡ Less
-then_less o p e = ap (λ x. ordering_then x p) e
 
 pub then_greater : (o p : Ordering) → o ≡ Greater → ordering_then o p ≡ Greater
 then_greater o p e = ap (λ x. ordering_then x p) e
@@ -186,7 +169,7 @@ abbrev place : ℕ → ℕ → Key → ℕ → ByFirst
 place t l k a = record { tree = t; level = l; first = k; address = a }
 
 beyond : (t l : ℕ) (k q : Key) (a b : ℕ) → key_below k q ≡ true → by_first (place t l k a) (place t l q b) ≡ Less
-beyond t l k q a b h = then_equal _ _ (tie t t refl) ∙ then_equal _ _ (tie l l refl) ∙ then_less _ _ (key_less k q h)
+beyond t l k q a b h = then_equal _ _ (equal_from t t refl) ∙ then_equal _ _ (equal_from l l refl) ∙ then_less _ _ (key_less k q h)
 
 abbrev had : map.BTreeMap ByFirst Live → ByFirst → Bool
 had m place = is_some (map.get by_first m place)
@@ -222,10 +205,10 @@ key_found m t l key top r range first rest is tree level low =
     let here : IsRangeOf by_first (Excluded (place t l key top)) Unbounded m (first ∷ rest) = subst (IsRangeOf by_first (Excluded (place t l key top)) Unbounded m) is range in
     let itself : place t l first.0.first first.0.address ≡ first.0 = λ i. record { tree = sym tree i; level = sym level i; first = first.0.first; address = first.0.address } in (
       key_after key first.0.first top first.0.address low
-          (sym (then_equal _ _ (tie t first.0.tree (sym tree)) ∙ then_equal _ _ (tie l first.0.level (sym level))) ∙ here.1.0.0),
+          (sym (then_equal _ _ (equal_from t first.0.tree (sym tree)) ∙ then_equal _ _ (equal_from l first.0.level (sym level))) ∙ here.1.0.0),
       (first.0.address, ap (had m) itself ∙ ap is_some here.1.1),
       λ a k h before.
-          let later : by_first first.0 (place t l k a) ≡ Greater = then_equal _ _ (tie first.0.tree t tree) ∙ then_equal _ _ (tie first.0.level l level) ∙ then_greater _ _ (key_greater k first.0.first before) in
+          let later : by_first first.0 (place t l k a) ≡ Greater = then_equal _ _ (equal_from first.0.tree t tree) ∙ then_equal _ _ (equal_from first.0.level l level) ∙ then_greater _ _ (key_greater k first.0.first before) in
           absent_if _ (λ is_had. sym (ap is_gt later) ∙ here.2 (place t l k a) (beyond t l key k top a h, tt) is_had),
     )
 

@@ -6,6 +6,7 @@ use Rattle.std.specs.List.{Contains, cons_option, filter_map}
 use Rattle.std.specs.List.Sorted.{IsPermutation}
 use Rattle.std.proofs.lemmas.List.{length-append, length-map}
 use Rattle.std.proofs.lemmas.List.Sorted.{length_permutation}
+use Rattle.verdict.proofs.Lists.{filter_map_less}
 use Rattle.change_records.specs.Changes.{AreChanges, Ascend, IsChange}
 use Rattle.change_records.specs.Spans.{span_of}
 use Rattle.change_records.specs.declared.changes.ItemChange.{ItemChange}
@@ -13,7 +14,7 @@ use Rattle.change_records.specs.declared.changes.ItemChange.TheVariants.{Added, 
 use Rattle.change_records.proofs.Merge.{contains_first, contains_more}
 use Rattle.live_index.specs.declared.live.Live.{Live}
 use Rattle.records.specs.Part.{Located}
-use Rattle.records.specs.declared.owned.ItemAt.{ItemAt}
+use Rattle.records.specs.declared.rec.ItemAt.{ItemAt}
 use Rattle.span_index.specs.declared.span.Span.{Span}
 use Rattle.super_reader.specs.declared.Super.{Super}
 use Rattle.tree_change.specs.Gathered.{located_item}
@@ -115,15 +116,7 @@ few_changes pair all false old new changes old_ascend new_ascend says = subst (A
 
 -- ---- only an item has a span
 
-some_less : {X Y : Type 0} (f : X → Option Y) (xs : List X) → length (filter_map f xs) ≤ length xs
-some_less f [] = omega arith
-some_less {X} {Y} f (x ∷ xs) = by (f x) (some_less f xs)
-  where
-    by : (o : Option Y) → length (filter_map f xs) ≤ length xs → length (cons_option o (filter_map f xs)) ≤ suc (length xs)
-    by None less = omega (arith, less)
-    by (Some y) less = omega (arith, less)
-
-blocks_none : (nodesize : ℕ) (blocks : List Live) (found : List Located)
+pub blocks_none : (nodesize : ℕ) (blocks : List Live) (found : List Located)
     → filter_map (span_of nodesize) (map live_record blocks ++ found) ≡ filter_map (span_of nodesize) found
 blocks_none nodesize [] found = refl
 blocks_none nodesize (live ∷ blocks) found = blocks_none nodesize blocks found
@@ -133,4 +126,4 @@ pub spans_less : (nodesize : ℕ) (sup : Super) (blocks : List Live) (found : Li
     → length (spans_of nodesize (change_records sup blocks found)) ≤ length found
 unfolding spans_of
 spans_less nodesize sup blocks found =
-    subst (λ (spans : List Span). length spans ≤ length found) (sym (blocks_none nodesize blocks found)) (some_less (span_of nodesize) found)
+    subst (λ (spans : List Span). length spans ≤ length found) (sym (blocks_none nodesize blocks found)) (filter_map_less (span_of nodesize) found)

@@ -3,8 +3,9 @@ use Rattle.std.proofs.Common.{◌≡◌, ℕ, ◌≤◌, List, length, map, subs
 use Rattle.std.specs.List.Sorted.{IsPermutation}
 use Rattle.std.proofs.lemmas.List.{length-map}
 use Rattle.std.proofs.lemmas.List.Sorted.{length_permutation}
+use Rattle.commit_laws.proofs.next_index.Flags.{ascend_items}
 use Rattle.live_index.specs.declared.live.Live.{Live}
-use Rattle.records.specs.declared.owned.ItemAt.{ItemAt}
+use Rattle.records.specs.declared.rec.ItemAt.{ItemAt}
 use Rattle.shared_trees.specs.LivePairs.{Walked, walked}
 use Rattle.shared_trees.specs.Shared.{are_read_alike, is_shared}
 use Rattle.shared_trees.specs.Unshared.{items_in}
@@ -16,8 +17,7 @@ use Rattle.write_cache.specs.Cache.{overlaid}
 use Rattle.commit_laws.specs.Commit.{came_by, gone_by}
 use Rattle.commit_laws.specs.Paired.{AllChangesLaw, PairedLaw, came_items, gone_items}
 use Rattle.commit_laws.specs.Steps.{spans_of}
-use Rattle.commit_laws.proofs.SStep.{ascend_items}
-use Rattle.commit_laws.proofs.WCommit.{ok_same}
+use Rattle.commit_laws.proofs.whole_commits.Commit.{ok_same}
 use Rattle.lookup_bounds.specs.Blocks.{BlocksCountedLaw}
 use Rattle.tree_change.specs.Accepted.{unshared_old}
 use Rattle.lookup_bounds.specs.Work.{unshared_new}

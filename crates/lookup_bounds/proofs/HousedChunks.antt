@@ -2,6 +2,7 @@
 use Rattle.std.proofs.Common.{◌≡◌, ℕ, ◌<◌, Bool, true, false, List, [], ◌∷◌, length, refl, ap, sym, ◌∙◌, subst, arith}
 use Rattle.std.specs.Prelude.{Ok, Err, if◌then◌else◌, Result}
 use Rattle.std.specs.List.{AllPairs}
+use Rattle.walk_laws.proofs.Trees.{step_ok}
 use Rattle.verdict.specs.Items.{is_multiple}
 use Rattle.verdict.specs.Rules.{and_then, finding_or}
 use Rattle.verdict.specs.declared.place.Chunk.{Chunk}
@@ -18,7 +19,6 @@ use Rattle.shared_trees.specs.LivePairs.{Walked, walked}
 use Rattle.shared_trees.specs.MergedLaw.{begins_before, chunks_seen}
 use Rattle.shared_trees.proofs.MergedLists.{map_seen}
 use Rattle.shared_trees.proofs.Premises.{chunks_apart}
-use Rattle.shared_trees.proofs.Rooted.{step_ok}
 use Rattle.shared_trees.proofs.Treed.{chunk_tree, steps_of}
 use Rattle.tree_change.proofs.Free.{chunks_ascend}
 use Rattle.tree_change.proofs.Olds.{same_ok}

@@ -3,6 +3,8 @@ use Rattle.std.proofs.Common.{◌≡◌, ℕ, ◌<◌, ◌==◌, ◌||◌, Bool,
 use Rattle.std.proofs.lemmas.Bool.{eqb-true, leb-true, lt-ltb}
 use Rattle.std.specs.Prelude.{◌≤◌, Option, Some, None, nat_le, nat_lt}
 use Rattle.std.specs.List.{filter_map}
+use Rattle.commit_laws.proofs.accepted.Blocks.{posts_range}
+use Rattle.verdict.proofs.Truth.{true_of_not, implied}
 use Rattle.verdict.specs.declared.kinds.TheConstants.{EXTENT_ITEM}
 use Rattle.extent_items.specs.ExtentRow.{ExtentFields}
 use Rattle.fs_items.specs.declared.file_extent.FileExtent.{FileExtent}
@@ -29,8 +31,8 @@ use Rattle.shared_trees.specs.Unshared.{item_seen}
 use Rattle.commit_laws.specs.Items.{items_of}
 use Rattle.commit_laws.specs.Same.{records_of}
 use Rattle.commit_laws.proofs.Elements.{Among}
-use Rattle.commit_laws.proofs.IBPostings.{IsForm, Says, all_say}
-use Rattle.commit_laws.proofs.IBSums.{all_among, among_left, among_right, at_least, counted, given, posted}
+use Rattle.commit_laws.proofs.accepted.Postings.{IsForm, Says, all_say}
+use Rattle.commit_laws.proofs.accepted.Sums.{all_among, among_left, among_right, at_least, counted, given, posted}
 
 -- ---- items among records
 
@@ -68,14 +70,6 @@ item_of_record whole one item at (inr later) = extent_in whole.seen one item at 
 
 -- ---- what rules say
 
-turned : (b : Bool) → not b ≡ false → b ≡ true
-turned true is = refl
-turned false is = absurd (cc)
-
-gives_true : (a b : Bool) → (not a || b) ≡ true → a ≡ true → b ≡ true
-gives_true true b whole is = whole
-gives_true false b whole is = absurd (cc)
-
 -- the item of an extent at an address with so many bytes
 pub record IsExtentAt (address bytes : ℕ) (one : Located) : Type 0 where
   pub item : ExtentFields
@@ -100,11 +94,6 @@ extent_at address bytes one (ExtentPart item) at is =
     data_kind k is = rw is refl
 extent_at address bytes one other at is = elim is [ ]
 
-posts_range : (tree : ℕ) (range : FileExtent) → has_extent range ≡ true
-    → Among (to (extent_form range.extent EXTENT_ITEM range.extent_length) 1 1) (extent_postings tree (FileExtentPart range))
-unfolding extent_postings
-posts_range tree range is = rw is (inr (inl refl))
-
 posts_outside : (context : Context) (tree : ℕ) (item : ExtentFields) → home_of context item.key.objectid (extent_length context item) ≡ None
     → Among (to (outside item.key.objectid) 0 1) (space_postings context tree (ExtentPart item))
 unfolding space_postings
@@ -128,14 +117,14 @@ module _ (context : Context) (records : List Located) (fine : (account : Account
 
   outside_rule : (x : ℕ) → total_of all (outside x) 0 ≡ 0
   unfolding is_broken
-  outside_rule x = eqb-true _ _ (turned (total_of all (outside x) 0 == 0) (fine (outside x)))
+  outside_rule x = eqb-true _ _ (true_of_not (total_of all (outside x) 0 == 0) (fine (outside x)))
 
   form_rule : (x kind form : ℕ) → 0 < total_of all (extent_form x kind form) 1 → 0 < total_of all (extent_form x kind form) 0
   unfolding is_broken
   form_rule x kind form some =
       let f = total_of all (extent_form x kind form) in
-      let keeps = turned (gives (nat_lt 0 (f 1)) (nat_le 1 (f 0))) (fine (extent_form x kind form)) in
-      let more : 1 ≤ f 0 = leb-true _ _ (gives_true (nat_lt 0 (f 1)) (nat_le 1 (f 0)) keeps (lt-ltb 0 (f 1) some)) in
+      let keeps = true_of_not (gives (nat_lt 0 (f 1)) (nat_le 1 (f 0))) (fine (extent_form x kind form)) in
+      let more : 1 ≤ f 0 = leb-true _ _ (implied (nat_lt 0 (f 1)) (nat_le 1 (f 0)) keeps (lt-ltb 0 (f 1) some)) in
       more
 
   -- each extent has a home

@@ -29,7 +29,7 @@ use Rattle.records.specs.SpacePostings.{space_postings}
 use Rattle.change_records.specs.Homes.{StandApart, is_kept}
 use Rattle.change_records.proofs.HomeLaws.{home_some}
 use Rattle.commit_laws.proofs.Elements.{Among}
-use Rattle.commit_laws.proofs.IBSums.{among_left, among_right}
+use Rattle.commit_laws.proofs.accepted.Sums.{among_left, among_right}
 use Rattle.lookup_bounds.specs.Work.{are_same_postings, has_named, is_same_posting, posts_otherwise}
 use Rattle.lookup_bounds.proofs.HousedHomes.{holder_some, kept_by}
 

@@ -6,6 +6,9 @@ use Rattle.std.proofs.lemmas.List.Elements.{recursion_from_All}
 use Rattle.std.proofs.lemmas.Nat.{div-add-mod', mod_below}
 use Rattle.std.specs.Prelude.{◌≤◌, ◌⊎◌, Option, Some, None, IsSome, option_map}
 use Rattle.std.specs.List.{Contains}
+use Rattle.change_records.proofs.PostingLaws.{one_span}
+use Rattle.verdict.proofs.Truth.{false_of_not, or_right}
+use Rattle.verdict.proofs.Numbers.{not_zero}
 use Rattle.verdict.specs.Chunks.{home}
 use Rattle.verdict.specs.declared.place.Chunk.{Chunk}
 use Rattle.extent_items.specs.ExtentRow.{ExtentFields}
@@ -29,12 +32,11 @@ use Rattle.change_records.specs.Homes.{StandApart, is_kept}
 use Rattle.change_records.specs.Looks.{IsHoused, LiesInExtent, home_of_span, is_empty_shown, is_gone, is_of_extent, is_reached}
 use Rattle.change_records.specs.Spans.{IsLawfulExtent, IsLawfulIn, IsLawfulRange, extent_bytes, extent_span, is_written, shown_span, span_in}
 use Rattle.change_records.specs.Spans.{span_of, sums_span}
-use Rattle.change_records.proofs.ItemLaws.{one_span}
 use Rattle.change_records.proofs.Merge.{from_one}
 use Rattle.commit_laws.specs.Items.{ItemsStand, items_of}
 use Rattle.commit_laws.specs.Same.{records_of}
 use Rattle.commit_laws.proofs.Elements.{Among}
-use Rattle.commit_laws.proofs.IBSums.{all_among}
+use Rattle.commit_laws.proofs.accepted.Sums.{all_among}
 use Rattle.lookup_bounds.specs.Work.{context_in, has_named, items_that_count, posts_otherwise, spans_in, stands_in}
 use Rattle.lookup_bounds.proofs.HousedExtents.{HasExtent, extent_home, item_of_record, range_extent, record_of_item}
 use Rattle.lookup_bounds.proofs.HousedPosts.{among_of, filter_among, flat_among, gone_otherwise, made_of, names_span, posts_sector}
@@ -77,22 +79,11 @@ written_extent range written =
     no_zero : (n : ℕ) → n ≡ 1 → not (n == 0) ≡ true
     no_zero n is = rw is refl
 
-above_zero : (n : ℕ) → not (n == 0) ≡ true → 0 < n
-above_zero n is = grind (arith, is)
-
 index_small : (x index sectors bytes : ℕ) → 0 < sectors → x + index * 4096 + sectors * 4096 ≤ x + bytes → index < bytes / 4096
 index_small x index sectors bytes some inside =
     let sum = div-add-mod' bytes 4096 in
     let low = mod_below bytes 4096 (omega arith) in
     omega (arith, some, inside, sum, low)
-
-not_false : (b : Bool) → not b ≡ true → b ≡ false
-not_false true is = absurd (cc)
-not_false false is = refl
-
-or_right : (a b : Bool) → b ≡ true → (a || b) ≡ true
-or_right true b is = refl
-or_right false b is = is
 
 module _ (whole : Walked) (stand : ItemsStand whole.sup.nodesize (items_of whole))
     (fine : (account : Account) → is_broken_by (all_postings (context_in whole) (records_of whole)) account ≡ false) where
@@ -146,7 +137,7 @@ module _ (whole : Walked) (stand : ItemsStand whole.sup.nodesize (items_of whole
   shown_around one range among at written =
       let given : is_written range ≡ true → IsLawfulRange one range = subst (IsLawfulIn n one) at (lawful_at one among) in
       let lawful = given written in
-      let some = above_zero range.extent (and_parts (range.sort == 1) (not (range.extent == 0)) written).1 in
+      let some = not_zero range.extent (and_parts (range.sort == 1) (not (range.extent == 0)) written).1 in
       let sectors : 0 < range.extent → AreSectors (range.extent + range.offset) range.length = subst IsLawful at (sound_at one among) in
       let there : (range.extent + range.offset) % 4096 ≡ 0 = eqb-true _ _ (sectors some).0 in
       let found : HasExtent (context_in whole) (records_of whole) fine range =
@@ -269,7 +260,7 @@ module _ (whole : Walked) (stand : ItemsStand whole.sup.nodesize (items_of whole
         c = chunk_of span e
 
         gone : is_kept other.chunks c.0 ≡ false
-        gone = not_false (is_kept other.chunks c.0) (subst (λ (o : Option Chunk). is_gone other.chunks o ≡ true) (e.home_is whole.chunks ∙ c.1) parts.1)
+        gone = false_of_not (is_kept other.chunks c.0) (subst (λ (o : Option Chunk). is_gone other.chunks o ≡ true) (e.home_is whole.chunks ∙ c.1) parts.1)
 
         counts : Among e.one counting
         counts =

@@ -7,6 +7,9 @@ use Rattle.std.specs.Ordering.{is_eq}
 use Rattle.std.proofs.lemmas.Bool.{and_from, and_parts, eq-eqb, eqb-true, or_left, or_right}
 use Rattle.std.proofs.lemmas.List.Elements.{Contains-append_cases}
 use Rattle.std.proofs.lemmas.List.Sums.{count_by-le-length, sum_by-append, sum_by-cons}
+use Rattle.commit_laws.proofs.named_items.Found.{all_of}
+use Rattle.verdict.proofs.Lists.{filter_map_less}
+use Rattle.verdict.proofs.Answers.{some_is}
 use Rattle.accounts.specs.declared.postings.Posting.{Posting}
 use Rattle.span_index.specs.Order.{is_same}
 use Rattle.span_index.specs.OrderLaws.{span_total}
@@ -14,9 +17,8 @@ use Rattle.span_index.specs.declared.span.Span.{Span}
 use Rattle.change_records.specs.Looks.{HaveStops, is_empty_shown, stands_for}
 use Rattle.change_records.proofs.Merge.{contains_first, contains_more, from_one}
 use Rattle.commit_laws.proofs.Elements.{Among}
-use Rattle.commit_laws.proofs.IBSums.{among_left, among_right}
-use Rattle.commit_laws.proofs.PFilters.{filter_in}
-use Rattle.commit_laws.proofs.WNamed.{each_of}
+use Rattle.commit_laws.proofs.accepted.Sums.{among_left, among_right}
+use Rattle.commit_laws.proofs.named_items.Filters.{filter_in}
 use Rattle.lookup_bounds.proofs.HousedPosts.{among_of, any_among, filter_among, flat_among}
 
 -- ---- the first of a list that passes a test
@@ -25,16 +27,13 @@ abbrev first_that : {X : Type 0} → (X → Bool) → List X → Option X
 first_that f [] = None
 first_that f (x ∷ xs) = cond (f x) (Some x) (first_that f xs)
 
-one_of : {X : Type 0} (a b : X) → Some a ≡ Some b → a ≡ b
-one_of a b is = cc
-
 no_some : {X : Type 0} (a : X) → None ≡ Some a → ⊥
 no_some a is = absurd (cc)
 
 first_here : {X : Type 0} (f : X → Bool) (x : X) (xs : List X) (y : X) (b : Bool) → f x ≡ b → cond b (Some x) (first_that f xs) ≡ Some y
     → (first_that f xs ≡ Some y → Contains xs y × (f y ≡ true)) → Contains (x ∷ xs) y × (f y ≡ true)
 first_here f x xs y true here is later =
-    let same = one_of x y is in
+    let same = some_is x y is in
     (subst (Contains (x ∷ xs)) same (contains_first x xs), subst (λ z. f z ≡ true) same here)
 first_here f x xs y false here is later = let rest = later is in (contains_more x xs y rest.0, rest.1)
 
@@ -58,20 +57,12 @@ made_here : {X Y : Type 0} (f : X → Option Y) (z : X) (xs : List X) (x : X) (y
     → (Among x xs → Among y (filter_map f xs)) → Among y (filter_map f (z ∷ xs))
 made_here f z xs x y None none (inl same) is later = absurd (no_some y (sym none ∙ (ap f same ∙ is)))
 made_here f z xs x y None none (inr rest) is later = rw none (later rest)
-made_here f z xs x y (Some w) some (inl same) is later = rw some (inl (one_of w y (sym some ∙ (ap f same ∙ is))))
+made_here f z xs x y (Some w) some (inl same) is later = rw some (inl (some_is w y (sym some ∙ (ap f same ∙ is))))
 made_here f z xs x y (Some w) some (inr rest) is later = rw some (inr (later rest))
 
 made_among : {X Y : Type 0} (f : X → Option Y) (xs : List X) (x : X) (y : Y) → Among x xs → f x ≡ Some y → Among y (filter_map f xs)
 made_among f [] x y has is = elim has [ ]
 made_among f (z ∷ xs) x y has is = made_here f z xs x y (f z) refl has is (λ rest. made_among f xs x y rest is)
-
-made_length : {X Y : Type 0} (f : X → Option Y) (xs : List X) → length (filter_map f xs) ≤ length xs
-made_length f [] = omega arith
-made_length {X} {Y} f (x ∷ xs) = by (f x) refl (made_length f xs)
-  where
-    by : (o : Option Y) → f x ≡ o → length (filter_map f xs) ≤ length xs → length (filter_map f (x ∷ xs)) ≤ length (x ∷ xs)
-    by None none rest = rw none (omega (arith, rest))
-    by (Some y) some rest = rw some (omega (arith, rest))
 
 -- of some that pass one test and a second then pass a third, no more pass the second than of all the third
 count_filtered : {X : Type 0} (q r m : X → Bool) (xs : List X) → ((x : X) → Contains xs x → q x ≡ true → r x ≡ true → m x ≡ true)
@@ -165,7 +156,7 @@ module _ (spans : List Span) (postings : List Posting) (reached met : Span → B
           (and_from _ _ is (and_from _ _ parts.0 (eq-eqb span.first found.0.first (sym (eqb-true _ _ parts.1))))))
 
   pub stops_stand : HaveStops spans stops
-  stops_stand = each_of (λ (span : Span). list_any (stands_for span) stops ≡ true) spans has_stop
+  stops_stand = all_of (λ (span : Span). list_any (stands_for span) stops ≡ true) spans has_stop
 
   pub stops_few : count_by reached stops ≤ count_by met spans + 2 * length postings
   stops_few =
@@ -173,7 +164,7 @@ module _ (spans : List Span) (postings : List Posting) (reached met : Span → B
       sum_by-append (λ (span : Span). cond (reached span) 1 0) (filter stays spans) (filter_map empty_at (places postings)) in
       let first = count_filtered stays reached met spans each in
       let second = count_by-le-length reached (filter_map empty_at (places postings)) in
-      let made = made_length empty_at (places postings) in
+      let made = filter_map_less empty_at (places postings) in
       let twice = places_length postings in
       omega (arith, both, first, second, made, twice)
     where

@@ -5,6 +5,7 @@ use Rattle.std.specs.List.{Contains, count_by}
 use Rattle.std.proofs.lemmas.Bool.{and_parts, or_cases, or_left, or_right}
 use Rattle.std.specs.Ordering.{nat_cmp}
 use Rattle.std.specs.FinMap.{FinMap}
+use Rattle.commit_laws.proofs.named_items.Found.{all_of as each_of}
 use Rattle.verdict.specs.declared.place.Chunk.{Chunk}
 use Rattle.span_index.specs.declared.span.Span.{Span}
 use Rattle.change_records.specs.Homes.{StandApart}
@@ -20,7 +21,7 @@ use Rattle.commit_laws.specs.Commit.{Commit, Known}
 use Rattle.commit_laws.specs.Items.{ItemsLaw, ItemsStand, items_of}
 use Rattle.commit_laws.specs.Same.{HeldLaw, records_of}
 use Rattle.commit_laws.specs.Steps.{spans_of}
-use Rattle.commit_laws.proofs.WNamed.{each_of, times_are}
+use Rattle.commit_laws.proofs.whole_commits.Named.{times_are}
 use Rattle.lookup_bounds.specs.Housed.{AreSpansHoused, HousedLaw}
 use Rattle.lookup_bounds.specs.Postings.{IsPassage}
 use Rattle.tree_change.specs.Accepted.{unshared_old}

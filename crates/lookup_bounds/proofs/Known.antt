@@ -11,9 +11,9 @@ use Rattle.volume_items.specs.declared.root.RootItem.{RootItem}
 use Rattle.commit_laws.specs.Commit.{IsKnown, Known, context_by}
 use Rattle.commit_laws.specs.Same.{HeldLaw, records_of}
 use Rattle.commit_laws.specs.Steps.{spans_of}
-use Rattle.commit_laws.proofs.WCommit.{known_same}
-use Rattle.commit_laws.proofs.WStep.{known_at}
-use Rattle.commit_laws.proofs.WCommit.{full_of, no_fault, none_broken, same_fault}
+use Rattle.commit_laws.proofs.whole_commits.Commit.{known_same}
+use Rattle.commit_laws.proofs.whole_commits.Step.{known_at}
+use Rattle.commit_laws.proofs.whole_commits.Commit.{full_of, no_fault, none_broken, same_fault}
 use Rattle.lookup_bounds.specs.Work.{context_in}
 
 -- What is known of an image is what its walks come to, and no account of it is broken.

@@ -5,6 +5,7 @@ use Rattle.std.specs.List.{Contains, filter_map}
 use Rattle.std.proofs.lemmas.Bool.{eqb-true}
 use Rattle.std.proofs.lemmas.List.Elements.{Contains-append_cases}
 use Rattle.std.proofs.lemmas.Nat.{div-add-mod'}
+use Rattle.change_records.proofs.PostingLaws.{one_span}
 use Rattle.verdict.specs.declared.kinds.TheConstants.{EXTENT_DATA, EXTENT_ITEM}
 use Rattle.extent_items.specs.ExtentRow.{ExtentFields}
 use Rattle.fs_items.specs.declared.file_extent.FileExtent.{FileExtent}
@@ -17,7 +18,7 @@ use Rattle.records.specs.Contents.{super_record}
 use Rattle.records.specs.Part.{Located, Part}
 use Rattle.records.specs.Part.Part.{ExtentPart, FileExtentPart, SumsPart}
 use Rattle.records.specs.SpacePostings.{is_data, space_postings}
-use Rattle.records.specs.declared.owned.ItemAt.{ItemAt}
+use Rattle.records.specs.declared.rec.ItemAt.{ItemAt}
 use Rattle.change_records.specs.Affected.{NamesIn}
 use Rattle.change_records.specs.Refs.{ref_to}
 use Rattle.change_records.specs.Search.{SortNames, SpanNames}
@@ -27,16 +28,15 @@ use Rattle.change_records.specs.declared.changes.ItemChange.{ItemChange}
 use Rattle.change_records.specs.declared.changes.ItemChange.TheVariants.{Added, Altered, Removed}
 use Rattle.change_records.specs.declared.item_ref.ItemRef.{ItemRef}
 use Rattle.change_records.proofs.AffectedLaws.{extent_back, extent_to, written_back, written_to}
-use Rattle.change_records.proofs.ItemLaws.{one_span}
 use Rattle.change_records.proofs.Merge.{contains_first, contains_more, contains_none, from_one}
 use Rattle.tree_change.specs.Gathered.{located_item}
 use Rattle.super_reader.specs.declared.Super.{Super}
 use Rattle.commit_laws.specs.Paired.{came_items, came_of, gone_items, gone_of}
 use Rattle.commit_laws.specs.Same.{live_record}
 use Rattle.commit_laws.specs.Steps.{change_records}
-use Rattle.commit_laws.proofs.PAlike.{contains_cases}
-use Rattle.commit_laws.proofs.PNamed.{has_at}
-use Rattle.commit_laws.proofs.WNamed.{map_in}
+use Rattle.commit_laws.proofs.named_items.Alike.{contains_cases}
+use Rattle.commit_laws.proofs.named_items.Named.{has_at}
+use Rattle.commit_laws.proofs.whole_commits.Named.{map_in}
 
 -- ---- the name of an item and that of its span
 

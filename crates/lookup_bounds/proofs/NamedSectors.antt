@@ -4,6 +4,8 @@ use Rattle.std.specs.Prelude.{Option, Some, None, is_some, nat_lt}
 use Rattle.std.specs.List.{Contains}
 use Rattle.std.proofs.lemmas.Bool.{and_from, eq-eqb}
 use Rattle.std.proofs.lemmas.Bool.Decides.{nat_tests}
+use Rattle.change_records.proofs.PostingLaws.{one_span}
+use Rattle.verdict.proofs.Numbers.{whole_sectors}
 use Rattle.extent_items.specs.ExtentRow.{ExtentFields}
 use Rattle.fs_items.specs.declared.file_extent.FileExtent.{FileExtent}
 use Rattle.accounts.specs.Context.{Context, home_of}
@@ -25,10 +27,9 @@ use Rattle.records.specs.Post.{to}
 use Rattle.records.specs.Postings.{all_postings, postings_of}
 use Rattle.records.specs.SpacePostings.{extent_length, is_data, is_to_sector, place_postings, shown_postings, space_postings}
 use Rattle.change_records.specs.Spans.{IsLawfulIn, extent_bytes, extent_span, is_written, shown_span, span_in, span_of, sums_span}
-use Rattle.change_records.proofs.ItemLaws.{one_span}
 use Rattle.commit_laws.proofs.Elements.{Among}
-use Rattle.commit_laws.proofs.ESectors.{adds_in, record_adds}
-use Rattle.commit_laws.proofs.IBSums.{Posted, posted}
+use Rattle.commit_laws.proofs.at_sectors.Posted.{adds_in, record_adds, is_below}
+use Rattle.commit_laws.proofs.accepted.Sums.{Posted, posted}
 use Rattle.lookup_bounds.specs.Named.{names_sector}
 use Rattle.lookup_bounds.proofs.HousedPosts.{among_of, any_among, flat_among}
 
@@ -91,17 +92,11 @@ no_home : (o : Option Home) → is_some o ≡ false → o ≡ None
 no_home None is = refl
 no_home (Some home) is = absurd (cc)
 
-whole_bytes : (n : ℕ) → n % 4096 ≡ 0 → n / 4096 * 4096 ≡ n
-whole_bytes n whole = omega (arith, whole)
-
-is_below : (n : ℕ) → n < 18446744073709551616 → nat_lt n 18446744073709551616 ≡ true
-is_below n less = grind (arith, nat_tests)
-
 -- an extent counts where it has a home
 extent_counts : (context : Context) (of_data : Bool) (first bytes : ℕ) → bytes % 4096 ≡ 0 → first + bytes < 18446744073709551616
     → counts context (record { first = first; sectors = bytes / 4096; sort = Owned of_data }) (Owned of_data) ≡ is_some (home_of context first bytes)
 extent_counts context of_data first bytes whole fits =
-    let same = whole_bytes bytes whole in
+    let same = whole_sectors bytes whole in
     let less : bytes < 18446744073709551616 = omega (arith, fits) in
     (λ i. nat_lt (same i) 18446744073709551616 && is_some (home_of context first (same i)))
     ∙ (λ i. is_below bytes less i && is_some (home_of context first bytes))

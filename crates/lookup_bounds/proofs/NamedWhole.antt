@@ -7,6 +7,7 @@ use Rattle.std.specs.FinMap.{FinMap}
 use Rattle.std.proofs.Math.Path.{fun_ext}
 use Rattle.std.proofs.lemmas.List.Elements.{All-contains}
 use Rattle.std.proofs.lemmas.List.Sorted.{Contains-permutation, IsPermutation-sym}
+use Rattle.commit_laws.proofs.next_index.Flags.{ascend_items}
 use Rattle.accounts.specs.Context.{Context}
 use Rattle.accounts.specs.declared.postings.Posting.{Posting}
 use Rattle.live_index.specs.declared.live.Live.{Live}
@@ -45,13 +46,12 @@ use Rattle.commit_laws.specs.Items.{ItemsLaw, ItemsStand, items_of}
 use Rattle.commit_laws.specs.Paired.{ArePaired, PairedLaw, SayChanges, came_items, gone_items, name_of}
 use Rattle.commit_laws.specs.Same.{HeldLaw, records_of}
 use Rattle.commit_laws.specs.Steps.{spans_of}
-use Rattle.commit_laws.proofs.IBSums.{among_left, among_right}
-use Rattle.commit_laws.proofs.PFilters.{filter_in}
-use Rattle.commit_laws.proofs.PFound.{one_alone}
-use Rattle.commit_laws.proofs.SRecords.{HoldApart, hold_apart}
-use Rattle.commit_laws.proofs.SStep.{ascend_items}
-use Rattle.commit_laws.proofs.WCommit.{ok_same}
-use Rattle.commit_laws.proofs.WNamed.{times_are}
+use Rattle.commit_laws.proofs.accepted.Sums.{among_left, among_right}
+use Rattle.commit_laws.proofs.named_items.Filters.{filter_in}
+use Rattle.commit_laws.proofs.named_items.Found.{one_alone}
+use Rattle.commit_laws.proofs.steps_between.Records.{HoldApart, hold_apart}
+use Rattle.commit_laws.proofs.whole_commits.Commit.{ok_same}
+use Rattle.commit_laws.proofs.whole_commits.Named.{times_are}
 use Rattle.lookup_bounds.specs.Named.{AreSectorsNamed, NamedLaw, is_named_sector}
 use Rattle.lookup_bounds.specs.Postings.{IsPassage}
 use Rattle.tree_change.specs.Accepted.{unshared_old}

@@ -10,9 +10,9 @@ use Rattle.change_records.proofs.Merge.{contains_first, contains_more, contains_
 use Rattle.records.specs.Part.{Located}
 use Rattle.tree_change.proofs.Unordered.{permuted_pairs}
 use Rattle.commit_laws.specs.Paired.{anywhere}
-use Rattle.commit_laws.proofs.PAlike.{contains_cases, pairs_cons, pairs_head, pairs_tail}
-use Rattle.commit_laws.proofs.PFound.{apart_turns}
-use Rattle.commit_laws.proofs.SFlat.{flat_permuted}
+use Rattle.commit_laws.proofs.named_items.Alike.{contains_cases, pairs_cons, pairs_head, pairs_tail}
+use Rattle.commit_laws.proofs.named_items.Found.{apart_turns}
+use Rattle.commit_laws.proofs.steps_between.Flat.{flat_permuted}
 
 -- ---- members
 

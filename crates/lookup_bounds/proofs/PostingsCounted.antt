@@ -29,9 +29,9 @@ use Rattle.commit_laws.specs.Items.{items_of}
 use Rattle.commit_laws.specs.Kept.{placed_postings}
 use Rattle.commit_laws.specs.Same.{live_record}
 use Rattle.commit_laws.specs.Steps.{all_posts, change_records, posts_of, step_posts}
-use Rattle.commit_laws.proofs.PFilters.{filter_in, in_filter}
-use Rattle.commit_laws.proofs.SFlat.{flat_append}
-use Rattle.commit_laws.proofs.SPostings.{left_posts, rest_posts}
+use Rattle.commit_laws.proofs.named_items.Filters.{filter_in, in_filter}
+use Rattle.commit_laws.proofs.steps_between.Flat.{flat_append}
+use Rattle.commit_laws.proofs.steps_between.Postings.{left_posts, rest_posts}
 use Rattle.lookup_bounds.specs.Work.{are_same_postings, items_that_count, posts_otherwise, stands_in}
 use Rattle.lookup_bounds.proofs.HousedPosts.{same_lists}
 use Rattle.lookup_bounds.proofs.PostingsApart.{no_more}
@@ -84,7 +84,7 @@ module _ (before after : Context) (lives : List Live) (whole : Walked) where
 
 -- ---- how much records post
 
-filter_less : {X : Type 0} (p : X → Bool) (xs : List X) → length (filter p xs) ≤ length xs
+pub filter_less : {X : Type 0} (p : X → Bool) (xs : List X) → length (filter p xs) ≤ length xs
 filter_less p [] = omega arith
 filter_less {X} p (x ∷ xs) = by (p x) (filter_less p xs)
   where
@@ -93,7 +93,7 @@ filter_less {X} p (x ∷ xs) = by (p x) (filter_less p xs)
     by false less = omega (arith, less)
 
 -- what is posted but to sectors is no more than all, and what the context decides is no more than that
-posts_less : (context : Context) (one : Located) → length (posts_of context one) ≤ length (postings_of context one)
+pub posts_less : (context : Context) (one : Located) → length (posts_of context one) ≤ length (postings_of context one)
 posts_less context one =
     subst (λ ps. length ps ≤ length (postings_of context one)) (left_posts context one)
     (filter_less (λ posting. not (is_to_sector posting)) (postings_of context one))

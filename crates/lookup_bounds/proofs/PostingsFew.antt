@@ -10,6 +10,7 @@ use Rattle.std.proofs.lemmas.Bool.{not-true}
 use Rattle.std.proofs.lemmas.List.{append-nil, length-map}
 use Rattle.std.proofs.lemmas.List.Elements.{All-contains, Contains-append_cases, Contains-append_left, Contains-append_right, recursion_from_All}
 use Rattle.std.proofs.lemmas.List.Sorted.{Contains-permutation, IsPermutation-sym}
+use Rattle.commit_laws.proofs.next_index.Flags.{ascend_items}
 use Rattle.accounts.specs.Context.{Context}
 use Rattle.change_records.specs.Affected.{AreAffected, context_with}
 use Rattle.change_records.specs.Changes.{AreChanges}
@@ -43,16 +44,15 @@ use Rattle.commit_laws.specs.Kept.{AreFound, FoundLaw, kept_items, placed_postin
 use Rattle.commit_laws.specs.Paired.{AllChangesLaw, ArePaired, PairedLaw, SayChanges, anywhere, came_items, gone_items, name_of}
 use Rattle.commit_laws.specs.Same.{HeldLaw, records_of}
 use Rattle.commit_laws.specs.Steps.{change_records, step_posts}
-use Rattle.commit_laws.proofs.PAlike.{contains_cases}
-use Rattle.commit_laws.proofs.PFilters.{filter_in, pairs_filter}
-use Rattle.commit_laws.proofs.PFound.{one_alone}
-use Rattle.commit_laws.proofs.SFlat.{flat_alike}
-use Rattle.commit_laws.proofs.SPostings.{placed_rests, rest_posts}
-use Rattle.commit_laws.proofs.SRecords.{HoldApart, hold_apart}
-use Rattle.commit_laws.proofs.SStep.{ascend_items}
-use Rattle.commit_laws.proofs.WCommit.{known_same, ok_same}
-use Rattle.commit_laws.proofs.WNamed.{each_of, map_in, times_are}
-use Rattle.commit_laws.proofs.WStep.{Between, commit_at, context_at, known_at}
+use Rattle.commit_laws.proofs.named_items.Alike.{contains_cases}
+use Rattle.commit_laws.proofs.named_items.Filters.{filter_in, pairs_filter}
+use Rattle.commit_laws.proofs.named_items.Found.{one_alone, all_of}
+use Rattle.commit_laws.proofs.steps_between.Flat.{flat_alike}
+use Rattle.commit_laws.proofs.steps_between.Postings.{placed_rests, rest_posts}
+use Rattle.commit_laws.proofs.steps_between.Records.{HoldApart, hold_apart}
+use Rattle.commit_laws.proofs.whole_commits.Commit.{known_same, ok_same}
+use Rattle.commit_laws.proofs.whole_commits.Named.{map_in, times_are}
+use Rattle.commit_laws.proofs.whole_commits.Step.{Between, commit_at, context_at, known_at}
 use Rattle.lookup_bounds.specs.Postings.{ArePostingsFew, PostingsLaw}
 use Rattle.tree_change.specs.Accepted.{unshared_old}
 use Rattle.lookup_bounds.specs.Work.{items_that_count, new_postings, old_postings, stands_in, unshared_new}
@@ -261,7 +261,7 @@ module _ (laws : PostingLaws) (image : List ℕ) (pending : FinMap nat_cmp ℕ) 
     found_are : AreFound (context_at old) later (kept_items named (items_of old)) c.refs
     found_are =
         laws.found pairs old.chunks new.chunks old.sup.nodesize (has_sum_free (records_of old)) (has_sum_free (records_of new)) named
-        (items_of old) c.refs old_stand (each_of (HasOwnName pairs) (items_of old) own_of) are
+        (items_of old) c.refs old_stand (all_of (HasOwnName pairs) (items_of old) own_of) are
 
     paired : ArePaired named old_changed new_changed gone came
     paired =

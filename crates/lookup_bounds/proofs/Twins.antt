@@ -11,7 +11,7 @@ use Rattle.shared_trees.specs.LivePairs.{Walked}
 use Rattle.shared_trees.specs.Unshared.{items_in}
 use Rattle.commit_laws.specs.Items.{items_of}
 use Rattle.commit_laws.specs.Paired.{ArePaired, anywhere, name_of}
-use Rattle.commit_laws.proofs.SRecords.{HoldApart}
+use Rattle.commit_laws.proofs.steps_between.Records.{HoldApart}
 use Rattle.lookup_bounds.proofs.PostingsApart.{its_like}
 use Rattle.lookup_bounds.proofs.PostingsCounted.{among_items}
 

@@ -11,10 +11,6 @@ use Rattle.node_reader.specs.declared.expect.Expect.{Expect}
 pub block_read : (bytes fsid : List ℕ) (e : Expect) (block : List ℕ) → block_of bytes fsid e ≡ Ok block → (block_fault bytes fsid e ≡ None) × (block ≡ bytes)
 block_read bytes fsid e block is = finding_or-ok (block_fault bytes fsid e) bytes block is
 
--- a block that is not read has the finding of the first rule that it breaks
-pub block_refused : (bytes fsid : List ℕ) (e : Expect) (finding : Finding) → block_of bytes fsid e ≡ Err finding → block_fault bytes fsid e ≡ Some finding
-block_refused bytes fsid e finding is = finding_or-err (block_fault bytes fsid e) bytes finding is
-
 each_of_some : {A : Type 0} (entry : ℕ → A) (at n : ℕ) → each_from entry at (suc n) ≡ entry at ∷ each_from entry (suc at) n
 unfolding each_from
 each_of_some entry at n = refl
@@ -40,20 +36,6 @@ pub each_left_none : {A : Type 0} (entry : ℕ → A) (at end : ℕ) → end ≤
 each_left_none entry at end past =
     let left : end - at ≡ zero = omega arith in
     ap (each_from entry at) left ∙ each_of_none entry at
-
--- what is left behind the first i of a list of all is what stands from place i on
-pub drop_each : {A : Type 0} (entry : ℕ → A) (i at n : ℕ) → drop i (each_from entry at n) ≡ each_from entry (at + i) (n - i)
-drop_each entry zero at n =
-    let start : at + 0 ≡ at = omega arith in
-    let all : n - 0 ≡ n = omega arith in
-    rw (start, all) refl
-drop_each entry (suc i) at zero =
-    let none : 0 - suc i ≡ zero = omega arith in
-    rw (none, each_of_none entry at, each_of_none entry (at + suc i)) refl
-drop_each entry (suc i) at (suc n) =
-    let start : at + suc i ≡ suc at + i = omega arith in
-    let rest : suc n - suc i ≡ n - i = omega arith in
-    rw (each_of_some entry at n, start, rest) (drop_each entry i (suc at) n)
 
 -- what stands at a place of the list
 pub get_each : {A : Type 0} (entry : ℕ → A) (i at n : ℕ) (default : A) → i < n → get_or (each_from entry at n) i default ≡ entry (at + i)

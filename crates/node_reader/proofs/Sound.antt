@@ -2,6 +2,9 @@
 use Rattle.std.proofs.Common.{◌≡◌, ℕ, zero, suc, ◌+◌, ◌-◌, ◌*◌, ◌<◌, ◌≤◌, List, ◌++◌, length, Bool, true, false, not, cond, refl, sym, subst, ◌∙◌, arith, nat_lt}
 use Rattle.std.proofs.lemmas.Grind.{common_steps}
 use Rattle.std.specs.Prelude.{Option, Some, None, is_some, ◌==◌, ◌||◌, ◌&&◌, if◌then◌else◌}
+use Rattle.verdict.proofs.Answers.{none_is as none_of}
+use Rattle.verdict.proofs.Truth.{neither}
+use Rattle.verdict.proofs.Numbers.{same_of_not, at_least}
 use Rattle.verdict.specs.Rules.{first_failing}
 use Rattle.node_reader.specs.Places.{least_from}
 use Rattle.node_reader.specs.Layout.{count_of, level_of, entry_size, item_offset, item_size, IsSound}
@@ -10,29 +13,15 @@ use Rattle.node_reader.specs.declared.expect.Expect.{Expect}
 use Rattle.verdict.proofs.Tables.{first_failing_joined, joined_none, kept_at}
 use Rattle.node_reader.proofs.Steps.{least_of_some, misplaced_is, room_fits}
 
-same_of_not : (a b : ℕ) → not (a == b) ≡ false → a ≡ b
-same_of_not a b is = grind (arith, common_steps)
-
-no_less : (a b : ℕ) → nat_lt a b ≡ false → b ≤ a
-no_less a b is = grind (arith, common_steps)
-
-neither : (a b : Bool) → (a || b) ≡ false → (a ≡ false) × (b ≡ false)
-neither true b is = cc
-neither false b is = (refl, is)
-
 not_both : (n : ℕ) (needs : Bool) → (n == 0 && needs) ≡ false → needs ≡ true → 0 < n
 not_both n needs is holds = grind (arith, common_steps)
-
-none_of : {A : Type 0} (found : Option A) → is_some found ≡ false → found ≡ None
-none_of None is = refl
-none_of (Some x) is = cc
 
 -- where the number of entries is lawful, they lie inside
 pub count_fits : (bytes : List ℕ) (e : Expect) → 101 ≤ length bytes → first_failing (count_rules bytes e) ≡ None → 101 + entry_size e.level * count_of bytes ≤ length bytes
 unfolding count_rules
 count_fits bytes e header kept =
     let tests : (nat_lt (room_of bytes e.level) (count_of bytes) || (count_of bytes == 0 && needs_entry e)) ≡ false = kept_at 0 (count_rules bytes e) kept in
-    let few : count_of bytes ≤ room_of bytes e.level = no_less (room_of bytes e.level) (count_of bytes) (neither (nat_lt (room_of bytes e.level) (count_of bytes)) (count_of bytes == 0 && needs_entry e) tests).0 in
+    let few : count_of bytes ≤ room_of bytes e.level = at_least (room_of bytes e.level) (count_of bytes) (neither (nat_lt (room_of bytes e.level) (count_of bytes)) (count_of bytes == 0 && needs_entry e) tests).0 in
     let fits : entry_size e.level * count_of bytes ≤ length bytes - 101 = room_fits (entry_size e.level) (count_of bytes) (length bytes - 101) few in
     omega arith
 

@@ -15,7 +15,7 @@ use Rattle.plain_check.specs.Kept.{kept_seen, with_kept}
 use Rattle.plain_check.specs.declared.kept.KeptRecord.{KeptRecord}
 
 -- each makes its own
-both_fold : {A B : Type 0} (first : A → Seen → A) (second : B → Seen → B) (a : A) (b : B) (records : List Seen)
+pub both_fold : {A B : Type 0} (first : A → Seen → A) (second : B → Seen → B) (a : A) (b : B) (records : List Seen)
     → fold (with_both first second) (a, b) records ≡ (fold first a records, fold second b records)
 both_fold first second a b [] = refl
 both_fold first second a b (one ∷ records) = both_fold first second (first a one) (second b one) records
@@ -44,14 +44,6 @@ behind_none : (records : Records) → behind [] records ≡ records
 unfolding behind
 behind_none (Err finding) = refl
 behind_none (Ok records) = refl
-
--- what the first made of the records of an image
-pub first_told : {A B : Type 0} (told : Option (List ℕ)) (m : FinMap nat_cmp ℕ) (first : A → Seen → A) (second : B → Seen → B) (a : A) (b : B) (records : List ℕ → Records) (made : Result (A × B) Finding)
-    → IfSome told (λ image. held_after (with_both first second) (a, b) (records (overlaid m 0 image)) ≡ made)
-    → IfSome told (λ image. held_after first a (records (overlaid m 0 image)) ≡ and_then {A = A × B} {B = A} made (λ both. Ok both.0))
-first_told None m first second a b records made is = tt
-first_told (Some image) m first second a b records made is =
-    first_held first second a b (records (overlaid m 0 image)) ∙ ap (λ r. and_then r (λ both. Ok both.0)) is
 
 -- what the second kept of them
 pub second_told : {A : Type 0} (told : Option (List ℕ)) (m : FinMap nat_cmp ℕ) (first : A → Seen → A) (a : A) (kept : List Seen) (records : List ℕ → Records) (made : Result (A × List Seen) Finding)

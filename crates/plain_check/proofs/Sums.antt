@@ -21,7 +21,7 @@ use Rattle.plain_check.specs.Opened.{Opened, named_records, volume_records}
 use Rattle.plain_check.specs.OpeningLaw.{contents_with}
 
 -- what is made of what accounts see is made of these alone
-fold_accounted : {H : Type 0} (with : H → Located → H) (held : H) (records : List Seen) → fold (with_accounted with) held records ≡ fold with held (filter_map accounted records)
+pub fold_accounted : {H : Type 0} (with : H → Located → H) (held : H) (records : List Seen) → fold (with_accounted with) held records ≡ fold with held (filter_map accounted records)
 fold_accounted with held [] = refl
 fold_accounted with held (BlockSeen block ∷ records) = fold_accounted with _ records
 fold_accounted with held (PointerSeen pointer ∷ records) = fold_accounted with held records

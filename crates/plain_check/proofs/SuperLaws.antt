@@ -3,6 +3,7 @@ use Rattle.std.proofs.Common.{◌≡◌, ℕ, ◌<◌, ◌≤◌, true, false, L
 use Rattle.std.specs.Ordering.{nat_cmp}
 use Rattle.std.specs.FinMap.{FinMap}
 use Rattle.std.specs.Prelude.{IfSome, Result}
+use Rattle.verdict.proofs.Numbers.{not_below}
 use Rattle.verdict.specs.Image.{range}
 use Rattle.verdict.specs.Rules.{image_finding}
 use Rattle.verdict.specs.declared.finding.Family.TheVariants.{S}
@@ -16,16 +17,13 @@ use Rattle.records.specs.Contents.{superblock_in}
 less : (m n : ℕ) → m < n → nat_lt m n ≡ true
 less m n h = grind arith
 
-no_less : (m n : ℕ) → n ≤ m → nat_lt m n ≡ false
-no_less m n h = grind arith
-
 in_short : (image : List ℕ) → length image < 69632 → superblock_in image ≡ Err (image_finding S 1 (length image))
 unfolding superblock_in
 in_short image short = rw (less (length image) 69632 short) refl
 
 in_long : (image : List ℕ) → 69632 ≤ length image → superblock_in image ≡ superblock_of (range 65536 4096 image)
 unfolding superblock_in
-in_long image long = rw (no_less (length image) 69632 long) refl
+in_long image long = rw (not_below (length image) 69632 long) refl
 
 -- the finding of an image that is too short for a superblock
 pub superblock_short : (told : Option (List ℕ)) (m : FinMap nat_cmp ℕ) (len end : ℕ) (finding : Finding)

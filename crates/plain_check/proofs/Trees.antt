@@ -90,7 +90,7 @@ roots_passed (Some image) m sup chunks e none before roots said kept done p r is
     roots_made m sup chunks e none before roots said kept (overlaid m 0 image) p r is same
     ∙ ap (λ (r : Result (Unit {0}) Finding). and_then {A = Unit {0}} {B = List RootItem} r (λ _. Ok roots)) keep
 
-halted_told : (told : Option (List ℕ)) → IfSome told (λ _. Unit {0})
+pub halted_told : (told : Option (List ℕ)) → IfSome told (λ _. Unit {0})
 halted_told None = tt
 halted_told (Some image) = tt
 

@@ -1,10 +1,10 @@
 -- Records that are kept of walks.
 use Rattle.std.specs.Prelude.{List, [], ◌∷◌, ◌++◌}
-use Rattle.records.specs.Owned.{owned_part}
+use Rattle.records.specs.Part.{owned_part}
 use Rattle.records.specs.Part.{Located}
 use Rattle.records.specs.Seen.{Seen}
 use Rattle.records.specs.Seen.Seen.{BlockSeen, PointerSeen, ItemSeen}
-use Rattle.records.specs.declared.owned.ItemAt.{ItemAt}
+use Rattle.records.specs.declared.rec.ItemAt.{ItemAt}
 use Rattle.plain_check.specs.declared.kept.KeptRecord.{KeptRecord}
 use Rattle.plain_check.specs.declared.kept.KeptRecord.TheVariants.{Block, Pointer, Item}
 

@@ -1,4 +1,4 @@
-//! The full check of an image, plain and slow: the disk's bytes with the pending writes over them.
+//! The full check of an image from its first block to its last, without an index: the disk's bytes with the pending writes over them.
 #![tactic(auto)]
 
 mod check;

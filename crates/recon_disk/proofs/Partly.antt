@@ -2,13 +2,10 @@
 use Rattle.std.proofs.Common.{◌≡◌, ℕ, ◌+◌, ◌≤◌, ◌⊎◌, inl, inr, List, [], length, take, ap, arith}
 use Rattle.std.proofs.lemmas.Grind.{common_steps}
 use Rattle.std.proofs.lemmas.List.{take_all, length-take-le, take-append-drop}
+use Rattle.recon_disk.proofs.Sending.{written-nil}
 use Rattle.verdict.specs.Image.{written}
 use Rattle.verdict.proofs.Images.{length-written, take-written, drop-written}
 use Rattle.recon_disk.specs.Outside.{IsPartlyWritten}
-
-written-nil : (image : List ℕ) (at : ℕ) → written image at [] ≡ image
-unfolding written
-written-nil image at = grind (arith, common_steps, take-append-drop at image)
 
 whole_or_none : (image bytes : List ℕ) (at keep : ℕ) → (keep ≡ 0) ⊎ (keep ≡ 4096) → length bytes ≡ 4096
     → (written image at (take keep bytes) ≡ image) ⊎ (written image at (take keep bytes) ≡ written image at bytes)

@@ -5,6 +5,7 @@ use Rattle.std.proofs.Math.Nat.{add-div_right, div-eq_of_lt}
 use Rattle.std.proofs.lemmas.Bool.{cases_lt}
 use Rattle.std.proofs.lemmas.Grind.{common_steps}
 use Rattle.std.proofs.lemmas.List.{append-nil, append_assoc, drop-drop, take_all, ext_get_or, length-take, length-drop, length-take-le, get_or-take, get_or-drop, take-append-drop}
+use Rattle.verdict.proofs.Answers.{on_err}
 use Rattle.verdict.specs.Image.{written}
 use Rattle.verdict.proofs.Images.{length-written, get-written_in, get-written_before, get-written_behind}
 use Rattle.recon_disk.specs.declared.disk.Disk.{Ghosts}
@@ -58,10 +59,6 @@ written-more image bytes at done n fits few =
 pub if_ok : {T E P : Type 0} (r : Result T E) → P → OnOk r P
 if_ok (Ok x) p = p
 if_ok (Err e) p = tt
-
-pub if_err : {T E P : Type 0} (r : Result T E) → P → OnErr r P
-if_err (Ok x) p = tt
-if_err (Err e) p = p
 
 -- a step that stops at a failed call
 pub sends_err : {D T E : Type 0} (disk : Ghosts D) (old new : D) (r : Result T E) (makes : List ℕ → List ℕ) (leaves : List ℕ → List ℕ → Type 0) → IsErr r

@@ -2,6 +2,7 @@
 use Rattle.std.proofs.Common.{◌≡◌, ℕ, ◌+◌, ◌-◌, ◌<◌, ◌≤◌, inl, inr, Bool, true, false, nat_eq, ◌&&◌, List, [], ◌∷◌, ◌++◌, length, take, drop, Option, Some, None, refl, sym, ap, ◌∙◌, arith, subst}
 use Rattle.std.proofs.lemmas.Bool.{cases_Bool, eqb-true}
 use Rattle.std.proofs.lemmas.List.{length-take, length-drop}
+use Rattle.verdict.proofs.Truth.{and_parts}
 use Rattle.recon_disk.specs.Stops.{Unflushed, Moment, unflushed, with_write, with_writes, and_wrote, EachIs, LiesIn, HasWritten}
 
 pub with_writes-then : (ms : List Moment) (a b : List Unflushed) → with_writes ms (a ++ b) ≡ with_writes (with_writes ms a) b
@@ -41,13 +42,9 @@ pub written_wider : (Is Also : Unflushed → Type 0) (o now : Option (List Momen
 written_wider Is Also None now h x = x
 written_wider Is Also (Some ms) now h x = (x.0, each-wider Is Also x.0 h x.1, x.2)
 
--- what a test of the place says
-pub both_true : (a b : Bool) → (a && b) ≡ true → (a ≡ true) × (b ≡ true)
-both_true = elim [ true ↦ λ b e. (refl, e) | false ↦ λ b e. absurd (cc) ]
-
 pub place_is : (from n : ℕ) → (nat_eq from 65536 && nat_eq n 4096) ≡ true → (from ≡ 65536) × (n ≡ 4096)
 place_is from n same =
-    let both : (nat_eq from 65536 ≡ true) × (nat_eq n 4096 ≡ true) = both_true (nat_eq from 65536) (nat_eq n 4096) same in
+    let both : (nat_eq from 65536 ≡ true) × (nat_eq n 4096 ≡ true) = and_parts (nat_eq from 65536) (nat_eq n 4096) same in
     (eqb-true from 65536 both.0, eqb-true n 4096 both.1)
 
 -- a write lies in a range that has its own

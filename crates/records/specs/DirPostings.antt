@@ -8,6 +8,7 @@ use Rattle.fs_items.specs.InodeRefRow.{NameFields, InodeRefFields}
 use Rattle.fs_items.specs.DirRow.{EntryFields}
 use Rattle.accounts.specs.declared.postings.Posting.{Posting}
 use Rattle.accounts.specs.Kinds.{name_entry, link, subvolume_entry, subvolume_pair, subvolume}
+use Rattle.accounts.specs.declared.sum.TheConstants.{ENTRIES_BY_HASH, ENTRIES_BY_INDEX, LINK_ENTRIES, LINK_NAMES, SUBVOLUME_REFS, SUBVOLUME_ENTRIES, FROM_PARENT, FROM_CHILD, ROOT_REFS_SAID, ROOT_REFS_FOUND}
 use Rattle.records.specs.Post.{to}
 use Rattle.records.specs.Part.{Part}
 use Rattle.records.specs.Part.Part.{RootPart, LinkPart, NamesPart, EntriesPart}
@@ -19,7 +20,7 @@ is_root_name key = key.objectid == 256 && (key.kind == INODE_REF && key.offset =
 
 -- a name of an inode
 abbrev pub link_postings : ℕ → ℕ → NameFields → List Posting
-link_postings tree ino name = to (link tree ino name.parent name.index name.name) 1 1 ∷ []
+link_postings tree ino name = to (link tree ino name.parent name.index name.name) LINK_NAMES 1 ∷ []
 
 -- the name of a directory's entry as the account has it
 abbrev pub entry_posting : ℕ → ℕ → ℕ → EntryFields → Posting
@@ -28,14 +29,16 @@ entry_posting tree dir field entry =
 
 -- an entry by its hash
 abbrev pub hashed_postings : ℕ → ℕ → EntryFields → List Posting
-hashed_postings tree dir entry = entry_posting tree dir 0 entry ∷ []
+hashed_postings tree dir entry = entry_posting tree dir ENTRIES_BY_HASH entry ∷ []
 
 -- an entry by its index, which says besides whose name it is: of an inode of the same tree, or of a subvolume
 abbrev pub indexed_postings : ℕ → ℕ → ℕ → EntryFields → List Posting
 indexed_postings tree dir index entry =
-    entry_posting tree dir 1 entry
-    ∷ (if entry.location.kind == INODE_ITEM then to (link tree entry.location.objectid dir index entry.name) 0 1 ∷ [] else
-    (if entry.location.kind == ROOT_ITEM then to (subvolume_entry tree entry.location.objectid dir index entry.name) 1 1 ∷ [] else []))
+    entry_posting tree dir ENTRIES_BY_INDEX entry
+    ∷ (if entry.location.kind == INODE_ITEM
+    then to (link tree entry.location.objectid dir index entry.name) LINK_ENTRIES 1 ∷ [] else
+    (if entry.location.kind == ROOT_ITEM
+    then to (subvolume_entry tree entry.location.objectid dir index entry.name) SUBVOLUME_ENTRIES 1 ∷ [] else []))
 
 -- an entry of a directory, by the item's kind
 abbrev pub dir_entry_postings : ℕ → Key → EntryFields → List Posting
@@ -48,17 +51,17 @@ is_subvolume_id id = nat_le 256 id && nat_le id 18446744073709551360
 
 -- the root item of a subvolume
 abbrev pub root_postings : RootItem → List Posting
-root_postings item = if is_subvolume_id item.key.objectid then to (subvolume item.key.objectid) 0 item.refs ∷ [] else []
+root_postings item = if is_subvolume_id item.key.objectid then to (subvolume item.key.objectid) ROOT_REFS_SAID item.refs ∷ [] else []
 
 -- the name of a subvolume: of kind 156 the key is (parent, 156, child), of kind 144 (child, 144, parent)
 abbrev pub root_link_postings : RootLinkFields → List Posting
 root_link_postings item =
     if item.key.kind == ROOT_REF then
-    to (subvolume_entry item.key.objectid item.key.offset item.dirid item.sequence item.name) 0 1
-    ∷ to (subvolume_pair item.key.objectid item.key.offset item.dirid item.sequence item.name) 0 1
-    ∷ to (subvolume item.key.offset) 1 1
+    to (subvolume_entry item.key.objectid item.key.offset item.dirid item.sequence item.name) SUBVOLUME_REFS 1
+    ∷ to (subvolume_pair item.key.objectid item.key.offset item.dirid item.sequence item.name) FROM_PARENT 1
+    ∷ to (subvolume item.key.offset) ROOT_REFS_FOUND 1
     ∷ []
-    else to (subvolume_pair item.key.offset item.key.objectid item.dirid item.sequence item.name) 1 1 ∷ []
+    else to (subvolume_pair item.key.offset item.key.objectid item.dirid item.sequence item.name) FROM_CHILD 1 ∷ []
 
 -- the names of an inode, those of a root directory excepted
 abbrev pub names_postings : ℕ → InodeRefFields → List Posting

@@ -14,4 +14,3 @@ pub mod SpacePostings
 pub mod Postings
 pub mod FullCheck
 pub mod WalkLaw
-pub mod Owned

@@ -8,7 +8,7 @@ use Rattle.volume_items.specs.declared.root.RootItem.{RootItem}
 use Rattle.volume_items.specs.RootLinkRow.{RootLinkFields}
 use Rattle.volume_items.specs.RootLinkItems.{link_fields_in}
 use Rattle.volume_items.specs.declared.device.DeviceItem.{DeviceItem}
-use Rattle.volume_items.specs.ChunkRow.{ChunkFields}
+use Rattle.volume_items.specs.ChunkRow.{ChunkFields, stripes_of}
 use Rattle.volume_items.specs.ChunkItems.{fields_in}
 use Rattle.volume_items.specs.declared.dev_extent.DevExtent.{DevExtent}
 use Rattle.extent_items.specs.ExtentRow.{ExtentFields}
@@ -16,16 +16,19 @@ use Rattle.extent_items.specs.ExtentItems.{extent_fields_in}
 use Rattle.extent_items.specs.declared.keyed.KeyedRef.{KeyedRef}
 use Rattle.extent_items.specs.declared.group.GroupItem.{GroupItem}
 use Rattle.fs_items.specs.declared.inode.InodeItem.{InodeItem}
-use Rattle.fs_items.specs.InodeRefRow.{InodeRefFields}
+use Rattle.fs_items.specs.InodeRefRow.{InodeRefFields, names_from}
 use Rattle.fs_items.specs.Lent.{inode_ref_in, dir_in, sums_in}
 use Rattle.fs_items.specs.declared.xattr.Xattr.{Xattr}
 use Rattle.fs_items.specs.declared.orphan.Orphan.{Orphan}
-use Rattle.fs_items.specs.DirRow.{DirFields}
+use Rattle.fs_items.specs.DirRow.{DirFields, entries_from}
 use Rattle.fs_items.specs.declared.file_extent.FileExtent.{FileExtent}
 use Rattle.fs_items.specs.SumsRow.{SumFields}
 use Rattle.records.specs.declared.rec.Rec.{Rec}
-use Rattle.records.specs.declared.rec.Rec.TheVariants.{RootItem as ARootItem, RootLink as ARootLink, DeviceItem as ADeviceItem, ChunkItem as AChunkItem, DevExtent as ADevExtent, ExtentItem as AExtentItem, KeyedRef as AKeyedRef, GroupItem as AGroupItem, InodeItem as AInodeItem, InodeRef as AInodeRef, Xattr as AXattr, Orphan as AOrphan, DirItem as ADirItem, FileExtent as AFileExtent, SumRun as ASumRun, Unread, Super, Block}
+use Rattle.records.specs.declared.rec.Rec.TheVariants.{RootItem as ARootItem, RootLink as ARootLink, DeviceItem as ADeviceItem, ChunkItem as AChunkItem, DevExtent as ADevExtent, ExtentItem as AExtentItem, KeyedRef as AKeyedRef, GroupItem as AGroupItem, InodeItem as AInodeItem, InodeRef as AInodeRef, Xattr as AXattr, Orphan as AOrphan, DirItem as ADirItem, FileExtent as AFileExtent, SumRun as ASumRun, Unread as AUnread, Super as ASuper, Block as ABlock}
 use Rattle.records.specs.declared.rec.RecAt.{RecAt}
+use Rattle.extent_items.specs.References.{references_of}
+use Rattle.records.specs.declared.rec.OwnedRec.{OwnedRec}
+use Rattle.records.specs.declared.rec.OwnedRec.TheVariants.{RootItem, RootLink, DeviceItem, ChunkItem, DevExtent, ExtentItem, KeyedRef, GroupItem, InodeItem, InodeRef, Xattr, Orphan, DirItem, FileExtent, SumRun, Unread, Super, Block}
 
 -- what a record says: one sort for each reader of items; the bytes of an item that stays unread; the bytes_used of the superblock; the
 -- address and the level of a block
@@ -73,9 +76,30 @@ part_of (AOrphan item) = OrphanPart item
 part_of (ADirItem item) = EntriesPart (dir_in item)
 part_of (AFileExtent item) = FileExtentPart item
 part_of (ASumRun item) = SumsPart (sums_in item)
-part_of (Unread bytes) = UnreadPart bytes.now
-part_of (Super bytes_used) = SuperPart bytes_used
-part_of (Block address level) = BlockPart address level
+part_of (AUnread bytes) = UnreadPart bytes.now
+part_of (ASuper bytes_used) = SuperPart bytes_used
+part_of (ABlock address level) = BlockPart address level
+
+-- what a record says that owns its bytes: the same as the lent one
+abbrev pub owned_part : OwnedRec → Part
+owned_part (RootItem item) = RootPart item
+owned_part (RootLink key dirid sequence name) = LinkPart (record { key = key; dirid = dirid; sequence = sequence; name = name })
+owned_part (DeviceItem item) = DevicePart item
+owned_part (ChunkItem key length class stripes) = ChunkPart (record { key = key; length = length; class = class; stripes = stripes_of stripes })
+owned_part (DevExtent item) = DevExtentPart item
+owned_part (ExtentItem key refs generation flags references) = ExtentPart (record { key = key; refs = refs; generation = generation; flags = flags; references = references_of references })
+owned_part (KeyedRef item) = KeyedPart item
+owned_part (GroupItem item) = GroupPart item
+owned_part (InodeItem item) = InodePart item
+owned_part (InodeRef key bytes) = NamesPart (record { key = key; names = names_from key bytes 0 })
+owned_part (Xattr item) = XattrPart item
+owned_part (Orphan item) = OrphanPart item
+owned_part (DirItem key bytes) = EntriesPart (record { key = key; entries = entries_from bytes 0 })
+owned_part (FileExtent item) = FileExtentPart item
+owned_part (SumRun key sums) = SumsPart (record { key = key; sums = sums })
+owned_part (Unread bytes) = UnreadPart bytes
+owned_part (Super bytes_used) = SuperPart bytes_used
+owned_part (Block address level) = BlockPart address level
 
 -- a lent record where it stands
 abbrev pub located : RecAt → Located

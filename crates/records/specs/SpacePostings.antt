@@ -12,6 +12,8 @@ use Rattle.accounts.specs.declared.context.Home.{Home}
 use Rattle.accounts.specs.Context.{Context, home_of}
 use Rattle.accounts.specs.Sums.{total_of}
 use Rattle.accounts.specs.Kinds.{sector, group, group_of, group_class, outside, stripe, bytes_used, device}
+use Rattle.accounts.specs.declared.sum.TheConstants.{SECTOR_EXTENTS, SECTOR_DATA, SECTOR_SUMS, SECTOR_SHOWN, GROUP_ITEMS, GROUP_CHUNKS, GROUP_USED, GROUP_TAKEN, OTHER_CLASS, OUTSIDE_CHUNKS, CHUNK_STRIPES, DEVICE_RANGES, BYTES_SAID, BYTES_IN_GROUPS, DEVICE_SAID, DEVICE_TAKEN}
+use Rattle.accounts.specs.declared.kind.TheConstants.{SECTOR}
 use Rattle.records.specs.Post.{to}
 use Rattle.records.specs.Part.{Part}
 use Rattle.records.specs.Part.Part.{SuperPart, ChunkPart, DevicePart, DevExtentPart, GroupPart, ExtentPart, FileExtentPart, SumsPart}
@@ -33,22 +35,22 @@ sectors_of address bytes = sectors_from address (bytes / sector_size)
 -- a chunk: its group, and each of its stripes
 abbrev pub chunk_postings : ChunkFields → List Posting
 chunk_postings item =
-    to (group item.key.offset item.length item.class) 1 1
-    ∷ map (λ one. to (stripe item.key.offset one.devid one.physical item.length) 0 1) item.stripes
+    to (group item.key.offset item.length item.class) GROUP_CHUNKS 1
+    ∷ map (λ one. to (stripe item.key.offset one.devid one.physical item.length) CHUNK_STRIPES 1) item.stripes
 
 -- a range of the device
 abbrev pub dev_extent_postings : DevExtent → List Posting
 dev_extent_postings item =
-    to (stripe item.chunk_offset item.key.objectid item.key.offset item.length) 1 1
-    ∷ to (device item.key.objectid) 1 item.length
+    to (stripe item.chunk_offset item.key.objectid item.key.offset item.length) DEVICE_RANGES 1
+    ∷ to (device item.key.objectid) DEVICE_TAKEN item.length
     ∷ []
 
 -- a block group
 abbrev pub group_postings : GroupItem → List Posting
 group_postings item =
-    to (group item.key.objectid item.key.offset item.flags) 0 1
-    ∷ to (group item.key.objectid item.key.offset item.flags) 2 item.used
-    ∷ to bytes_used 1 item.used
+    to (group item.key.objectid item.key.offset item.flags) GROUP_ITEMS 1
+    ∷ to (group item.key.objectid item.key.offset item.flags) GROUP_USED item.used
+    ∷ to bytes_used BYTES_IN_GROUPS item.used
     ∷ []
 
 -- whether an extent is of file data, and else a tree block
@@ -61,7 +63,8 @@ extent_length context item = if is_data item then item.key.offset else context.n
 
 -- a sector of an extent
 abbrev pub owned_postings : Bool → ℕ → List Posting
-owned_postings of_data address = to (sector address) 0 1 ∷ (if of_data then to (sector address) 1 1 ∷ [] else [])
+owned_postings of_data address =
+    to (sector address) SECTOR_EXTENTS 1 ∷ (if of_data then to (sector address) SECTOR_DATA 1 ∷ [] else [])
 
 -- whether a class of chunks does not take an extent: bit 1 is data, bits 2 and 4 take tree blocks
 abbrev pub is_other_class : Bool → ℕ → Bool
@@ -71,10 +74,10 @@ is_other_class of_data class =
 -- the place of an extent: what it takes of its group, its sectors, and whether the group is of another class; or that no chunk has it
 abbrev pub place_postings : Bool → ℕ → ℕ → Option Home → List Posting
 place_postings of_data address len (Some home) =
-    to (group_of home) 3 len
+    to (group_of home) GROUP_TAKEN len
     ∷ flat_map (owned_postings of_data) (sectors_of address len)
-    ++ (if is_other_class of_data home.class then to (group_class address) 0 1 ∷ [] else [])
-place_postings of_data address len None = to (outside address) 0 1 ∷ []
+    ++ (if is_other_class of_data home.class then to (group_class address) OTHER_CLASS 1 ∷ [] else [])
+place_postings of_data address len None = to (outside address) OUTSIDE_CHUNKS 1 ∷ []
 
 -- an extent
 abbrev pub extent_place_postings : Context → ExtentFields → List Posting
@@ -89,7 +92,8 @@ shows_sums context tree range =
 
 -- the sectors that a range of a file shows of its extent, where that has a home
 abbrev pub shown_postings : FileExtent → Option Home → List Posting
-shown_postings range (Some home) = map (λ address. to (sector address) 3 1) (sectors_of (range.extent + range.offset) range.length)
+shown_postings range (Some home) =
+    map (λ address. to (sector address) SECTOR_SHOWN 1) (sectors_of (range.extent + range.offset) range.length)
 shown_postings range None = []
 
 -- a range of a file
@@ -99,13 +103,13 @@ range_sector_postings context tree range =
 
 -- checksums, four bytes a sector
 abbrev pub sum_postings : SumFields → List Posting
-sum_postings item = map (λ address. to (sector address) 2 1) (sectors_from item.key.offset (length item.sums / 4))
+sum_postings item = map (λ address. to (sector address) SECTOR_SUMS 1) (sectors_from item.key.offset (length item.sums / 4))
 
 -- what a record of a tree posts to A5, A6, A7, A8, A15, A16 and A18
 unfoldable pub space_postings : Context → ℕ → Part → List Posting
-space_postings context tree (SuperPart used) = to bytes_used 0 used ∷ []
+space_postings context tree (SuperPart used) = to bytes_used BYTES_SAID used ∷ []
 space_postings context tree (ChunkPart item) = chunk_postings item
-space_postings context tree (DevicePart item) = to (device item.devid) 0 item.bytes_used ∷ []
+space_postings context tree (DevicePart item) = to (device item.devid) DEVICE_SAID item.bytes_used ∷ []
 space_postings context tree (DevExtentPart item) = dev_extent_postings item
 space_postings context tree (GroupPart item) = group_postings item
 space_postings context tree (ExtentPart item) = extent_place_postings context item
@@ -115,7 +119,7 @@ space_postings context tree other = []
 
 -- whether a posting is to a sector, A5
 abbrev pub is_to_sector : Posting → Bool
-is_to_sector posting = posting.account.kind == 5
+is_to_sector posting = posting.account.kind == SECTOR
 
 -- what a record posts to A6, A7, A8, A15, A16 and A18 alone
 abbrev pub rest_postings : Context → ℕ → Part → List Posting

@@ -16,10 +16,7 @@ pub fn json_of(alloc: Global, line: &Line) -> Result<Bytes, NoMemory>
     requires { IsPrintable line.now }
     ensures { IfOk result (λ text. text ≡ json_line line.now) }
 {
-    match written(alloc, line) {
-        Ok(text) => Ok(Bytes::from(text.into_bytes())),
-        Err(_) => Err(NoMemory),
-    }
+    Ok(Bytes::from(written(alloc, line)?.into_bytes()))
 }
 
 // The line as a string.

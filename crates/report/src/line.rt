@@ -23,7 +23,7 @@ pub enum Line {
         generation: u64,
         /// How many live blocks the old and the new image do not share.
         blocks: u64,
-        /// How many live blocks of the old image were written over.
+        /// How many live blocks of the old image the event writes over or moves.
         hot: u64,
     },
     /// A judged event was rejected.

@@ -15,10 +15,7 @@ pub fn text_of(alloc: Global, line: &Line) -> Result<Bytes, NoMemory>
     requires { IsPrintable line.now }
     ensures { IfOk result (λ text. text ≡ text_line line.now) }
 {
-    match printed(alloc, line) {
-        Ok(text) => Ok(Bytes::from(text.into_bytes())),
-        Err(_) => Err(NoMemory),
-    }
+    Ok(Bytes::from(printed(alloc, line)?.into_bytes()))
 }
 
 // The line as a string.

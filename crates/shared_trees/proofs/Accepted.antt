@@ -2,6 +2,7 @@
 use Rattle.std.proofs.Common.{◌≡◌, ℕ, zero, suc, ◌+◌, ◌-◌, ◌==◌, Bool, true, false, not, ◌&&◌, ◌||◌, List, [], ◌∷◌, refl, ap, sym, subst, ◌∙◌, arith}
 use Rattle.std.specs.Prelude.{Option, Some, None, is_some, Result, Ok, Err, nat_lt, if◌then◌else◌}
 use Rattle.std.proofs.lemmas.Bool.Decides.{nat_tests}
+use Rattle.verdict.proofs.Truth.{absorbs_left as absorbs, and_parts}
 use Rattle.verdict.specs.OnDisk.{key_below, key_same}
 use Rattle.verdict.specs.Rules.{TableRow, and_then, finding_or, first_failing}
 use Rattle.verdict.specs.declared.finding.Finding.{Finding}
@@ -22,7 +23,7 @@ use Rattle.records.specs.Walk.{Records, behind, block_at, entry_records, own_rec
 use Rattle.walk_laws.specs.WalkOrder.{Ascend}
 use Rattle.walk_laws.proofs.Blocks.{block_keys}
 use Rattle.shared_trees.specs.Skips.{is_below}
-use Rattle.shared_trees.proofs.Bounds.{and_parts, below_trans, keys_below}
+use Rattle.shared_trees.proofs.Bounds.{below_trans, keys_below}
 use Rattle.shared_trees.proofs.Trails.{Trail, Visit, after, trail_and, trail_with}
 use Rattle.shared_trees.proofs.Visiting.{Visits}
 
@@ -137,11 +138,6 @@ fault_again bytes fsid e v same fits none =
 -- the keys of a block's entries
 abbrev pub keys_at : ℕ → List ℕ → List Key
 keys_at level bytes = each_from (entry_key bytes (entry_size level)) 0 (count_of bytes)
-
-absorbs : (a b : Bool) → (b ≡ true → a ≡ true) → (a && b) ≡ b
-absorbs a true f = rw (f refl) refl
-absorbs true false f = refl
-absorbs false false f = refl
 
 -- of keys that ascend all are below a bound where the last one is
 pub last_decides : (entry : ℕ → Key) (at n : ℕ) (high : Option Key) → Ascend (each_from entry at (suc n)) → keys_below (each_from entry at (suc n)) high ≡ is_below (entry (at + n)) high

@@ -5,6 +5,8 @@ use Rattle.std.proofs.lemmas.Bool.Decides.{nat_tests}
 use Rattle.std.specs.Prelude.{Option, Some, None, nat_eq}
 use Rattle.std.specs.List.{AllByRecursion, list_any}
 use Rattle.std.specs.Option.{option_eq}
+use Rattle.verdict.proofs.Lists.{all_map as each_map}
+use Rattle.verdict.proofs.Numbers.{itself}
 use Rattle.verdict.specs.declared.place.Chunk.{Chunk}
 use Rattle.verdict.proofs.Tables.{joined_none}
 use Rattle.volume_items.specs.ChunkOrder.{by_start}
@@ -13,8 +15,8 @@ use Rattle.touched_blocks.specs.Moves.{AreApart, LieApart, same_second}
 use Rattle.shared_trees.specs.ArrayMoves.{ArrayApartLaw, LieApartOrSame}
 use Rattle.shared_trees.proofs.ArrayPlaces.{array_is}
 use Rattle.shared_trees.proofs.ArrayTree.{array_has}
-use Rattle.shared_trees.proofs.Picking.{each_map, one_of}
-use Rattle.shared_trees.proofs.Premises.{chunks_apart}
+use Rattle.shared_trees.proofs.Picking.{one_of}
+use Rattle.shared_trees.proofs.Premises.{chunks_apart, flip}
 use Rattle.shared_trees.proofs.Treed.{map_kept, steps_of}
 
 -- two chunks hold the same addresses at the same places
@@ -49,9 +51,6 @@ agree c d same =
     seconds (Some x) None is = absurd (cc)
     seconds (Some x) (Some y) is = ap (λ (k : ℕ). Some k) (eqb-true x y is)
 
-itself : (n : ℕ) → (n == n) ≡ true
-itself n = grind (arith, nat_tests)
-
 second_itself : (x : Option ℕ) → same_second x x ≡ true
 second_itself None = refl
 second_itself (Some n) = itself n
@@ -70,10 +69,6 @@ are_same c d x a b =
 apart_as : (c d x y : Chunk) → Agree c x → Agree d y → LieApart x y → LieApart c d
 apart_as c d x y a b (inl before) = inl (rw (a.start, a.length_is, b.start) before)
 apart_as c d x y a b (inr behind) = inr (rw (b.start, b.length_is, a.start) behind)
-
-flip : (c d : Chunk) → LieApart c d → LieApart d c
-flip c d (inl is) = inr is
-flip c d (inr is) = inl is
 
 two : (c d : Chunk) (chunks : List Chunk) → AreApart chunks → list_any (same_chunk c) chunks ≡ true → list_any (same_chunk d) chunks ≡ true
     → LieApartOrSame c d

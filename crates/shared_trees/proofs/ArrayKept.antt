@@ -5,6 +5,7 @@ use Rattle.std.specs.Prelude.{None, is_some, map}
 use Rattle.std.specs.List.{AllByRecursion}
 use Rattle.std.specs.Ordering.{nat_cmp}
 use Rattle.std.specs.FinMap.{FinMap}
+use Rattle.verdict.proofs.Lists.{all_map as each_map}
 use Rattle.verdict.specs.declared.place.Chunk.{Chunk}
 use Rattle.write_cache.specs.Cache.{overlaid}
 use Rattle.write_cache.proofs.CacheLaws.{length-overlaid}
@@ -29,7 +30,7 @@ use Rattle.shared_trees.proofs.Images.{stored_alike}
 use Rattle.shared_trees.proofs.Kept.{keeps_tree}
 use Rattle.shared_trees.proofs.KeptImage.{nodesize_same, was}
 use Rattle.shared_trees.proofs.OldTells.{tells_shared}
-use Rattle.shared_trees.proofs.Picking.{each_both, each_map}
+use Rattle.shared_trees.proofs.Picking.{each_both}
 use Rattle.shared_trees.proofs.Rooted.{all_apart, all_walks, roots_are}
 use Rattle.shared_trees.proofs.Treed.{Steps, chunk_tree, has_trees, steps_of, trees_walk}
 

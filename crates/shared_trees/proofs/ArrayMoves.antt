@@ -3,6 +3,7 @@ use Rattle.std.proofs.Common.{◌≡◌, ℕ, Bool, true, ◌&&◌, List, [], �
 use Rattle.std.specs.Prelude.{Option, Some, None, IfSome, Ok, is_some}
 use Rattle.std.specs.List.{AllByRecursion, list_any}
 use Rattle.std.specs.Result.{IsOk}
+use Rattle.verdict.proofs.Lists.{all_map as each_map}
 use Rattle.verdict.specs.Chunks.{home}
 use Rattle.super_reader.specs.declared.Super.{Super}
 use Rattle.live_index.specs.declared.live.Live.{Live}
@@ -23,7 +24,7 @@ use Rattle.shared_trees.proofs.ArrayPlaces.{array_is, array_walk, as_by_all}
 use Rattle.shared_trees.proofs.Climbing.{marks}
 use Rattle.shared_trees.proofs.Forest.{stands_as, tables_stand}
 use Rattle.shared_trees.proofs.MarkedTrees.{held_if}
-use Rattle.shared_trees.proofs.Picking.{each_both, each_map}
+use Rattle.shared_trees.proofs.Picking.{each_both}
 use Rattle.shared_trees.proofs.Tables.{Any, any_each}
 use Rattle.shared_trees.proofs.Trails.{trail_below, trail_of}
 use Rattle.shared_trees.proofs.Treed.{chunk_tree, has_trees, steps_of, trees_walk}

@@ -2,6 +2,7 @@
 use Rattle.std.proofs.Common.{◌≡◌, ℕ, List, [], ◌∷◌, length, refl, ap, sym, subst, ◌∙◌}
 use Rattle.std.specs.Prelude.{Ok, map, not}
 use Rattle.std.specs.List.{AllByRecursion}
+use Rattle.verdict.proofs.Lists.{all_map as each_map}
 use Rattle.verdict.specs.Chunks.{place}
 use Rattle.verdict.specs.declared.place.At.{At}
 use Rattle.verdict.specs.declared.place.Chunk.{Chunk}
@@ -25,11 +26,11 @@ use Rattle.shared_trees.proofs.Accepted.{accepts}
 use Rattle.shared_trees.proofs.ArrayTree.{same_places}
 use Rattle.shared_trees.proofs.Forest.{then_ok, walks}
 use Rattle.shared_trees.proofs.Lives.{lives_are}
-use Rattle.shared_trees.proofs.Picking.{each_both, each_map}
+use Rattle.shared_trees.proofs.Picking.{each_both}
 use Rattle.shared_trees.proofs.Rooted.{all_walks}
 use Rattle.shared_trees.proofs.Tables.{Any, any_each}
 use Rattle.shared_trees.proofs.Trails.{trail_below, trail_of}
-use Rattle.shared_trees.proofs.Treed.{Steps, chunk_tree, map_kept, nodesize_some, steps_of}
+use Rattle.shared_trees.proofs.Treed.{Steps, chunk_tree, map_kept, nodesize_some, steps_of, same_chunks}
 use Rattle.shared_trees.proofs.Visiting.{Visits, comes_from, visits_from}
 use Rattle.shared_trees.proofs.Within.{Below, within}
 
@@ -84,9 +85,6 @@ places_same image whole s =
         let a = accepts (Any whole.sup stored) (trail_below w.level whole.sup stored) whole.sup stored w below in
         same_places image whole.chunks s.array whole.sup.nodesize a.bytes w.address (nodesize_some image whole.sup s.sup_is)
         (map_kept whole.sup s.array whole.chunks image s.chunks_are) a.is
-
-same_chunks : (at : At) (array : List ℕ) (n : ℕ) (a b : List Chunk) → array_chunks at array n ≡ Ok a → array_chunks at array n ≡ Ok b → a ≡ b
-same_chunks at array n a b x y = cc
 
 -- the steps to the walks of an image come to its array
 pub array_is : (image : List ℕ) (whole : Walked) (array : List Chunk) (s : Steps image whole) → HasArray image whole array → s.array ≡ array

@@ -6,6 +6,7 @@ use Rattle.std.proofs.lemmas.Grind.{common_steps}
 use Rattle.std.specs.Prelude.{Option, Some, None, Ok, Err, nat_eq, nat_le, nat_lt}
 use Rattle.std.specs.List.{AllByRecursion, list_any, slice_get}
 use Rattle.std.specs.Option.{option_eq}
+use Rattle.verdict.proofs.Lists.{all_map as each_map}
 use Rattle.verdict.specs.Chunks.{holds_range, home, place, place_in}
 use Rattle.verdict.specs.Items.{is_multiple}
 use Rattle.verdict.specs.Rules.{first_failing}
@@ -15,7 +16,7 @@ use Rattle.volume_items.specs.ChunkOrder.{all_by_start, by_start, put_by_start}
 use Rattle.volume_items.specs.MapRules.{array_rows, last_before, map_finding, rows_by_start, rows_of_chunk, same_chunk, starts_inside}
 use Rattle.node_reader.specs.Stored.{bytes_at, stored_in}
 use Rattle.node_reader.specs.Stored.CopyFault.{NoPlace}
-use Rattle.shared_trees.proofs.Picking.{each_map, one_of}
+use Rattle.shared_trees.proofs.Picking.{one_of}
 
 -- of these chunks each begins where the one before it ends, or above
 abbrev pub Chain : Option Chunk → List Chunk → Type 0

@@ -5,6 +5,7 @@ use Rattle.std.specs.List.{AllByRecursion, filter, flat_map}
 use Rattle.std.specs.Result.{IsOk}
 use Rattle.std.specs.Ordering.{nat_cmp}
 use Rattle.std.specs.FinMap.{FinMap}
+use Rattle.verdict.proofs.Lists.{all_map}
 use Rattle.verdict.specs.declared.place.Chunk.{Chunk}
 use Rattle.write_cache.specs.Cache.{overlaid}
 use Rattle.super_reader.specs.declared.Super.{Super}
@@ -33,7 +34,7 @@ use Rattle.shared_trees.proofs.KeptImage.{nodesize_same, was}
 use Rattle.shared_trees.proofs.KnownShared.{knows_shared}
 use Rattle.shared_trees.proofs.Meeting.{shows}
 use Rattle.shared_trees.proofs.OldSide.{old_side}
-use Rattle.shared_trees.proofs.Picking.{each_both, each_map}
+use Rattle.shared_trees.proofs.Picking.{each_both}
 use Rattle.shared_trees.proofs.ReadAlike.{listed_alike, marked_alike, stands_alike}
 use Rattle.shared_trees.proofs.Sharing.{keeps}
 use Rattle.shared_trees.proofs.Shifting.{shifts}
@@ -163,7 +164,7 @@ chunk_shifted image pending old new array pairs marked moving array_moving under
     ≡ map (live_at new.sup mine.0) (filter (λ v. is_some (mine_kept v)) es) =
     ap (λ blocks. map (live_at new.sup all.0) (filter (λ v. is_some (K v)) blocks)) alike.blocks
     ∙ filtered (λ v. is_some (K v)) (λ v. is_some (mine_kept v)) (live_at new.sup all.0) (live_at new.sup mine.0) es
-    (each_map (λ v. (Keeps v × Mine v) × Live_is v)
+    (all_map (λ v. (Keeps v × Mine v) × Live_is v)
     (λ v. (is_some (K v) ≡ is_some (mine_kept v)) × (live_at new.sup all.0 v ≡ live_at new.sup mine.0 v))
     es (λ v h. (h.0.0 ∙ (ap shared (sym h.1) ∙ sym h.0.1), sym h.1))
     (each_both (λ v. Keeps v × Mine v) Live_is es

@@ -3,6 +3,9 @@ use Rattle.std.proofs.Common.{◌≡◌, ℕ, zero, suc, ◌==◌, Bool, true, f
 use Rattle.std.proofs.lemmas.Bool.Decides.{nat_tests}
 use Rattle.std.proofs.lemmas.Grind.{common_steps}
 use Rattle.std.specs.Prelude.{Option, Some, None, Result, Ok, Err}
+use Rattle.walk_laws.proofs.Keys.{item_keys-append}
+use Rattle.shared_trees.proofs.Mixing.{same_itself}
+use Rattle.verdict.proofs.Numbers.{itself}
 use Rattle.verdict.specs.OnDisk.{key_same}
 use Rattle.verdict.specs.Rules.{no_key}
 use Rattle.verdict.specs.declared.key.Key.{Key}
@@ -47,12 +50,6 @@ last_is (BlockSeen block ∷ more) = last_is more
 last_is (PointerSeen one ∷ more) = last_is more
 last_is (ItemSeen item ∷ more) = ap (greater_key item.key) (last_is more)
 
-keys_append : (a b : List Seen) → item_keys (a ++ b) ≡ item_keys a ++ item_keys b
-keys_append [] b = refl
-keys_append (BlockSeen block ∷ a) b = keys_append a b
-keys_append (PointerSeen one ∷ a) b = keys_append a b
-keys_append (ItemSeen item ∷ a) b = ap (λ keys. item.key ∷ keys) (keys_append a b)
-
 -- the keys of the items of a trail
 abbrev pub keys_in : Trail → List Key
 keys_in (Err finding) = []
@@ -62,7 +59,7 @@ pub keys_after : (P : Expect → Type 0) (visits : List Visit) (later : Trail) �
     → keys_in (after visits later) ≡ item_keys (all_own visits) ++ keys_in later
 unfolding after
 keys_after P visits (Err finding) all = elim all [ ]
-keys_after P visits (Ok others) all = ap item_keys (all_own_append visits others) ∙ keys_append (all_own visits) (all_own others)
+keys_after P visits (Ok others) all = ap item_keys (all_own_append visits others) ∙ item_keys-append (all_own visits) (all_own others)
 
 pub keys_then : (P : Expect → Type 0) (first later : Trail) → Visits P (then_trail first later)
     → keys_in (then_trail first later) ≡ keys_in first ++ keys_in later
@@ -77,14 +74,8 @@ last_walk sup stored e = by (trail_of sup stored e) (tells sup stored e)
     by (Err finding) t = ap last_in t.0
     by (Ok visits) t = ap last_in t.0 ∙ last_is (all_own visits)
 
-itself : (n : ℕ) → (n == n) ≡ true
-itself n = grind (arith, nat_tests)
-
-key_itself : (key : Key) → key_same key key ≡ true
-key_itself key = grind (arith, common_steps, nat_tests)
-
 same_kept : (p q : ℕ) (m n : Key) → q ≡ p → n ≡ m → not (p == q && key_same m n) ≡ false
-same_kept p q m n parent last = rw (parent, last, itself p, key_itself m) refl
+same_kept p q m n parent last = rw (parent, last, itself p, same_itself m) refl
 
 pub bytes_same : (a b : List ℕ) (x y : Result (List ℕ) CopyFault) → x ≡ Ok a → y ≡ Ok b → x ≡ y → a ≡ b
 bytes_same a b x y is other same = cc

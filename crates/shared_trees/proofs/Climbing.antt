@@ -3,6 +3,9 @@ use Rattle.std.proofs.Common.{◌≡◌, ℕ, zero, suc, ◌<◌, ◌≤◌, Boo
 use Rattle.std.specs.Prelude.{Option, Some, None, is_some, IfSome, nat_lt, Result, Ok, Err}
 use Rattle.std.proofs.lemmas.Bool.Decides.{nat_tests}
 use Rattle.std.proofs.lemmas.List.Folds.{list_any-append}
+use Rattle.touched_blocks.proofs.Among.{some_same}
+use Rattle.shared_trees.proofs.Sharing.{if_some_map}
+use Rattle.verdict.proofs.Truth.{or_cases, both_ways}
 use Rattle.super_reader.specs.declared.Super.{Super}
 use Rattle.live_index.specs.Pairs.{AreNarrow, Pairs}
 use Rattle.live_index.specs.declared.live.Live.{Live}
@@ -107,24 +110,11 @@ any_trail_and P test below sup stored e a all =
     or_nil true = refl
     or_nil false = refl
 
-or_cases : (a b : Bool) → (a || b) ≡ true → (a ≡ true) ⊎ (b ≡ true)
-or_cases true b is = inl refl
-or_cases false b is = inr is
-
-pub some_live : (a b : Live) → Some a ≡ Some b → a ≡ b
-some_live a b is = cc
-
 abbrev pub copied : List ℕ → Result (List ℕ) CopyFault
 copied bytes = Ok bytes
 
-ok_same : (p q : List ℕ) → copied p ≡ copied q → p ≡ q
+pub ok_same : (p q : List ℕ) → copied p ≡ copied q → p ≡ q
 ok_same p q is = cc
-
--- two answers are alike where each implies the other
-both_ways : (a b : Bool) → (a ≡ true → b ≡ true) → (b ≡ true → a ≡ true) → a ≡ b
-both_ways true b to from = sym (to refl)
-both_ways false true to from = from refl
-both_ways false false to from = refl
 
 -- all blocks of a walk are of its tree
 tree_children : (P : Expect → Type 0) (tree : ℕ) (level : ℕ) (of : Expect → Trail) → ((c : Expect) → c.tree ≡ tree → Visits P (of c) → Visits (λ w. w.tree ≡ tree) (of c))
@@ -348,7 +338,7 @@ module _ (table : Table) (sup : Super) (stored : Stored) (touched : ℕ → Bool
   alike_at : (v u : Expect) → IsThere v → IsThere u → v.address ≡ u.address → comes u ≡ true → comes v ≡ true
   alike_at v u here other same touches =
       let is : Some (live_at sup stored v) ≡ Some (live_at sup stored u) = sym here.0 ∙ (ap table same ∙ other.0) in
-      let level : v.level ≡ u.level = ap (λ (l : Live). l.level) (some_live (live_at sup stored v) (live_at sup stored u) is) in
+      let level : v.level ≡ u.level = ap (λ (l : Live). l.level) (some_same (live_at sup stored v) (live_at sup stored u) is) in
       let whole : Visits Known (of u.level v) = subst (λ n. Visits Known (of n v)) level here.1 in
       ap (λ n. visits_any Touch (of n v)) level ∙ (alike_block Known u.level v u same (alike_below Known u.level v u) whole other.1 ∙ touches)
 
@@ -446,10 +436,6 @@ module _ (table : Table) (sup : Super) (stored : Stored) (touched : ℕ → Bool
         (λ v h. both_ways (marked v.address) (comes v) h.1 (complete_block v.level v marks (λ bytes. complete_below v.level v bytes refl marks) h.0))
         (visits_both (Below Known sup stored) (λ v. marked v.address ≡ true → comes v ≡ true) (trail_of sup stored root)
         (within Known sup stored root known) (marked_touched root known only marks))
-
-if_some_map : (entry : Option Live) (P Q : Live → Type 0) → ((live : Live) → P live → Q live) → IfSome entry P → IfSome entry Q
-if_some_map None P Q f is = tt
-if_some_map (Some live) P Q f is = f live is
 
 pub marks : MarkingLaw
 marks pairs must may marked sup stored root stands narrow same up =

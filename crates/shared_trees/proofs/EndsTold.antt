@@ -6,6 +6,7 @@ use Rattle.std.proofs.lemmas.Bool.Decides.{nat_tests}
 use Rattle.std.specs.Prelude.{Option, Some, None, Ok, map}
 use Rattle.std.specs.List.{flat_map}
 use Rattle.std.specs.Result.{IsOk}
+use Rattle.shared_trees.proofs.Meeting.{block_is}
 use Rattle.walk_laws.specs.WalkOrder.{Ascend}
 use Rattle.walk_laws.proofs.Blocks.{block_keys}
 use Rattle.verdict.specs.Rules.{no_key}
@@ -45,10 +46,6 @@ use Rattle.shared_trees.proofs.Within.{Below, here_of, rest_of, upto_block, with
 -- keys that are below the same bounds are one
 same_bounds : (a b : Key) → ((high : Option Key) → is_below a high ≡ is_below b high) → a ≡ b
 same_bounds a b same = one_key a b (same (Some b) ∙ below_self b) (sym (same (Some a)) ∙ below_self a)
-
-block_is : (sup : Super) (stored : Stored) (e : Expect) (a : Accepts sup stored e) → block_in stored sup.fsid e ≡ Ok a.bytes
-unfolding block_in
-block_is sup stored e a = rw (a.is, a.passes) refl
 
 no_leaf : (level n : ℕ) → level ≡ suc n → (level == 0) ≡ false
 no_leaf level n is = rw is (some n)

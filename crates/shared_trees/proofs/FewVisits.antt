@@ -4,6 +4,7 @@ use Rattle.std.specs.Prelude.{Option, Some, None, Result, Ok, Err, if◌then◌e
 use Rattle.std.specs.List.{AllByRecursion, filter}
 use Rattle.std.proofs.Math.Nat.{mul-add, suc-mul}
 use Rattle.std.proofs.lemmas.List.Elements.{filter-append}
+use Rattle.verdict.proofs.Numbers.{lower}
 use Rattle.verdict.specs.Rules.{and_then, finding_or}
 use Rattle.verdict.specs.declared.finding.Finding.{Finding}
 use Rattle.verdict.specs.declared.key.Key.{Key}
@@ -121,9 +122,6 @@ one_level : (level n : ℕ) → suc level * n ≡ n + level * n
 one_level level n =
     let more = suc-mul level n in
     omega (arith, more)
-
-lower : (n level : ℕ) → n ≡ suc level → n - 1 ≡ level
-lower n level at = omega arith
 
 module _ (kept : Kept) (anew : Anew) (sup : Super) (stored : Stored) (leads : LeadsOn kept anew) where
   abbrev pub skips : ℕ → List Expect → Records

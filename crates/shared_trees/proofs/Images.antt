@@ -7,6 +7,7 @@ use Rattle.std.specs.Ordering.{nat_cmp}
 use Rattle.std.specs.FinMap.{FinMap, get}
 use Rattle.std.proofs.lemmas.Bool.{eqb-true}
 use Rattle.std.proofs.lemmas.Grind.{common_steps}
+use Rattle.verdict.proofs.Truth.{and_parts, neither}
 use Rattle.verdict.specs.Image.{range}
 use Rattle.verdict.specs.Chunks.{place}
 use Rattle.verdict.specs.Items.{is_multiple}
@@ -25,7 +26,6 @@ use Rattle.records.specs.WalkLaw.{children_in, visited_from}
 use Rattle.shared_trees.specs.ImageLaw.{ReadAlikeLaw, StoredAlikeLaw}
 use Rattle.shared_trees.specs.Skips.{own_of}
 use Rattle.touched_blocks.specs.Touched.{any_written, copy_written, same_place, stays_in_place, written_in}
-use Rattle.shared_trees.proofs.Bounds.{and_parts}
 use Rattle.shared_trees.proofs.Trails.{walk_is_own}
 
 -- bytes over which nothing is written
@@ -47,10 +47,6 @@ length_take n xs = grind (arith, common_steps)
 
 same_range : (m : FinMap nat_cmp ℕ) (image : List ℕ) (at n : ℕ) → any_written (written_in m) at n ≡ false → range at n (overlaid m 0 image) ≡ range at n image
 same_range m image at n none = range-overlaid_image m image at n ∙ untouched m at n (range at n image) (length_take n (drop at image)) none
-
-neither : (a b : Bool) → (a || b) ≡ false → (a ≡ false) × (b ≡ false)
-neither true b is = absurd (cc)
-neither false b is = (refl, is)
 
 same_bytes : (m : FinMap nat_cmp ℕ) (image : List ℕ) (n : ℕ) (at : Place) → copy_written (written_in m) n at ≡ false → bytes_at n (overlaid m 0 image) at ≡ bytes_at n image at
 same_bytes m image n Nowhere none = refl

@@ -5,6 +5,10 @@ use Rattle.std.proofs.lemmas.Bool.Decides.{nat_tests}
 use Rattle.std.proofs.lemmas.Grind.{common_steps}
 use Rattle.std.specs.Prelude.{Option, Some, None, Ok, is_none, is_some}
 use Rattle.std.specs.List.{AllByRecursion, list_any}
+use Rattle.shared_trees.proofs.Mixing.{same_itself}
+use Rattle.verdict.proofs.Lists.{all_map as each_map}
+use Rattle.verdict.proofs.Numbers.{same_there}
+use Rattle.verdict.proofs.Truth.{and_parts, or_right}
 use Rattle.verdict.specs.OnDisk.{key_same}
 use Rattle.verdict.specs.declared.key.Key.{Key}
 use Rattle.super_reader.specs.declared.Super.{Super}
@@ -23,10 +27,9 @@ use Rattle.shared_trees.specs.SharedLaw.{IsBefore, KeepsSharedBy, KeptTreeLaw}
 use Rattle.shared_trees.specs.TableLaw.{AreApart, Tree}
 use Rattle.shared_trees.specs.declared.starts.Start.{Start}
 use Rattle.shared_trees.proofs.Accepted.{Accepts, IsAs, accepts, visit_of, walk_accepted}
-use Rattle.shared_trees.proofs.Bounds.{and_parts}
 use Rattle.shared_trees.proofs.Forest.{lives_all, of_root, tables_stand, walks}
 use Rattle.shared_trees.proofs.Lasting.{low_fits}
-use Rattle.shared_trees.proofs.Picking.{comes_there, each_both, each_if, each_map, is_at, is_there, one_of, table_some, there_trees}
+use Rattle.shared_trees.proofs.Picking.{comes_there, each_both, each_if, is_at, is_there, one_of, table_some, there_trees}
 use Rattle.shared_trees.proofs.Sharing.{same_from}
 use Rattle.shared_trees.proofs.Sifting.{IsSame, LowAt}
 use Rattle.shared_trees.proofs.Tables.{Any, any_each}
@@ -155,12 +158,8 @@ module _ (sup : Super) (touched : ℕ → Bool) (marked : Marks) (pairs : Pairs)
       ∙ (ap (λ b. (comes_there sup live.tree live.address tree && f) || b) (fresh_trees live trees all.1)
       ∙ share (comes_there sup live.tree live.address tree) (list_any (comes_there sup live.tree live.address) trees) f)
 
-alike_itself : (live : Live) → are_alike live live ≡ true
+pub alike_itself : (live : Live) → are_alike live live ≡ true
 alike_itself live = grind (arith, common_steps, nat_tests)
-
-or_right : (a b : Bool) → b ≡ true → (a || b) ≡ true
-or_right true b is = refl
-or_right false b is = is
 
 -- and is alike to one
 table_alike : (lives : List Live) (id address : ℕ) (one : Live) → table_of lives id address ≡ Some one → list_any (are_alike one) lives ≡ true
@@ -216,12 +215,6 @@ turn a b c d x = by (a == b) (b == a) (c == d) (d == c) (swap a b) (swap c d)
     by true false r s pq rs = absurd (cc)
     by false true r s pq rs = absurd (cc)
 
-key_itself : (key : Key) → key_same key key ≡ true
-key_itself key = grind (arith, common_steps, nat_tests)
-
-same_there : (m n : ℕ) → m ≡ n → (m == n) ≡ true
-same_there m n is = grind (arith, nat_tests)
-
 only_if : (a f : Bool) → (a ≡ true → f ≡ true) → (a && f) ≡ (a && true)
 only_if true f same = same refl
 only_if false f same = refl
@@ -233,7 +226,7 @@ alike_there a b tree address first =
     let both : (a.tree == b.tree && a.address == b.address) ≡ true =
     rw (same_there a.tree b.tree tree, same_there a.address b.address address) refl in
     ap (λ x. x && (a.level == b.level && (a.generation == b.generation && key_same a.first b.first))) both
-    ∙ (ap (λ x. a.level == b.level && (a.generation == b.generation && x)) (ap (key_same a.first) (sym first) ∙ key_itself a.first)
+    ∙ (ap (λ x. a.level == b.level && (a.generation == b.generation && x)) (ap (key_same a.first) (sym first) ∙ same_itself a.first)
     ∙ turn a.level b.level a.generation b.generation true)
 
 module _ (stays touched : ℕ → Bool) (old new : Walked) (pairs : Pairs) (marked : Marks) (under : Under) (stored : Stored) (root : Expect) where

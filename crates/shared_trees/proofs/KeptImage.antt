@@ -5,6 +5,8 @@ use Rattle.std.specs.Prelude.{None, bytes_eq, map}
 use Rattle.std.specs.List.{AllByRecursion}
 use Rattle.std.specs.Ordering.{nat_cmp}
 use Rattle.std.specs.FinMap.{FinMap}
+use Rattle.verdict.proofs.Lists.{all_map as each_map}
+use Rattle.verdict.proofs.Truth.{and_parts}
 use Rattle.write_cache.specs.Cache.{overlaid}
 use Rattle.super_reader.specs.declared.Super.{Super}
 use Rattle.volume_items.specs.declared.root.RootItem.{RootItem}
@@ -17,11 +19,10 @@ use Rattle.shared_trees.specs.LivePairs.{Walked, live_in, table_of}
 use Rattle.shared_trees.specs.Shared.{are_read_alike}
 use Rattle.shared_trees.specs.SharedLaw.{HasTrees, IsBefore, KeepsShared, KeptLaw, MarksTouched, moves_between, stays_between, touches_old}
 use Rattle.shared_trees.specs.TableLaw.{Tree}
-use Rattle.shared_trees.proofs.Bounds.{and_parts}
 use Rattle.shared_trees.proofs.Forest.{tables_stand}
 use Rattle.shared_trees.proofs.Images.{stored_alike}
 use Rattle.shared_trees.proofs.Kept.{keeps_tree}
-use Rattle.shared_trees.proofs.Picking.{each_both, each_map}
+use Rattle.shared_trees.proofs.Picking.{each_both}
 use Rattle.shared_trees.proofs.Treed.{trees_walk}
 
 -- a tree of an image: its root has no high key, and it is read by the chunks

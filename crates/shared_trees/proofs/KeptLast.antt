@@ -3,6 +3,9 @@ use Rattle.std.proofs.Common.{◌≡◌, ℕ, zero, suc, ◌-◌, ◌==◌, Bool
 use Rattle.std.proofs.lemmas.Bool.Decides.{nat_tests}
 use Rattle.std.proofs.lemmas.Grind.{common_steps}
 use Rattle.std.specs.Prelude.{Option, Some, None, Ok, Err}
+use Rattle.touched_blocks.proofs.Among.{some_same}
+use Rattle.verdict.proofs.Lists.{append_none}
+use Rattle.verdict.proofs.Truth.{and_parts}
 use Rattle.verdict.specs.OnDisk.{key_below, key_same}
 use Rattle.verdict.specs.Rules.{no_key}
 use Rattle.verdict.specs.declared.key.Key.{Key}
@@ -23,7 +26,7 @@ use Rattle.shared_trees.specs.LivePairs.{greater_key}
 use Rattle.shared_trees.specs.Skips.{is_below}
 use Rattle.shared_trees.specs.declared.starts.Start.{Start}
 use Rattle.shared_trees.proofs.Accepted.{Accepts, IsAs, accepts, visit_of, walk_accepted}
-use Rattle.shared_trees.proofs.Bounds.{and_assoc, and_parts, keys_below, upto}
+use Rattle.shared_trees.proofs.Bounds.{and_assoc, keys_below, upto}
 use Rattle.shared_trees.proofs.Calming.{accepts_again, calm, greatest_of, item_keys, keys_after, keys_in, keys_then, last_walk}
 use Rattle.shared_trees.proofs.Lasting.{below_greater, items_below, items_of_upto, last_from, low_fits}
 use Rattle.shared_trees.proofs.Lives.{ok_same}
@@ -33,10 +36,6 @@ use Rattle.shared_trees.proofs.Tables.{Any, any_each}
 use Rattle.shared_trees.proofs.Trails.{Trail, all_own, trail_and, trail_below, trail_of, trails}
 use Rattle.shared_trees.proofs.Visiting.{Visits, VisitsOne, visits_any_from, visits_both, visits_from, visits_map, visits_one_from, visits_then_first, visits_then_later}
 use Rattle.shared_trees.proofs.Within.{Below, bounded, here_of, rest_of, within}
-
-nil : {X : Type 0} (xs : List X) → xs ++ [] ≡ xs
-nil [] = refl
-nil (x ∷ xs) = ap (λ more. x ∷ more) (nil xs)
 
 -- keys that are below one which a greatest key reaches
 above : (x g b : Key) → key_below x b ≡ true → key_below g b ≡ false → key_below x g ≡ true
@@ -132,7 +131,7 @@ module _ (P : Expect → Type 0) (sup : Super) (stored : Stored) where
       → last_of level e (pointer ∷ []) ≡ greatest_of (keys_in (of level (child_of level e pointer e.high)))
   last_alone level e pointer all =
       let c = child_of level e pointer e.high in
-      ap greatest_of (keys_then P (of level c) (Ok []) all ∙ nil (keys_in (of level c)))
+      ap greatest_of (keys_then P (of level c) (Ok []) all ∙ append_none (keys_in (of level c)))
 
 -- a node has no items of its own
 node_keys : (e : Expect) (pointers : List Pointer) → item_keys (pointer_records e pointers ++ []) ≡ []
@@ -145,9 +144,6 @@ node_own sup e bytes entries node is =
     let here : Ok (pointer_records e (pointers_of bytes)) ≡ entry_records sup e bytes = rw node refl in
     let same : pointer_records e (pointers_of bytes) ≡ entries = ok_same (pointer_records e (pointers_of bytes)) entries (here ∙ is) in
     subst (λ es. item_keys (es ++ []) ≡ []) same (node_keys e (pointers_of bytes))
-
-some_live : (a b : Live) → Some a ≡ Some b → a ≡ b
-some_live a b is = cc
 
 module _ (pairs : Pairs) (marked : Marks) (moved : ℕ → Bool) (under : Under) (sup : Super) (old new : Stored) (moving : Marks) where
   abbrev pub A : Expect → Type 0
@@ -313,7 +309,7 @@ lasts pairs marked moving touched moved under sup old new root now last one stan
     ∙ (ap (under v.tree) w.same.block.address ∙ (here.lists ∙ ap (starts_at v.level (moving v.tree)) a.is)) in
     let was_entry : pairs now.tree now.address ≡ Some (live_at sup old v) =
     ap (λ t. pairs t now.address) w.same.block.tree ∙ (ap (pairs v.tree) w.same.block.address ∙ here.known) in
-    let live : live_at sup old v ≡ one = some_live (live_at sup old v) one (sym was_entry ∙ entry) in
+    let live : live_at sup old v ≡ one = some_same (live_at sup old v) one (sym was_entry ∙ entry) in
     last_block pairs marked moved under sup old new moving v.level now v level refl w.same.block a is w.all more
     ∙ (ap (λ n. last_anew sup new (n - 1) now (starts_at v.level (moving v.tree) (Ok a.bytes)) (last_in (walk_of sup old v))) (sym level)
     ∙ (ap (λ starts. last_anew sup new (now.level - 1) now starts (last_in (walk_of sup old v))) (sym lists)

@@ -5,6 +5,8 @@ use Rattle.std.proofs.lemmas.Bool.Decides.{nat_tests}
 use Rattle.std.proofs.lemmas.Grind.{common_steps}
 use Rattle.std.specs.Prelude.{Option, Some, None, IfSome, is_some}
 use Rattle.std.specs.List.{AllByRecursion, list_any}
+use Rattle.shared_trees.proofs.Kept.{alike_itself}
+use Rattle.verdict.proofs.Truth.{and_parts, neither}
 use Rattle.verdict.specs.declared.key.Key.{Key}
 use Rattle.super_reader.specs.declared.Super.{Super}
 use Rattle.live_index.specs.Pairs.{Pairs}
@@ -16,9 +18,8 @@ use Rattle.shared_trees.specs.Keeping.{AreMarked, AreUntouched, IsKnown, Marks, 
 use Rattle.shared_trees.specs.MergedLaw.{KnownSharedLaw}
 use Rattle.shared_trees.specs.OldSide.{TellsShared}
 use Rattle.shared_trees.specs.Shared.{are_alike}
-use Rattle.shared_trees.proofs.Bounds.{and_parts}
 use Rattle.shared_trees.proofs.OldTells.{HasSame, has_same}
-use Rattle.shared_trees.proofs.Sharing.{found, neither}
+use Rattle.shared_trees.proofs.Sharing.{found}
 
 -- one of several, with what holds of each
 one_with : (P Q : Expect → Type 0) (es : List Expect) → AllByRecursion P es → OneOf Q es → (v : Expect) × P v × Q v
@@ -43,9 +44,6 @@ passes_here test sup stored v is = by v.level is
     by : (level : ℕ) → list_any (λ (w : Expect). test w.address) (visited_from level sup stored v) ≡ false → test v.address ≡ false
     by zero is = first (test v.address) false is
     by (suc level) is = first (test v.address) _ is
-
-alike_itself : (live : Live) → are_alike live live ≡ true
-alike_itself live = grind (arith, common_steps, nat_tests)
 
 alike_of : (a b : Live) → HasSame a b → are_alike a b ≡ true
 alike_of a b same = rw (same.tree, same.address, same.level, same.generation, same.first) (alike_itself b)

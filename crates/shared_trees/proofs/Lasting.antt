@@ -4,6 +4,7 @@ use Rattle.std.specs.Prelude.{Option, Some, None, is_some, Ok, Err, map, ◌==�
 use Rattle.std.proofs.lemmas.Bool.{eqb-true}
 use Rattle.std.proofs.lemmas.Bool.Decides.{nat_tests}
 use Rattle.std.proofs.lemmas.Grind.{common_steps}
+use Rattle.verdict.proofs.Truth.{and_true, and_parts, absorbs_left}
 use Rattle.verdict.specs.OnDisk.{key_below, key_same}
 use Rattle.verdict.specs.Rules.{no_key}
 use Rattle.verdict.specs.declared.key.Key.{Key}
@@ -27,7 +28,7 @@ use Rattle.shared_trees.specs.LivePairs.{greater_key, greatest_key, last_key}
 use Rattle.shared_trees.specs.Keeping.{last_in}
 use Rattle.shared_trees.specs.Skips.{is_below}
 use Rattle.shared_trees.proofs.Accepted.{Accepts, LowFits, accepts, keys_at, visit_of, walk_accepted}
-use Rattle.shared_trees.proofs.Bounds.{and_assoc, and_parts, and_true, below_self, below_same, below_trans, keys_below, own_below, record_below, upto, upto_then, visits_below}
+use Rattle.shared_trees.proofs.Bounds.{and_assoc, below_self, below_same, below_trans, keys_below, own_below, record_below, upto, upto_then, visits_below}
 use Rattle.shared_trees.proofs.Trails.{Tells, Trail, Visit, after, all_own, tells, then_trail, trail_and, trail_below, trail_of, trails}
 use Rattle.shared_trees.proofs.Visiting.{Visits, visits_later, visits_then_first, visits_then_later}
 use Rattle.shared_trees.proofs.Within.{node_keys, one_own, pointer_keys, rest_of, upto_block}
@@ -122,12 +123,12 @@ low_fits sup stored e a = by e.low (λ is. needs_some (nat_lt (room_of a.bytes e
     by None some same = tt
     by (Some low) some same = (some refl, twice (key_same low (entry_key a.bytes (entry_size e.level) 0)) same)
 
-first_of_each : {A : Type 0} (entry : ℕ → A) (n : ℕ) → (n == 0) ≡ false → (rest : List A) × (each_from entry 0 n ≡ entry 0 ∷ rest)
+pub first_of_each : {A : Type 0} (entry : ℕ → A) (n : ℕ) → (n == 0) ≡ false → (rest : List A) × (each_from entry 0 n ≡ entry 0 ∷ rest)
 unfolding each_from
 first_of_each entry zero is = absurd (cc)
 first_of_each entry (suc n) is = (each_from entry 1 n, refl)
 
-same_sym : (a b : Key) → key_same a b ≡ true → key_same b a ≡ true
+pub same_sym : (a b : Key) → key_same a b ≡ true → key_same b a ≡ true
 same_sym a b same = grind (arith, common_steps)
 
 -- below a bound that is above all items is the first key of a block that has one
@@ -222,11 +223,6 @@ items_of_upto (Ok visits) high is = items_visits visits high is
 absorbs_right : (a b : Bool) → (a ≡ true → b ≡ true) → (a && b) ≡ a
 absorbs_right true b f = f refl
 absorbs_right false b f = refl
-
-absorbs_left : (a b : Bool) → (b ≡ true → a ≡ true) → (a && b) ≡ b
-absorbs_left true b f = refl
-absorbs_left false true f = f refl
-absorbs_left false false f = refl
 
 pub below_greater : (a b : Key) (high : Option Key) → is_below (greater_key a b) high ≡ (is_below a high && is_below b high)
 below_greater a b None = refl

@@ -4,6 +4,7 @@ use Rattle.std.specs.Prelude.{◌⊎◌, Option, Some, None, is_some, nat_lt, if
 use Rattle.std.specs.List.{AllByRecursion, flat_map, list_any}
 use Rattle.std.proofs.lemmas.Bool.{eqb-true}
 use Rattle.std.proofs.lemmas.Bool.Decides.{nat_tests}
+use Rattle.verdict.proofs.Truth.{and_parts, or_false_right}
 use Rattle.verdict.specs.declared.key.Key.{Key}
 use Rattle.super_reader.specs.declared.Super.{Super}
 use Rattle.live_index.specs.Pairs.{Pairs}
@@ -22,11 +23,7 @@ use Rattle.shared_trees.specs.Skips.{Anew, Kept}
 use Rattle.shared_trees.specs.Stopping.{kept_among}
 use Rattle.shared_trees.specs.Stops.{is_stop, stops_and, stops_below, stops_of, stops_or}
 use Rattle.shared_trees.specs.VisitsLaw.{AmongLeadsLaw, AreAtRest, AreMoving, IsLed, LeadsLaw, LeadsOn, OldLeadsLaw, StopsRestLaw}
-use Rattle.shared_trees.proofs.Bounds.{and_parts}
 use Rattle.shared_trees.proofs.OldStops.{all_append}
-
-some_key : (a b : Key) → Some a ≡ Some b → a ≡ b
-some_key a b is = cc
 
 -- what is kept did not move, and is the pair of a table
 abbrev pub IsAtRest : Pairs → (ℕ → Bool) → Under → Kept → Type 0
@@ -133,16 +130,12 @@ if_not : (b : Bool) (found : Option Key) (last : Key) → (if b then None else f
 if_not true found last is = absurd (cc)
 if_not false found last is = (refl, is)
 
-or_false : (a b : Bool) → (a || b) ≡ false → b ≡ false
-or_false true b is = absurd (cc)
-or_false false b is = is
-
 -- what is kept by what is known of a tree did not move
 known_rest : (pairs : Pairs) (marked : Marks) (moved : ℕ → Bool) (under : Under) → IsAtRest pairs moved under (kept_of pairs marked moved under)
 unfolding kept_of
 known_rest pairs marked moved under e last is =
     let parts = if_not (marked e.tree e.address || moved e.address) (last_if_same e (under e.tree e.address) (pairs e.tree e.address)) last is in
-    (or_false (marked e.tree e.address) (moved e.address) parts.0, parts.1)
+    (or_false_right (marked e.tree e.address) (moved e.address) parts.0, parts.1)
 
 pub leading : LeadsLaw
 leading pairs marked moving held went moved under are =

@@ -13,6 +13,10 @@ use Rattle.touched_blocks.specs.declared.marks.PairPlace.{PairPlace}
 use Rattle.touched_blocks.specs.Marks.{by_pair, is_pair, marked_in, pair_place, with_mark}
 use Rattle.touched_blocks.proofs.MarkLaws.{tied}
 use Rattle.std.specs.BTreeMap as map
+use Rattle.touched_blocks.proofs.Among.{some_same}
+use Rattle.verdict.proofs.Answers.{ok_follows}
+use Rattle.verdict.proofs.Lists.{all_map}
+use Rattle.verdict.proofs.Numbers.{itself}
 use Rattle.shared_trees.specs.declared.starts.Listed.{Listed}
 use Rattle.shared_trees.specs.declared.starts.Start.{Start}
 use Rattle.shared_trees.specs.Keeping.{Marks, Under}
@@ -20,13 +24,6 @@ use Rattle.shared_trees.specs.Listed.{AreChildren, AreListedBy, Ascend, IsChild,
 use Rattle.shared_trees.proofs.Ordering.{before_trans, same_place}
 use Rattle.shared_trees.specs.Under.{no_starts, starts_or}
 use Rattle.shared_trees.specs.Listing.{IsChildAt, rank_of, with_child, with_start}
-
-number_itself : (n : ℕ) → (n == n) ≡ true
-number_itself n = grind (arith, nat_tests)
-
-all_map : {A : Type 0} (P Q : A → Type 0) (xs : List A) → ((x : A) → P x → Q x) → AllByRecursion P xs → AllByRecursion Q xs
-all_map P Q [] f all = tt
-all_map P Q (x ∷ xs) f all = (f x all.0, all_map P Q xs f all.1)
 
 -- the rank, child by child
 pub rank_here : (start : Start) (starts : List Start) (i : ℕ) (d : Start) → i < length starts → is_before (get_or starts i d) start ≡ false → rank_of start (drop i starts) ≡ 0
@@ -100,7 +97,7 @@ put_keeps test start (one ∷ starts) any = by (is_before one start) (is_before 
     by false false rest = any
 
 put_finds : (address : ℕ) (start : Start) (starts : List Start) → start.pointer.address ≡ address → list_any (is_at address) (with_start start starts) ≡ true
-put_finds address start [] is = rw (is, number_itself address) refl
+put_finds address start [] is = rw (is, itself address) refl
 put_finds address start (one ∷ starts) is = by (is_before one start) (is_before start one) refl refl (put_finds address start starts is)
   where
     or_true : (b : Bool) → (b || true) ≡ true
@@ -110,8 +107,8 @@ put_finds address start (one ∷ starts) is = by (is_before one start) (is_befor
     by : (b c : Bool) → is_before one start ≡ b → is_before start one ≡ c → list_any (is_at address) (with_start start starts) ≡ true
         → list_any (is_at address) (if b then one ∷ with_start start starts else (if c then start ∷ one ∷ starts else one ∷ starts)) ≡ true
     by true c first later rest = rw rest (or_true (is_at address one))
-    by false true first later rest = rw (is, number_itself address) refl
-    by false false first later rest = rw (same_place one start first later, is, number_itself address) refl
+    by false true first later rest = rw (is, itself address) refl
+    by false false first later rest = rw (same_place one start first later, is, itself address) refl
 
 put_order : (start : Start) (starts : List Start) → Ascend starts → Ascend (with_start start starts)
 put_order start [] order = (tt, tt)
@@ -124,9 +121,6 @@ put_order start (one ∷ starts) order = by (is_before one start) (is_before sta
         ((later, all_map (λ other. is_before one other ≡ true) (λ other. is_before start other ≡ true) starts (λ other behind. before_trans start one other later behind) order.0), order)
     by false false first later rest = order
 
-some_live : (a b : Live) → Some a ≡ Some b → a ≡ b
-some_live a b is = cc
-
 -- marks and one more
 more_marked : (marked : Marks) (t a tree address : ℕ) → marked tree address ≡ true → with_mark marked t a tree address ≡ true
 more_marked marked t a tree address is = by (is_pair t a tree address)
@@ -136,7 +130,7 @@ more_marked marked t a tree address is = by (is_pair t a tree address)
     by false = is
 
 own_marked : (marked : Marks) (t a : ℕ) → with_mark marked t a t a ≡ true
-own_marked marked t a = rw (number_itself t, number_itself a) refl
+own_marked marked t a = rw (itself t, itself a) refl
 
 pair_is : (t a tree address : ℕ) → is_pair t a tree address ≡ true → (t ≡ tree) × (a ≡ address)
 pair_is t a tree address is = (grind (arith, nat_tests), grind (arith, nat_tests))
@@ -218,9 +212,9 @@ module _ (pairs : Pairs) (marked : Marks) (under : Under) (t a : ℕ) where
         where
           other : (live : Live) → t ≡ tree → pairs t a ≡ Some live → live.parent ≡ address → ⊥
           other live in_tree known below =
-              let lives : here.live ≡ live = some_live here.live live (sym here.known ∙ (ap (pairs t) some.0 ∙ known)) in
+              let lives : here.live ≡ live = some_same here.live live (sym here.known ∙ (ap (pairs t) some.0 ∙ known)) in
               let at : parent ≡ address = sym here.parent ∙ (ap (λ (l : Live). l.parent) lives ∙ below) in
-              apart (is_pair t parent tree address) (rw (in_tree, at, number_itself tree, number_itself address) refl) same
+              apart (is_pair t parent tree address) (rw (in_tree, at, itself tree, itself address) refl) same
 
 pub ruleset add_steps = (add_none, add_some)
 
@@ -301,7 +295,3 @@ pub put_at : (start : Start) (starts more : List Start) (rank : ℕ) (d : Start)
     → (rank < length starts → is_before start (get_or starts rank d) ≡ true) → more ≡ with_start start starts
 put_at start starts more rank d is put behind =
     put ∙ (ap (λ r. insert starts r start) is ∙ sym (put_there start starts d (subst (λ r. r < length starts → is_before start (get_or starts r d) ≡ true) is behind)))
-
-pub on_ok : {A E P Q : Type 0} (result : Result A E) → (P → Q) → OnOk result P → OnOk result Q
-on_ok (Ok a) follows is = follows is
-on_ok (Err e) follows is = is

@@ -5,6 +5,10 @@ use Rattle.std.specs.List.{AllByRecursion, list_any}
 use Rattle.std.proofs.lemmas.Bool.{eqb-true}
 use Rattle.std.proofs.lemmas.Bool.Decides.{nat_tests}
 use Rattle.std.proofs.lemmas.Grind.{common_steps}
+use Rattle.touched_blocks.proofs.Among.{some_same}
+use Rattle.shared_trees.proofs.Sharing.{if_some_map}
+use Rattle.verdict.proofs.Lists.{all_zip as all_map}
+use Rattle.verdict.proofs.Truth.{never}
 use Rattle.verdict.specs.OnDisk.{key_below}
 use Rattle.verdict.specs.declared.key.Key.{Key}
 use Rattle.super_reader.specs.declared.Super.{Super}
@@ -31,9 +35,6 @@ use Rattle.shared_trees.proofs.Trails.{Trail, trail_below, trail_of, trails}
 use Rattle.shared_trees.proofs.Visiting.{Visits, VisitsOne, comes_from, visits_both, visits_from, visits_map, visits_one, visits_one_from, visits_then_first, visits_then_later}
 use Rattle.shared_trees.proofs.Within.{Below, here_of, node_keys, pointer_keys, rest_of, within}
 
-pub never : (b : Bool) → b ≡ true → b ≡ false → ⊥
-never b is other = cc
-
 -- a pointer as a child that is walked
 abbrev pub start_for : Pointer → List Pointer → Start
 start_for pointer pointers = record { pointer = pointer; next = high_of pointers None }
@@ -51,10 +52,6 @@ MemberOf start (one ∷ starts) = (one ≡ start) ⊎ MemberOf start starts
 abbrev pub AllMembers : (ℕ → Bool) → List Start → List Pointer → Type 0
 AllMembers test starts [] = Unit {0}
 AllMembers test starts (pointer ∷ pointers) = (test pointer.address ≡ true → MemberOf (start_for pointer pointers) starts) × AllMembers test starts pointers
-
-all_map : {A : Type 0} (P Q R : A → Type 0) (xs : List A) → ((x : A) → P x → Q x → R x) → AllByRecursion P xs → AllByRecursion Q xs → AllByRecursion R xs
-all_map P Q R [] f all more = tt
-all_map P Q R (x ∷ xs) f all more = (f x all.0 more.0, all_map P Q R xs f all.1 more.1)
 
 of_member : (P : Start → Type 0) (start : Start) (starts : List Start) → AllByRecursion P starts → MemberOf start starts → P start
 of_member P start [] all at = elim at [ ]
@@ -125,20 +122,13 @@ unique test (pointer ∷ pointers) starts ascend each pass all order = by (test 
         later s (inl same) passes = absurd (never (test pointer.address) (subst (λ (x : Start). test x.pointer.address ≡ true) same passes) is)
         later s (inr at) passes = at
 
-some_live : (a b : Live) → Some a ≡ Some b → a ≡ b
-some_live a b is = cc
-
-pub if_some_map : (entry : Option Live) (P Q : Live → Type 0) → ((live : Live) → P live → Q live) → IfSome entry P → IfSome entry Q
-if_some_map None P Q f is = tt
-if_some_map (Some live) P Q f is = f live is
-
 -- the pair above another
 pub above_is : (live up : Live) (entry : Option Live) → if_above live entry ≡ Some up → (entry ≡ Some up) × (nat_lt live.level up.level ≡ true)
 above_is live up None is = absurd (cc)
 above_is live up (Some over) is = by (nat_lt live.level over.level) refl is
   where
     by : (b : Bool) → nat_lt live.level over.level ≡ b → cond b (Some over) None ≡ Some up → (Some over ≡ Some up) × (nat_lt live.level up.level ≡ true)
-    by true less same = (same, subst (λ (l : Live). nat_lt live.level l.level ≡ true) (some_live over up same) less)
+    by true less same = (same, subst (λ (l : Live). nat_lt live.level l.level ≡ true) (some_same over up same) less)
     by false less same = absurd (cc)
 
 module _ (pairs : Pairs) (marked : Marks) (tree : ℕ) (sup : Super) (stored : Stored) where
@@ -164,7 +154,7 @@ module _ (pairs : Pairs) (marked : Marks) (tree : ℕ) (sup : Super) (stored : S
   same_start : (level parent : ℕ) (last : Key) (start : Start) (child : IsChild pairs marked tree parent start) → child.up.last ≡ last → (pointer : Pointer) (pointers : List Pointer) → IsRow level parent pointer
       → ((next : Option Key) → IsNextFirst pairs tree level pointer.key next → up_to last next ≡ high_of pointers None) → pointer.address ≡ start.pointer.address → start ≡ start_for pointer pointers
   same_start level parent last start child most pointer pointers row next at =
-      let lives : child.live ≡ row.live = some_live child.live row.live (sym child.known ∙ (ap (pairs tree) (sym at) ∙ row.known)) in
+      let lives : child.live ≡ row.live = some_same child.live row.live (sym child.known ∙ (ap (pairs tree) (sym at) ∙ row.known)) in
       let first : child.live.first ≡ pointer.key = ap (λ (l : Live). l.first) lives ∙ row.first in
       let levels : child.live.level ≡ level = ap (λ (l : Live). l.level) lives ∙ row.level_is in
       let least : IsNextFirst pairs tree level pointer.key child.next = subst (λ n. IsNextFirst pairs tree n pointer.key child.next) levels (subst (λ k. IsNextFirst pairs tree child.live.level k child.next) first child.least) in
@@ -216,7 +206,7 @@ module _ (pairs : Pairs) (marked : Marks) (tree : ℕ) (sup : Super) (stored : S
   up_is : (v : Expect) → Known (pairs tree) sup stored v → (start : Start) (child : IsChild pairs marked tree v.address start) → (child.up ≡ live_at sup stored v) × (nat_lt child.live.level v.level ≡ true)
   up_is v known start child =
       let both = above_is child.live child.up (pairs tree child.live.parent) child.above in
-      let same : child.up ≡ live_at sup stored v = some_live child.up (live_at sup stored v) (sym both.0 ∙ (ap (pairs tree) child.parent ∙ known)) in
+      let same : child.up ≡ live_at sup stored v = some_same child.up (live_at sup stored v) (sym both.0 ∙ (ap (pairs tree) child.parent ∙ known)) in
       (same, subst (λ (l : Live). nat_lt child.live.level l.level ≡ true) same both.1)
 
   -- a child is one of the node's pointers

@@ -2,6 +2,7 @@
 use Rattle.std.proofs.Common.{◌≡◌, ℕ, zero, suc, ◌<◌, ◌==◌, Bool, true, false, not, ◌||◌, List, [], ◌∷◌, ◌++◌, refl, ap, sym, subst, ◌∙◌, arith, if◌then◌else◌}
 use Rattle.std.proofs.lemmas.Bool.Decides.{nat_tests}
 use Rattle.std.specs.Prelude.{nat_le, Ok, Err, map}
+use Rattle.verdict.proofs.Lists.{append_append, append_none}
 use Rattle.verdict.specs.declared.place.At.{At}
 use Rattle.super_reader.specs.declared.Super.{Super}
 use Rattle.super_reader.specs.Superblock.{item_place}
@@ -120,14 +121,6 @@ entries_none sup e bytes entries is = by (e.level == 0) is
         → NoBlocks entries
     by true is = leaf_none (item_place sup e.tree e.address e.generation) (items_of bytes) entries is
     by false is = let same : pointer_records e (pointers_of bytes) ≡ entries = cc in subst NoBlocks same (node_none e (pointers_of bytes))
-
-pub append_append : {A : Type 0} (a b c : List A) → (a ++ b) ++ c ≡ a ++ (b ++ c)
-append_append [] b c = refl
-append_append (x ∷ a) b c = ap (λ more. x ∷ more) (append_append a b c)
-
-append_none : {A : Type 0} (a : List A) → a ++ [] ≡ a
-append_none [] = refl
-append_none (x ∷ a) = ap (λ more. x ∷ more) (append_none a)
 
 abbrev pub ok_records : List Seen → Records
 ok_records records = Ok records

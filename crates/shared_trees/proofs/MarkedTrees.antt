@@ -3,6 +3,8 @@ use Rattle.std.proofs.Common.{◌≡◌, ℕ, ◌==◌, Bool, true, false, ◌&&
 use Rattle.std.proofs.lemmas.Bool.{eqb-true}
 use Rattle.std.specs.Prelude.{Option, Some, None, Ok, Err, is_some, map}
 use Rattle.std.specs.List.{AllByRecursion}
+use Rattle.verdict.proofs.Lists.{all_map as each_map}
+use Rattle.verdict.proofs.Truth.{and_parts}
 use Rattle.verdict.specs.Chunks.{home, place_in}
 use Rattle.verdict.specs.Items.{is_multiple}
 use Rattle.verdict.specs.declared.place.Chunk.{Chunk}
@@ -21,11 +23,10 @@ use Rattle.shared_trees.specs.LivePairs.{Walked, live_in, table_of}
 use Rattle.shared_trees.specs.MarksLaw.{MarksLaw, MovesLaw}
 use Rattle.shared_trees.specs.TableLaw.{Tree}
 use Rattle.shared_trees.proofs.Accepted.{accepts}
-use Rattle.shared_trees.proofs.Bounds.{and_parts}
 use Rattle.shared_trees.proofs.Climbing.{marks}
 use Rattle.shared_trees.proofs.Forest.{all_lives, lives_all, lives_of, stands_as, tables_stand}
 use Rattle.shared_trees.proofs.KeptImage.{IsOfImage, of_image}
-use Rattle.shared_trees.proofs.Picking.{each_both, each_map, is_there, one_of, table_some}
+use Rattle.shared_trees.proofs.Picking.{each_both, is_there, one_of, table_some}
 use Rattle.shared_trees.proofs.Tables.{Any, any_each}
 use Rattle.shared_trees.proofs.Trails.{trail_below, trail_of}
 use Rattle.shared_trees.proofs.Treed.{trees_walk}

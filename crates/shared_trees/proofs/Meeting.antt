@@ -29,7 +29,7 @@ use Rattle.shared_trees.proofs.Trails.{Trail, trail_and, trail_below, trail_of, 
 use Rattle.shared_trees.proofs.Visiting.{Visits, VisitsOne, comes_from, visits_any_from, visits_both, visits_from, visits_map, visits_one_from, visits_then_first, visits_then_later}
 use Rattle.shared_trees.proofs.Within.{Below, here_of, rest_of, within}
 
-block_is : (sup : Super) (stored : Stored) (e : Expect) (a : Accepts sup stored e) → block_in stored sup.fsid e ≡ Ok a.bytes
+pub block_is : (sup : Super) (stored : Stored) (e : Expect) (a : Accepts sup stored e) → block_in stored sup.fsid e ≡ Ok a.bytes
 unfolding block_in
 block_is sup stored e a = rw (a.is, a.passes) refl
 

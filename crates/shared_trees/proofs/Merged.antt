@@ -31,7 +31,7 @@ use Rattle.shared_trees.specs.Shared.{are_alike}
 use Rattle.shared_trees.specs.Skips.{Kept, nothing, own_of, unkept}
 use Rattle.shared_trees.specs.Unshared.{item_seen}
 use Rattle.shared_trees.proofs.Accepted.{IsAs}
-use Rattle.shared_trees.proofs.Climbing.{copied}
+use Rattle.shared_trees.proofs.Climbing.{copied, ok_same as ok_bytes}
 use Rattle.shared_trees.proofs.Forest.{of_root}
 use Rattle.shared_trees.proofs.Lives.{ok_same}
 use Rattle.shared_trees.proofs.Mixing.Mixed.{Empty}
@@ -83,18 +83,15 @@ read_of sup stored e own is = by (stored e.address) refl is
     by (Ok bytes) at is = by_fault bytes (block_fault bytes sup.fsid e) at is
 
 -- what a block has is decided by its bytes, its tree, its address, its generation and its level
-pointers_alike : (e v : Expect) → IsAs e v → (pointers : List Pointer) → pointer_records e pointers ≡ pointer_records v pointers
+pub pointers_alike : (e v : Expect) → IsAs e v → (pointers : List Pointer) → pointer_records e pointers ≡ pointer_records v pointers
 pointers_alike e v same [] = refl
 pointers_alike e v same (pointer ∷ pointers) = λ i.
     PointerSeen (record { tree = same.tree i; block = same.address i; level = same.level i; pointer = pointer }) ∷ pointers_alike e v same pointers i
 
-entries_alike : (sup : Super) (e v : Expect) → IsAs e v → (bytes : List ℕ) → entry_records sup e bytes ≡ entry_records sup v bytes
+pub entries_alike : (sup : Super) (e v : Expect) → IsAs e v → (bytes : List ℕ) → entry_records sup e bytes ≡ entry_records sup v bytes
 entries_alike sup e v same bytes = λ i.
     if same.level i == 0 then leaf_records (item_place sup (same.tree i) (same.address i) (same.generation i)) (items_of bytes)
     else Ok (pointers_alike e v same (pointers_of bytes) i)
-
-ok_bytes : (a b : List ℕ) → copied a ≡ copied b → a ≡ b
-ok_bytes a b is = cc
 
 -- two blocks that are alike, of which the same is stored, have the same items
 items_alike : (sup : Super) (one other : Stored) (e v : Expect) (own more : List Seen) → IsAs e v → other v.address ≡ one e.address

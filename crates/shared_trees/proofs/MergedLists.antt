@@ -7,6 +7,7 @@ use Rattle.std.proofs.lemmas.List.{append_assoc, append-nil}
 use Rattle.std.proofs.lemmas.List.Elements.{filter_map-append}
 use Rattle.std.specs.Prelude.{length, nat_lt, Option, Some, Result, Ok, Err}
 use Rattle.std.specs.List.{AllByRecursion, fold}
+use Rattle.walk_laws.proofs.Trees.{step_ok}
 use Rattle.verdict.specs.OnDisk.{key_below, key_same}
 use Rattle.verdict.specs.Rules.{and_then, finding_or, first_failing}
 use Rattle.verdict.specs.Trees.{sort_of}
@@ -45,7 +46,7 @@ use Rattle.shared_trees.specs.Unshared.{item_seen}
 use Rattle.shared_trees.proofs.Forest.{of_root}
 use Rattle.shared_trees.proofs.Merged.{merge_of, merged_by, read_of, walks_of}
 use Rattle.shared_trees.proofs.Mixing.{TellsApart, by_key, order_made}
-use Rattle.shared_trees.proofs.Rooted.{one_item, step_ok}
+use Rattle.shared_trees.proofs.Rooted.{one_item}
 use Rattle.shared_trees.proofs.Trails.{Matches, Visit, all_own}
 
 -- what is held after records are taken

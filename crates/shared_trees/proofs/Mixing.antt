@@ -7,6 +7,7 @@ use Rattle.std.proofs.lemmas.List.Sorted.{IsPermutation-cons, IsPermutation-midd
 use Rattle.std.specs.Prelude.{Option, Some, None}
 use Rattle.std.specs.List.{AllByRecursion, AllPairs, cons_option, filter, filter_map, list_any}
 use Rattle.std.specs.List.Sorted.{IsPermutation}
+use Rattle.verdict.proofs.Truth.{or_none, or_right}
 use Rattle.verdict.specs.OnDisk.{key_below, key_same}
 use Rattle.verdict.specs.declared.key.Key.{Key}
 use Rattle.records.specs.Part.{Located}
@@ -96,14 +97,6 @@ module _ {X Y : Type 0} (f : X → Option Y) (P : X → Type 0) (before : X → 
       by None at rest = rest
       by (Some c) at rest = (made_before x c all.0 at xs all.1 order.0, rest)
 
-or_false : (a b : Bool) → a ≡ false → b ≡ false → (a || b) ≡ false
-or_false true b x y = absurd (cc)
-or_false false b x y = y
-
-or_right : (a b : Bool) → b ≡ true → (a || b) ≡ true
-or_right true b is = refl
-or_right false b is = is
-
 -- of two that stand one before the other none is the same as the other, and each is the same as itself
 pub record TellsApart {X : Type 0} (before same : X → X → Bool) : Type 0 where
   pub first : (a b : X) → before a b ≡ true → same a b ≡ false
@@ -117,7 +110,7 @@ module _ {X : Type 0} (before same : X → X → Bool) (apart : TellsApart befor
 
   none_before : (x : X) (b : List X) → Before before x b → is_in b x ≡ false
   none_before x [] all = refl
-  none_before x (y ∷ b) all = or_false (same y x) (is_in b x) (apart.later x y all.0) (none_before x b all.1)
+  none_before x (y ∷ b) all = or_none (same y x) (is_in b x) (apart.later x y all.0) (none_before x b all.1)
 
   -- none of the first list is the same as one of the second
   mixed_apart : (a b whole : List X) → Mixed a b whole → InOrder before whole → AllByRecursion (λ x. is_in b x ≡ false) a
@@ -130,7 +123,7 @@ module _ {X : Type 0} (before same : X → X → Bool) (apart : TellsApart befor
       joined : (ys : List X) → Before before x ys → AllByRecursion (λ y. is_in b1 y ≡ false) ys
           → AllByRecursion (λ y. is_in (x ∷ b1) y ≡ false) ys
       joined [] above rest = tt
-      joined (y ∷ ys) above rest = (or_false (same x y) (is_in b1 y) (apart.first x y above.0) rest.0, joined ys above.1 rest.1)
+      joined (y ∷ ys) above rest = (or_none (same x y) (is_in b1 y) (apart.first x y above.0) rest.0, joined ys above.1 rest.1)
 
   itself_all : (b : List X) → AllByRecursion (λ x. is_in b x ≡ true) b
   itself_all [] = tt
@@ -152,13 +145,13 @@ module _ {X : Type 0} (before same : X → X → Bool) (apart : TellsApart befor
   filter_gone a b whole m all = filter_mixed (is_in b) a b whole m (mixed_apart a b whole m all) (itself_all b)
 
 -- keys tell items apart
-apart_first : (a b : Key) → key_below a b ≡ true → key_same a b ≡ false
+pub apart_first : (a b : Key) → key_below a b ≡ true → key_same a b ≡ false
 apart_first a b less = grind (arith, common_steps)
 
 apart_later : (a b : Key) → key_below a b ≡ true → key_same b a ≡ false
 apart_later a b less = grind (arith, common_steps)
 
-same_itself : (k : Key) → key_same k k ≡ true
+pub same_itself : (k : Key) → key_same k k ≡ true
 same_itself k = grind (arith, common_steps)
 
 pub by_key : {X : Type 0} (key : X → Key) → TellsApart (λ a b. key_below (key a) (key b)) (λ a b. key_same (key a) (key b))

@@ -6,6 +6,10 @@ use Rattle.std.proofs.lemmas.List.Elements.{All-drop, All-take}
 use Rattle.std.specs.Prelude.{Option, Some, None, Ok, Err, Result, is_some, map, if◌then◌else◌}
 use Rattle.std.specs.List.{All, AllByRecursion, list_any}
 use Rattle.std.specs.Result.{IsOk}
+use Rattle.shared_trees.proofs.Climbing.{ok_same}
+use Rattle.verdict.proofs.Lists.{all_map as each_map}
+use Rattle.verdict.proofs.Numbers.{same_of_not}
+use Rattle.verdict.proofs.Truth.{and_parts}
 use Rattle.byteorder.specs.Numbers.{little_from-lt}
 use Rattle.recon_bytes.specs.Field.{field}
 use Rattle.verdict.specs.Chunks.{place}
@@ -32,8 +36,7 @@ use Rattle.shared_trees.specs.NarrowLaw.{NarrowLaw}
 use Rattle.shared_trees.specs.TableLaw.{Tree, trees_in}
 use Rattle.shared_trees.proofs.Accepted.{accepts}
 use Rattle.shared_trees.proofs.Forest.{lives_all, then_ok, walks}
-use Rattle.shared_trees.proofs.Picking.{comes_there, each_map, is_at, is_there, one_of, table_some, there_trees}
-use Rattle.shared_trees.proofs.Bounds.{and_parts}
+use Rattle.shared_trees.proofs.Picking.{comes_there, is_at, is_there, one_of, table_some, there_trees}
 use Rattle.shared_trees.proofs.Sharing.{header_kept}
 use Rattle.shared_trees.proofs.Tables.{Any, any_each}
 use Rattle.shared_trees.proofs.Trails.{trail_below, trail_of}
@@ -66,16 +69,13 @@ range_bytes image at n h = All-take (λ byte. byte < 256) n (drop at image) (All
 abbrev pub copied : List ℕ → Result (List ℕ) CopyFault
 copied bytes = Ok bytes
 
-copied_same : (p q : List ℕ) → copied p ≡ copied q → p ≡ q
-copied_same p q is = cc
-
 place_bytes : (image : List ℕ) (n : ℕ) (at : Place) (bytes : List ℕ) → IsBytes image → bytes_at n image at ≡ Ok bytes → IsBytes bytes
 place_bytes image n Nowhere bytes h is = absurd (cc)
-place_bytes image n (One first) bytes h is = subst IsBytes (copied_same (range first n image) bytes is) (range_bytes image first n h)
+place_bytes image n (One first) bytes h is = subst IsBytes (ok_same (range first n image) bytes is) (range_bytes image first n h)
 place_bytes image n (Two first second) bytes h is = by (least_difference (range first n image) (range second n image)) is
   where
     by : (found : Option ℕ) → alike (range first n image) found ≡ Ok bytes → IsBytes bytes
-    by None is = subst IsBytes (copied_same (range first n image) bytes is) (range_bytes image first n h)
+    by None is = subst IsBytes (ok_same (range first n image) bytes is) (range_bytes image first n h)
     by (Some place) is = absurd (cc)
 
 stored_bytes : (image : List ℕ) (chunks : List Chunk) (n : ℕ) → IsBytes image → AreBytes (stored_in image chunks n)
@@ -85,10 +85,6 @@ stored_bytes image chunks n h address bytes is = by (is_multiple address) is
     by : (b : Bool) → (if b then bytes_at n image (place chunks address n (length image)) else Err NoPlace) ≡ Ok bytes → IsBytes bytes
     by true is = place_bytes image n (place chunks address n (length image)) bytes h is
     by false is = absurd (cc)
-
--- the header names the address and the tree
-same_of_not : (a b : ℕ) → not (a == b) ≡ false → a ≡ b
-same_of_not a b is = grind (arith, common_steps)
 
 named : (bytes fsid : List ℕ) (e : Expect) → block_fault bytes fsid e ≡ None → (field 8 bytes 0x30 ≡ e.address) × (field 8 bytes 0x58 ≡ e.tree)
 unfolding header_rules

@@ -4,6 +4,10 @@ use Rattle.std.specs.Prelude.{Option, Some, None, IfSome}
 use Rattle.std.proofs.lemmas.Bool.{eqb-true}
 use Rattle.std.proofs.lemmas.Bool.Decides.{nat_tests}
 use Rattle.std.proofs.lemmas.Grind.{common_steps}
+use Rattle.live_index.proofs.PlaceLaws.{same_name}
+use Rattle.shared_trees.proofs.Mixing.{same_itself}
+use Rattle.verdict.proofs.Numbers.{itself}
+use Rattle.verdict.proofs.Truth.{and_parts, never}
 use Rattle.verdict.specs.OnDisk.{key_below, key_same}
 use Rattle.verdict.specs.declared.key.Key.{Key}
 use Rattle.super_reader.specs.declared.Super.{Super}
@@ -21,16 +25,13 @@ use Rattle.shared_trees.specs.Keeping.{IsKnown, last_in, live_at}
 use Rattle.shared_trees.specs.Listed.{up_to}
 use Rattle.shared_trees.specs.Skips.{is_below}
 use Rattle.shared_trees.proofs.Accepted.{Accepts, keys_at}
-use Rattle.shared_trees.proofs.Bounds.{and_parts, below_self, keys_below, upto}
+use Rattle.shared_trees.proofs.Bounds.{below_self, keys_below, upto}
 use Rattle.shared_trees.proofs.Lasting.{lasting}
 use Rattle.shared_trees.proofs.Separating.{IsApart, Known, apart, first_at, first_child, of}
-use Rattle.shared_trees.proofs.Ordering.{one_key, same_itself, same_key}
+use Rattle.shared_trees.proofs.Ordering.{one_key}
 use Rattle.shared_trees.proofs.Trails.{Trail, trail_below, trail_of, trails}
 use Rattle.shared_trees.proofs.Visiting.{Visits, VisitsOne, visits_map, visits_one, visits_then_first, visits_then_later}
 use Rattle.shared_trees.proofs.Within.{bounded, here_of, node_keys, pointer_keys, rest_of, upto_block}
-
-itself : (n : ℕ) → (n == n) ≡ true
-itself n = grind (arith, nat_tests)
 
 -- one of these keys is this one
 abbrev pub AtKey : Key → List Key → Type 0
@@ -62,7 +63,7 @@ it_has : (entry : Option Live) (level : ℕ) (key : Key) → has_first level key
 it_has None level key is = absurd (cc)
 it_has (Some live) level key is =
     let both = and_parts (live.level == level) (key_same live.first key) is in
-    record { live = live; is = refl; level_is = eqb-true live.level level both.0; first = same_key live.first key both.1 }
+    record { live = live; is = refl; level_is = eqb-true live.level level both.0; first = same_name live.first key both.1 }
 
 no_entries : (entry : ℕ → Pointer) (n : ℕ) → n ≡ 0 → each_from entry 0 n ≡ []
 unfolding each_from
@@ -70,9 +71,6 @@ no_entries entry n none = rw none refl
 
 no_pointers : (bytes : List ℕ) → count_of bytes ≡ 0 → pointers_of bytes ≡ []
 no_pointers bytes none = no_entries (pointer_of bytes) (count_of bytes) none
-
-never : (b : Bool) → b ≡ true → b ≡ false → ⊥
-never b is other = cc
 
 module _ (pairs : Pairs) (tree : ℕ) (sup : Super) (stored : Stored) where
   -- each pair of the tree on the level of a block lies before it or behind it

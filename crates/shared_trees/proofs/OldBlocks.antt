@@ -5,6 +5,7 @@ use Rattle.std.specs.List.{AllByRecursion, cons_option, filter, filter_map, flat
 use Rattle.std.proofs.lemmas.Bool.{eqb-true}
 use Rattle.std.proofs.lemmas.Bool.Decides.{nat_tests}
 use Rattle.std.proofs.lemmas.List.Elements.{filter-append, filter_map-append}
+use Rattle.touched_blocks.proofs.Among.{some_same as some_live}
 use Rattle.verdict.specs.Rules.{and_then}
 use Rattle.verdict.specs.declared.finding.Finding.{Finding}
 use Rattle.verdict.specs.declared.key.Key.{Key}
@@ -29,7 +30,6 @@ use Rattle.shared_trees.specs.Keeping.{OneOf, live_at}
 use Rattle.shared_trees.specs.LivePairs.{live_in}
 use Rattle.shared_trees.specs.Skips.{Kept, nothing, own_of}
 use Rattle.shared_trees.specs.Unshared.{AreOfPairs, ReadsTwiceLaw, UnsharedLaw, is_block_seen, item_of_pairs, item_seen, items_in, pair_seen}
-use Rattle.shared_trees.proofs.Climbing.{some_live}
 use Rattle.shared_trees.proofs.Lives.{NoBlocks, entries_none, lives_are, ok_same}
 use Rattle.shared_trees.proofs.Skipping.{own_or, pick, unkept_in, unkept_is}
 use Rattle.shared_trees.proofs.Trails.{Matches, Tells, Trail, Visit, all_own, tells, trail_of}

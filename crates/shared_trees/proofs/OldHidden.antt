@@ -2,6 +2,7 @@
 use Rattle.std.proofs.Common.{◌≡◌, ℕ, zero, suc, Bool, true, false, cond, List, [], ◌∷◌, ◌⊎◌, inl, inr, refl, ap, sym, subst, ◌∙◌, arith}
 use Rattle.std.specs.Prelude.{Some, None, nat_lt}
 use Rattle.std.proofs.lemmas.Bool.Decides.{nat_tests}
+use Rattle.touched_blocks.proofs.Among.{some_same}
 use Rattle.super_reader.specs.declared.Super.{Super}
 use Rattle.live_index.specs.Pairs.{Pairs}
 use Rattle.live_index.specs.declared.live.Live.{Live}
@@ -14,7 +15,6 @@ use Rattle.touched_blocks.specs.Marking.{ClimbsTo, if_above, parent_of}
 use Rattle.touched_blocks.specs.Marking.ClimbsTo.{Here as IsHere, Up as OneUp}
 use Rattle.shared_trees.specs.Keeping.{Marks, live_at}
 use Rattle.shared_trees.proofs.Accepted.{accepts, visit_of, walk_accepted}
-use Rattle.shared_trees.proofs.Climbing.{some_live}
 use Rattle.shared_trees.proofs.Trails.{Trail, trail_and, trail_below, trails}
 use Rattle.shared_trees.proofs.Visiting.{Visits, visits_after, visits_then, visits_then_first, visits_then_later}
 use Rattle.shared_trees.proofs.Within.{here_of, rest_of}
@@ -49,14 +49,14 @@ hidden_up pairs moving stops tree address hidden live at = by hidden.top address
   where
     by : (top address : ℕ) → ClimbsTo pairs tree top address → IsTop pairs moving stops tree top → pairs tree address ≡ Some live → IsBelow pairs moving stops tree address live
     by top _ IsHere is at =
-        let same : is.live ≡ live = some_live is.live live (sym is.known ∙ at) in
+        let same : is.live ≡ live = some_same is.live live (sym is.known ∙ at) in
         record {
           up = is.up;
           above = subst (λ l. parent_of pairs tree l ≡ Some is.up) same is.above;
           node = inl (subst (λ (l : Live). stops l.parent ≡ true) same is.stop, is.still);
         }
     by top _ (OneUp from below up known above way) is at =
-        let same : below ≡ live = some_live below live (sym known ∙ at) in
+        let same : below ≡ live = some_same below live (sym known ∙ at) in
         record {
           up = up;
           above = subst (λ l. parent_of pairs tree l ≡ Some up) same above;

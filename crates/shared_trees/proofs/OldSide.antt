@@ -4,6 +4,10 @@ use Rattle.std.specs.Prelude.{Option, Some, None, is_none, is_some, IfSome, nat_
 use Rattle.std.specs.List.{AllByRecursion}
 use Rattle.std.proofs.lemmas.Bool.{eqb-true}
 use Rattle.std.proofs.lemmas.Bool.Decides.{nat_tests}
+use Rattle.touched_blocks.proofs.Among.{some_same}
+use Rattle.shared_trees.proofs.Mixing.{same_itself}
+use Rattle.verdict.proofs.Numbers.{itself}
+use Rattle.verdict.proofs.Truth.{and_true, and_parts, neither}
 use Rattle.verdict.specs.OnDisk.{key_same}
 use Rattle.verdict.specs.declared.key.Key.{Key}
 use Rattle.super_reader.specs.declared.Super.{Super}
@@ -21,17 +25,16 @@ use Rattle.shared_trees.specs.Stops.{is_stop, stops_of}
 use Rattle.shared_trees.specs.Shared.{are_alike}
 use Rattle.shared_trees.specs.Skips.{Kept, nothing}
 use Rattle.shared_trees.proofs.Accepted.{IsAs, accepts}
-use Rattle.shared_trees.proofs.Bounds.{and_parts, and_true, upto}
-use Rattle.shared_trees.proofs.Climbing.{of_tree, some_live}
+use Rattle.shared_trees.proofs.Bounds.{upto}
+use Rattle.shared_trees.proofs.Climbing.{of_tree}
 use Rattle.shared_trees.proofs.Lasting.{low_fits}
-use Rattle.shared_trees.proofs.Listing.{above_is, if_some_map}
+use Rattle.shared_trees.proofs.Listing.{above_is}
 use Rattle.shared_trees.proofs.OldHidden.{IsHidden, hidden_up}
 use Rattle.shared_trees.proofs.OldPlaces.{places}
 use Rattle.shared_trees.proofs.OldStops.{Found, IsTold, gives}
 use Rattle.shared_trees.proofs.OldWalk.{AllQuiet, Fact, Quiet, alike}
-use Rattle.shared_trees.proofs.Ordering.{same_itself}
 use Rattle.shared_trees.proofs.Separating.{IsFrom, nodes}
-use Rattle.shared_trees.proofs.Sharing.{Carries, IsFree, IsKept, IsRight, Known, Moves, Stays, all_free, carries_below, carries_block, found, itself, neither, same_to, still_kept, was_visited}
+use Rattle.shared_trees.proofs.Sharing.{Carries, IsFree, IsKept, IsRight, Known, Moves, Stays, all_free, carries_below, carries_block, found, same_to, still_kept, was_visited, if_some_map}
 use Rattle.shared_trees.proofs.Sifting.{IsSame}
 use Rattle.shared_trees.proofs.Skipping.{unkept_is}
 use Rattle.shared_trees.proofs.Tables.{copied_same}
@@ -99,7 +102,7 @@ module _ (pairs : Pairs) (marked moving : Marks) (touched moved : ℕ → Bool) 
           let f = found w (under w.tree w.address) last (marked w.tree w.address || moved w.address) (pairs w.tree w.address) is in
           let free = neither (marked w.tree w.address) (moved w.address) f.free in
           let entry : pairs w.tree w.address ≡ Some (live_at sup old o) = rw (of_tree, at) known in
-          let lives : f.live ≡ live_at sup old o = some_live f.live (live_at sup old o) (sym f.known ∙ entry) in
+          let lives : f.live ≡ live_at sup old o = some_same f.live (live_at sup old o) (sym f.known ∙ entry) in
           record {
             mark = subst (λ a. marked tree a ≡ false) at (subst (λ t. marked t w.address ≡ false) of_tree free.0);
             still = subst (λ a. moved a ≡ false) at free.1;

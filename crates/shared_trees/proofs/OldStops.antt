@@ -2,6 +2,7 @@
 use Rattle.std.proofs.Common.{◌≡◌, ℕ, zero, suc, ◌-◌, Bool, true, false, List, [], ◌∷◌, ◌++◌, ◌⊎◌, inl, inr, refl, ap, sym, subst, ◌∙◌, arith}
 use Rattle.std.specs.Prelude.{Option, Some, None, is_some, Ok, if◌then◌else◌}
 use Rattle.std.specs.List.{AllByRecursion, flat_map}
+use Rattle.shared_trees.proofs.Meeting.{block_is}
 use Rattle.verdict.specs.declared.key.Key.{Key}
 use Rattle.super_reader.specs.declared.Super.{Super}
 use Rattle.live_index.specs.Pairs.{Pairs}
@@ -38,11 +39,6 @@ all_first P (e ∷ es) fs all = (all.0, all_first P es fs all.1)
 all_later : (P : Expect → Type 0) (es fs : List Expect) → AllByRecursion P (es ++ fs) → AllByRecursion P fs
 all_later P [] fs all = all
 all_later P (e ∷ es) fs all = all_later P es fs all.1
-
--- the bytes of a block that is accepted
-pub block_is : (sup : Super) (stored : Stored) (e : Expect) (a : Accepts sup stored e) → block_in stored sup.fsid e ≡ Ok a.bytes
-unfolding block_in
-block_is sup stored e a = rw (a.is, a.passes) refl
 
 module _ (P : Expect → Type 0) (pairs : Pairs) (marked moving : Marks) (moved : ℕ → Bool) (under : Under) (sup : Super) (old new : Stored) (tree : ℕ) (stops : ℕ → Bool) where
   abbrev pub K : Kept

@@ -1,6 +1,7 @@
 -- Superblocks by which blocks are read alike give the same blocks, the same live pairs and the same stops.
 use Rattle.std.proofs.Common.{◌≡◌, ℕ, zero, suc, ◌-◌, ◌==◌, ◌&&◌, List, refl, ap, ◌∙◌}
 use Rattle.std.specs.Prelude.{bytes_eq}
+use Rattle.verdict.proofs.Truth.{and_parts}
 use Rattle.super_reader.specs.declared.Super.{Super}
 use Rattle.node_reader.specs.Stored.{Stored, block_in}
 use Rattle.node_reader.specs.declared.expect.Expect.{Expect}
@@ -9,7 +10,6 @@ use Rattle.shared_trees.specs.Keeping.{last_in, live_at}
 use Rattle.shared_trees.specs.Stops.{stops_and, stops_below, stops_or}
 use Rattle.shared_trees.specs.Skips.{Anew, Kept}
 use Rattle.shared_trees.specs.SupersLaw.{SupersLaw}
-use Rattle.shared_trees.proofs.Bounds.{and_parts}
 use Rattle.shared_trees.proofs.Images.{flat_same, read_alike, same_fsid, visited_same}
 
 module _ (kept : Kept) (anew : Anew) (a b : Super) (stored : Stored) (fsid : a.fsid ≡ b.fsid) where

@@ -6,6 +6,8 @@ use Rattle.std.specs.Result.{IsOk}
 use Rattle.std.proofs.lemmas.Bool.{eqb-true}
 use Rattle.std.proofs.lemmas.Bool.Decides.{nat_tests}
 use Rattle.std.proofs.lemmas.List.Folds.{list_any-append}
+use Rattle.live_index.proofs.PlaceLaws.{same_name}
+use Rattle.verdict.proofs.Truth.{and_parts}
 use Rattle.verdict.specs.OnDisk.{key_same}
 use Rattle.super_reader.specs.declared.Super.{Super}
 use Rattle.live_index.specs.declared.live.Live.{Live}
@@ -19,9 +21,7 @@ use Rattle.shared_trees.specs.LivePairs.{Walked, live_in, live_of}
 use Rattle.shared_trees.specs.OldSide.{GoneLaw, TellsLaw, TellsShared}
 use Rattle.shared_trees.specs.Shared.{are_alike, are_read_alike, at_or_below, is_shared_by, stands_untouched}
 use Rattle.shared_trees.specs.TableLaw.{AreApart, Tree, is_other}
-use Rattle.shared_trees.proofs.Bounds.{and_parts}
 use Rattle.shared_trees.proofs.Forest.{OfOthers, all_lives, lives_all, lives_of, of_other, others_after, others_all, then_ok, walks}
-use Rattle.shared_trees.proofs.Ordering.{same_key}
 
 -- two live pairs have the same in what decides whether they are alike to others
 pub record HasSame (a b : Live) : Type 0 where
@@ -42,7 +42,7 @@ has_same a b alike =
       address = eqb-true a.address b.address place.1;
       level = eqb-true a.level b.level more.0;
       generation = eqb-true a.generation b.generation last.0;
-      first = same_key a.first b.first last.1;
+      first = same_name a.first b.first last.1;
     }
 
 alike_to : (a b x : Live) → HasSame a b → are_alike x a ≡ are_alike x b

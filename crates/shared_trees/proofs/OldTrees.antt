@@ -5,6 +5,7 @@ use Rattle.std.specs.List.{AllByRecursion}
 use Rattle.std.specs.Result.{IsOk}
 use Rattle.std.specs.Ordering.{nat_cmp}
 use Rattle.std.specs.FinMap.{FinMap}
+use Rattle.verdict.proofs.Lists.{all_map as each_map}
 use Rattle.verdict.specs.Rules.{and_then, no_key}
 use Rattle.verdict.specs.declared.key.Key.{Key}
 use Rattle.write_cache.specs.Cache.{overlaid}
@@ -34,7 +35,7 @@ use Rattle.shared_trees.proofs.KeptImage.{IsOfImage, keeps_image, of_image, was}
 use Rattle.shared_trees.proofs.OldSide.{old_side}
 use Rattle.shared_trees.proofs.OldSupers.{give_alike}
 use Rattle.shared_trees.proofs.OldTells.{gone, tells_shared}
-use Rattle.shared_trees.proofs.Picking.{each_both, each_map}
+use Rattle.shared_trees.proofs.Picking.{each_both}
 use Rattle.shared_trees.proofs.Sifting.{starts_level}
 use Rattle.shared_trees.proofs.Skipping.{skips}
 use Rattle.shared_trees.proofs.Treed.{trees_walk}

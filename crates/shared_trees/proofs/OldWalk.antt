@@ -1,6 +1,7 @@
 -- The walk of a tree as it was, which keeps blocks at the stops, gives the own records of those that are not shared.
 use Rattle.std.proofs.Common.{◌≡◌, ℕ, zero, suc, ◌-◌, Bool, true, false, List, [], ◌∷◌, ◌++◌, ◌⊎◌, inl, inr, refl, ap, sym, subst, ◌∙◌, arith}
 use Rattle.std.specs.Prelude.{Option, Some, None, is_none, Ok, Err, if◌then◌else◌}
+use Rattle.verdict.proofs.Truth.{and_parts, never}
 use Rattle.verdict.specs.declared.key.Key.{Key}
 use Rattle.verdict.specs.Rules.{no_key}
 use Rattle.super_reader.specs.declared.Super.{Super}
@@ -18,9 +19,8 @@ use Rattle.shared_trees.specs.OldSide.{kept_at, kept_where}
 use Rattle.shared_trees.specs.Stops.{is_stop}
 use Rattle.shared_trees.specs.Skips.{Kept, is_below, next_of, nothing, skip_and, skip_below, skip_or}
 use Rattle.shared_trees.proofs.Accepted.{Accepts, accepts, keys_at, visit_of, walk_accepted}
-use Rattle.shared_trees.proofs.Bounds.{and_parts, keys_below}
+use Rattle.shared_trees.proofs.Bounds.{keys_below}
 use Rattle.shared_trees.proofs.Lasting.{low_fits}
-use Rattle.shared_trees.proofs.Listing.{never}
 use Rattle.shared_trees.proofs.OldHidden.{IsHidden, hidden_up}
 use Rattle.shared_trees.proofs.Sharing.{last_fits, same_from}
 use Rattle.shared_trees.proofs.Sifting.{IsSame, behind_none, fits, fits_is, nil, or_high_is, unkept_all}

@@ -4,34 +4,21 @@ use Rattle.std.specs.Prelude.{nat_lt}
 use Rattle.std.proofs.lemmas.Bool.{eqb-true}
 use Rattle.std.proofs.lemmas.Bool.Decides.{nat_tests}
 use Rattle.std.proofs.lemmas.Grind.{common_steps}
+use Rattle.live_index.proofs.PlaceLaws.{same_name}
+use Rattle.shared_trees.proofs.Mixing.{same_itself}
+use Rattle.verdict.proofs.Truth.{and_parts, never, or_cases, or_right}
 use Rattle.verdict.specs.OnDisk.{key_below, key_same}
 use Rattle.verdict.specs.declared.key.Key.{Key}
 use Rattle.shared_trees.specs.declared.starts.Start.{Start}
 use Rattle.shared_trees.specs.Listed.{is_before}
-use Rattle.shared_trees.proofs.Bounds.{and_parts, below_trans}
-
--- keys that are the same are one
-pub same_key : (a b : Key) → key_same a b ≡ true → a ≡ b
-same_key a b same =
-    let first = and_parts (a.objectid == b.objectid) (a.kind == b.kind && a.offset == b.offset) same in
-    let later = and_parts (a.kind == b.kind) (a.offset == b.offset) first.1 in
-    let e1 : a.objectid ≡ b.objectid = eqb-true _ _ first.0 in
-    let e2 : a.kind ≡ b.kind = eqb-true _ _ later.0 in
-    let e3 : a.offset ≡ b.offset = eqb-true _ _ later.1 in
-    λ i. record { objectid = e1 i; kind = e2 i; offset = e3 i }
-
-pub same_itself : (k : Key) → key_same k k ≡ true
-same_itself k = grind (arith, common_steps)
+use Rattle.shared_trees.proofs.Bounds.{below_trans}
 
 neither : (a b : Key) → key_below a b ≡ false → key_below b a ≡ false → key_same a b ≡ true
 neither a b first later = grind (arith, common_steps)
 
 -- of two keys neither of which is below the other
 pub one_key : (a b : Key) → key_below a b ≡ false → key_below b a ≡ false → a ≡ b
-one_key a b first later = same_key a b (neither a b first later)
-
-never : (b : Bool) → b ≡ true → b ≡ false → ⊥
-never b is other = cc
+one_key a b first later = same_name a b (neither a b first later)
 
 -- what is not below a key that is not below another
 pub from_trans : (a b low : Key) → key_below b low ≡ false → key_below a b ≡ false → key_below a low ≡ false
@@ -52,15 +39,6 @@ not_less v w q under over = by (key_below v w) refl
     by false is = refl
     by true is = absurd (never (key_below v q) (below_trans v w q is under) over)
 
--- which of two children comes first
-or_cases : (a b : Bool) → (a || b) ≡ true → (a ≡ true) ⊎ (b ≡ true)
-or_cases true b is = inl refl
-or_cases false b is = inr is
-
-or_right : (a b : Bool) → b ≡ true → (a || b) ≡ true
-or_right true b is = refl
-or_right false b is = is
-
 before_cases : (a b : Start) → is_before a b ≡ true → (key_below a.pointer.key b.pointer.key ≡ true) ⊎ ((a.pointer.key ≡ b.pointer.key) × (nat_lt a.pointer.address b.pointer.address ≡ true))
 before_cases a b is = by (or_cases (key_below a.pointer.key b.pointer.key) (key_same a.pointer.key b.pointer.key && nat_lt a.pointer.address b.pointer.address) is)
   where
@@ -69,7 +47,7 @@ before_cases a b is = by (or_cases (key_below a.pointer.key b.pointer.key) (key_
     by (inl less) = inl less
     by (inr less) =
         let both = and_parts (key_same a.pointer.key b.pointer.key) (nat_lt a.pointer.address b.pointer.address) less in
-        inr (same_key a.pointer.key b.pointer.key both.0, both.1)
+        inr (same_name a.pointer.key b.pointer.key both.0, both.1)
 
 pub before_of : (a b : Start) → key_below a.pointer.key b.pointer.key ≡ true → is_before a b ≡ true
 before_of a b less = rw less refl

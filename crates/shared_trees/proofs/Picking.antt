@@ -3,6 +3,7 @@ use Rattle.std.proofs.Common.{◌≡◌, ℕ, ◌==◌, Bool, true, false, ◌&&
 use Rattle.std.proofs.lemmas.List.Folds.{list_any-append}
 use Rattle.std.specs.Prelude.{Some, map}
 use Rattle.std.specs.List.{AllByRecursion, list_any}
+use Rattle.verdict.proofs.Lists.{all_map}
 use Rattle.super_reader.specs.declared.Super.{Super}
 use Rattle.live_index.specs.declared.live.Live.{Live}
 use Rattle.node_reader.specs.Stored.{Stored}
@@ -17,10 +18,6 @@ use Rattle.shared_trees.proofs.Forest.{all_lives}
 pub each_both : {A : Type 0} (P Q : A → Type 0) (xs : List A) → AllByRecursion P xs → AllByRecursion Q xs → AllByRecursion (λ x. P x × Q x) xs
 each_both P Q [] all more = tt
 each_both P Q (x ∷ xs) all more = ((all.0, more.0), each_both P Q xs all.1 more.1)
-
-pub each_map : {A : Type 0} (P Q : A → Type 0) (xs : List A) → ((x : A) → P x → Q x) → AllByRecursion P xs → AllByRecursion Q xs
-each_map P Q [] f all = tt
-each_map P Q (x ∷ xs) f all = (f x all.0, each_map P Q xs f all.1)
 
 pub each_if : {A : Type 0} (C : Type 0) (P : A → Type 0) (xs : List A) → (C → AllByRecursion P xs) → AllByRecursion (λ x. C → P x) xs
 each_if C P [] all = tt

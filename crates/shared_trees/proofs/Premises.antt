@@ -4,6 +4,7 @@ use Rattle.std.specs.Prelude.{Option, Some, None, Ok, nat_le}
 use Rattle.std.specs.List.{AllByRecursion}
 use Rattle.std.specs.Ordering.{nat_cmp}
 use Rattle.std.specs.FinMap.{FinMap}
+use Rattle.verdict.proofs.Lists.{all_map as each_map}
 use Rattle.verdict.specs.declared.place.Chunk.{Chunk}
 use Rattle.verdict.proofs.Tables.{joined_none}
 use Rattle.volume_items.specs.ChunkOrder.{all_by_start, by_start, put_by_start}
@@ -24,10 +25,10 @@ use Rattle.shared_trees.proofs.ArrayTree.{Chain, above, chain_of, put_each}
 use Rattle.shared_trees.proofs.Forest.{stands_as, tables_stand}
 use Rattle.shared_trees.proofs.Listing.{lists}
 use Rattle.shared_trees.proofs.MarkedTrees.{marks_image, moves_image}
-use Rattle.shared_trees.proofs.Picking.{each_both, each_map}
+use Rattle.shared_trees.proofs.Picking.{each_both}
 use Rattle.shared_trees.proofs.Treed.{map_kept, steps_of, trees_walk}
 
-flip : (c d : Chunk) → LieApart c d → LieApart d c
+pub flip : (c d : Chunk) → LieApart c d → LieApart d c
 flip c d (inl is) = inr is
 flip c d (inr is) = inl is
 
@@ -85,33 +86,3 @@ pub chunks_apart : (image : List ℕ) (whole : Walked) → walked image ≡ Ok w
 chunks_apart image whole walks =
     let steps = steps_of image whole walks in
     map_apart whole.chunks steps.array (length image) (map_kept whole.sup steps.array whole.chunks image steps.chunks_are)
-
--- From what the calls promise that mark the pairs that writes touch and those whose block moved by other chunks, and that list the moved
--- children, by the table of the old pairs: all old trees are marked, and their moved children are listed.
-pub premises_by : (image : List ℕ) (pending : FinMap nat_cmp ℕ) (old : Walked) (new : List Chunk) (before : List Tree) (pairs : Pairs)
-    (marked moving : Marks) (under : Under)
-    → AreNarrow pairs → HasTrees image old before
-    → ((tree address : ℕ) → pairs tree address ≡ table_of (live_in old.seen) tree address)
-    → AreMarkedFrom pairs (at_address (touches_old old (written_in pending) (length image)))
-    (at_address (touches_old old (written_in pending) (length image))) no_mark marked
-    → AreMarkedFrom pairs (at_address (held_and_moved old.chunks new old.sup.nodesize (length image)))
-    (at_address (is_moved old.chunks new old.sup.nodesize (length image))) no_mark moving
-    → AreListedBy pairs moving under
-    → AllByRecursion (MarksTouched old (written_in pending) (length image) marked) before
-    × AllByRecursion (MovesListedBy old new (length image) moving under) before
-premises_by image pending old new before pairs marked moving under are has pairs_are touched from listed =
-    let table = table_of (live_in old.seen) in
-    let walk = trees_walk image old before has in
-    let test = at_address (touches_old old (written_in pending) (length image)) in
-    let moved = is_moved old.chunks new old.sup.nodesize (length image) in
-    let moves = moves_image image old before pairs new (length image) moving are has pairs_are from in
-    let stand = tables_stand old.sup before old.seen walk.0 walk.1 in (
-      marks_image image old before pairs test test marked are has pairs_are (λ tree address some is. is) touched,
-      each_map (λ (tree : Tree). Stands table old.sup tree.0 tree.1 × AreMarked moving moved old.sup tree.0 tree.1)
-          (MovesListedBy old new (length image) moving under) before
-          (λ tree h. record {
-            marks = h.1;
-            lists = lists pairs moving under old.sup tree.0 tree.1 (stands_as old.sup tree table pairs (pairs_are tree.1.tree) h.0) listed;
-          })
-          (each_both (λ (tree : Tree). Stands table old.sup tree.0 tree.1) (λ tree. AreMarked moving moved old.sup tree.0 tree.1) before stand moves),
-    )

@@ -3,6 +3,8 @@ use Rattle.std.proofs.Common.{◌≡◌, ℕ, ◌==◌, Bool, true, ◌&&◌, Li
 use Rattle.std.specs.Prelude.{Some, bytes_eq}
 use Rattle.std.specs.List.{AllByRecursion, list_any}
 use Rattle.std.specs.Result.{IsOk}
+use Rattle.verdict.proofs.Lists.{all_map}
+use Rattle.verdict.proofs.Truth.{and_parts}
 use Rattle.super_reader.specs.declared.Super.{Super}
 use Rattle.live_index.specs.Pairs.{Pairs}
 use Rattle.live_index.specs.declared.live.Live.{Live}
@@ -12,9 +14,7 @@ use Rattle.records.specs.Walk.{Records}
 use Rattle.records.specs.WalkLaw.{visited}
 use Rattle.shared_trees.specs.Keeping.{AreListed, AreMarked, Comes, IsKnown, Marks, OneOf, Stands, Under, comes_to, first_in, last_in, live_at, owner_in, starts_at}
 use Rattle.shared_trees.specs.Shared.{are_read_alike}
-use Rattle.shared_trees.proofs.Bounds.{and_parts}
 use Rattle.shared_trees.proofs.Images.{read_alike, same_fsid, visited_same}
-use Rattle.shared_trees.proofs.Picking.{each_map}
 use Rattle.shared_trees.proofs.Sharing.{if_some_map}
 
 one_map : (P Q : Expect → Type 0) (es : List Expect) → ((v : Expect) → P v → Q v) → OneOf P es → OneOf Q es
@@ -49,7 +49,7 @@ module _ (a b : Super) (alike : are_read_alike a b ≡ true) where
   comes_alike : (P Q : Expect → Type 0) (stored : Stored) (root : Expect) → ((v : Expect) → P v → Q v) → Comes P a stored root → Comes Q b stored root
   comes_alike P Q stored root f comes = record {
     fine = subst (λ (walk : Records). IsOk walk) (read_alike a b stored root alike) comes.fine;
-    each = subst (AllByRecursion Q) (visited_alike stored root) (each_map P Q (visited a stored root) f comes.each);
+    each = subst (AllByRecursion Q) (visited_alike stored root) (all_map P Q (visited a stored root) f comes.each);
   }
 
   pub stands_alike : (pairs : Pairs) (stored : Stored) (root : Expect) → Stands pairs a stored root → Stands pairs b stored root

@@ -4,6 +4,8 @@ use Rattle.std.proofs.lemmas.Bool.{eqb-true}
 use Rattle.std.proofs.lemmas.List.Folds.{list_any-append}
 use Rattle.std.specs.Prelude.{Option, Some, None, Result, Ok, Err, map}
 use Rattle.std.specs.List.{AllByRecursion, fold, list_any}
+use Rattle.walk_laws.proofs.Trees.{step_ok}
+use Rattle.verdict.proofs.Truth.{neither}
 use Rattle.verdict.specs.Rules.{and_then, finding_or, first_failing, or_found}
 use Rattle.verdict.specs.declared.finding.Finding.{Finding}
 use Rattle.verdict.specs.declared.key.Key.{Key}
@@ -39,10 +41,6 @@ use Rattle.shared_trees.specs.TableLaw.{AreApart, TableLaw, Tree, is_other, tree
 use Rattle.shared_trees.proofs.Forest.{of_root, tables_stand, walks}
 use Rattle.shared_trees.proofs.Lives.{ok_same}
 use Rattle.shared_trees.proofs.Trails.{Matches, Tells, Trail, Visit, all_own, tells, trail_of}
-
-pub step_ok : {A B : Type 0} (step : Result A Finding) (next : A → Result B Finding) (value : B) → and_then step next ≡ Ok value → (a : A) × (step ≡ Ok a) × (next a ≡ Ok value)
-step_ok (Err finding) next value is = absurd (cc)
-step_ok (Ok a) next value is = (a, refl, is)
 
 -- a root item has an id that one may have, with some set of features
 abbrev pub HasRootId : RootItem → Type 0
@@ -170,10 +168,6 @@ other_id n id none is = by (n == id) refl
         absurd (cc)
     by false same = refl
 
-or_false : (a b : Bool) → (a || b) ≡ false → (a ≡ false) × (b ≡ false)
-or_false true b is = absurd (cc)
-or_false false b is = (refl, is)
-
 -- no later root item has the id of one before
 none_before : (before roots : List RootItem) → repeated_after before roots ≡ None → AllByRecursion (λ r. list_any (names r.key.objectid) before ≡ false) roots
 unfolding repeated_after
@@ -183,7 +177,7 @@ none_before before (r ∷ roots) none = by (list_any (names r.key.objectid) befo
     fewer : (some : List RootItem) → AllByRecursion (λ q. list_any (names q.key.objectid) (before ++ r ∷ []) ≡ false) some → AllByRecursion (λ q. list_any (names q.key.objectid) before ≡ false) some
     fewer [] all = tt
     fewer (q ∷ some) all =
-        ((or_false (list_any (names q.key.objectid) before) (list_any (names q.key.objectid) (r ∷ [])) (sym (list_any-append (names q.key.objectid) before (r ∷ [])) ∙ all.0)).0, fewer some all.1)
+        ((neither (list_any (names q.key.objectid) before) (list_any (names q.key.objectid) (r ∷ [])) (sym (list_any-append (names q.key.objectid) before (r ∷ [])) ∙ all.0)).0, fewer some all.1)
 
     by : (b : Bool) → list_any (names r.key.objectid) before ≡ b → (if b then Some (roots_finding 1 r.key) else repeated_after (before ++ r ∷ []) roots) ≡ None
         → (repeated_after (before ++ r ∷ []) roots ≡ None → AllByRecursion (λ q. list_any (names q.key.objectid) (before ++ r ∷ []) ≡ false) roots)
@@ -216,7 +210,7 @@ module _ (stored : Stored) where
       each_apart : (some : List RootItem) → AllByRecursion (λ q. list_any (names q.key.objectid) (before ++ r ∷ []) ≡ false) some → AllByRecursion (λ b. is_other (stored, named_root r) b ≡ true) (named some)
       each_apart [] all = tt
       each_apart (q ∷ some) all =
-          (lift (r.key.objectid == q.key.objectid) (or_false (list_any (names q.key.objectid) before) (list_any (names q.key.objectid) (r ∷ [])) (sym (list_any-append (names q.key.objectid) before (r ∷ [])) ∙ all.0)).1, each_apart some all.1)
+          (lift (r.key.objectid == q.key.objectid) (neither (list_any (names q.key.objectid) before) (list_any (names q.key.objectid) (r ∷ [])) (sym (list_any-append (names q.key.objectid) before (r ∷ [])) ∙ all.0)).1, each_apart some all.1)
 
   named_other : (tree : Tree) → ((features : ℕ) → is_root_id features tree.1.tree ≡ false) → (roots : List RootItem) → AllByRecursion HasRootId roots → AllByRecursion (λ b. is_other tree b ≡ true) (named roots)
   named_other tree none [] all = tt
@@ -250,9 +244,6 @@ roots_are sup chunks image roots is =
     by (Err finding) w rs is = absurd (cc)
     by (Ok records) w rs is =
         subst (AllByRecursion HasRootId) (ok_of (fold with_root [] records) rs is) (fold_fits records [] (walk_fits sup (stored_in image chunks sup.nodesize) (root_tree_root sup) records refl w) tt)
-
-ok_lists : (a b : List Chunk) → finding_or {A = List Chunk} None a ≡ Ok b → a ≡ b
-ok_lists a b is = cc
 
 pub all_walks : (sup : Super) (array chunks : List Chunk) (roots : List RootItem) (image : List ℕ) → walks sup (trees_in sup array chunks roots image) ≡ all_records sup array chunks roots image
 unfolding all_records walk_in

@@ -2,6 +2,9 @@
 use Rattle.std.proofs.Common.{◌≡◌, ℕ, zero, suc, ◌<◌, ◌≤◌, ◌==◌, Bool, true, false, List, [], ◌∷◌, ◌⊎◌, inl, inr, refl, ap, sym, subst, ◌∙◌, arith}
 use Rattle.std.specs.Prelude.{Option, Some, None, Result, Ok, Err}
 use Rattle.std.proofs.lemmas.Grind.{common_steps}
+use Rattle.live_index.proofs.PlaceLaws.{same_name}
+use Rattle.shared_trees.proofs.Sharing.{first_is, header_kept}
+use Rattle.verdict.proofs.Truth.{and_parts}
 use Rattle.verdict.specs.OnDisk.{key_below}
 use Rattle.verdict.specs.Rules.{first_failing}
 use Rattle.verdict.specs.declared.key.Key.{Key}
@@ -21,26 +24,13 @@ use Rattle.walk_laws.proofs.Keys.{NoneBelow}
 use Rattle.shared_trees.specs.Keeping.{first_in, live_at}
 use Rattle.shared_trees.specs.Skips.{is_below}
 use Rattle.shared_trees.proofs.Accepted.{Accepts, LowFits, accepts, keys_at, visit_of, walk_accepted}
-use Rattle.shared_trees.proofs.Bounds.{and_parts, below_self, below_through, keys_below}
+use Rattle.shared_trees.proofs.Bounds.{below_self, below_through, keys_below}
 use Rattle.shared_trees.proofs.Climbing.{Table}
-use Rattle.shared_trees.proofs.Lasting.{low_fits}
-use Rattle.shared_trees.proofs.Ordering.{from_trans, not_less, same_key}
+use Rattle.shared_trees.proofs.Lasting.{low_fits, first_of_each}
+use Rattle.shared_trees.proofs.Ordering.{from_trans, not_less}
 use Rattle.shared_trees.proofs.Trails.{Trail, after, then_trail, trail_and, trail_below, trail_of, trails}
 use Rattle.shared_trees.proofs.Visiting.{Visits, visits_after, visits_both, visits_map, visits_then, visits_then_first, visits_then_later}
 use Rattle.shared_trees.proofs.Within.{keys_fit, node_keys, pointer_keys, rest_of}
-
-header_kept : (bytes fsid : List ℕ) (e : Expect) → block_fault bytes fsid e ≡ None → first_failing (header_rules bytes fsid e) ≡ None
-unfolding block_fault
-header_kept bytes fsid e none = (joined_none (header_rules bytes fsid e) _ none).0
-
--- the first key of a block that has one
-first_is : (sup : Super) (stored : Stored) (v : Expect) (a : Accepts sup stored v) → (count_of a.bytes == 0) ≡ false → first_in (stored v.address) ≡ entry_key a.bytes (entry_size v.level) 0
-first_is sup stored v a some = rw (a.is, some, level_kept a.bytes sup.fsid v (header_kept a.bytes sup.fsid v a.passes)) refl
-
-first_of_each : {A : Type 0} (entry : ℕ → A) (n : ℕ) → (n == 0) ≡ false → (rest : List A) × (each_from entry 0 n ≡ entry 0 ∷ rest)
-unfolding each_from
-first_of_each entry zero is = absurd (cc)
-first_of_each entry (suc n) is = (each_from entry 1 n, refl)
 
 -- one of these pointers has this address
 abbrev pub AtAddress : ℕ → List Pointer → Type 0
@@ -85,7 +75,7 @@ module _ (table : Table) (sup : Super) (stored : Stored) where
   first_child level c key low all =
       let a = accepts Known (trail_below level sup stored) sup stored c all in
       let fits : LowFits (Some key) c.level a.bytes = subst (λ l. LowFits l c.level a.bytes) low (low_fits sup stored c a) in
-      first_is sup stored c a fits.0 ∙ sym (same_key key (entry_key a.bytes (entry_size c.level) 0) fits.1)
+      first_is sup stored c a fits.0 ∙ sym (same_name key (entry_key a.bytes (entry_size c.level) 0) fits.1)
 
   -- a block lies from a first key on, and below a bound
   pub record IsIn (low : Key) (high : Option Key) (w : Expect) : Type 0 where

@@ -4,6 +4,8 @@ use Rattle.std.specs.Prelude.{Option, Some, None, is_none, is_some, IfSome, Ok, 
 use Rattle.std.proofs.lemmas.Bool.{eqb-true}
 use Rattle.std.proofs.lemmas.Bool.Decides.{nat_tests}
 use Rattle.std.proofs.lemmas.Grind.{common_steps}
+use Rattle.verdict.proofs.Numbers.{itself}
+use Rattle.verdict.proofs.Truth.{and_true, and_parts, neither}
 use Rattle.verdict.specs.OnDisk.{key_below, key_same}
 use Rattle.verdict.specs.Rules.{first_failing}
 use Rattle.verdict.specs.declared.key.Key.{Key}
@@ -25,8 +27,8 @@ use Rattle.shared_trees.specs.declared.starts.Start.{Start}
 use Rattle.shared_trees.specs.SkipLaw.{IsSound, anew_below}
 use Rattle.shared_trees.specs.Skips.{Kept, Told, is_below, nothing, unkept}
 use Rattle.shared_trees.proofs.Accepted.{Accepts, IsAs, LowFits, accepts, high_finding, keys_at, visit_of, walk_again}
-use Rattle.shared_trees.proofs.Bounds.{and_parts, and_true, keys_below, upto, upto_none, upto_then, upto_through}
-use Rattle.shared_trees.proofs.Lasting.{last_from, last_of_none, lasting, low_fits}
+use Rattle.shared_trees.proofs.Bounds.{keys_below, upto, upto_none, upto_then, upto_through}
+use Rattle.shared_trees.proofs.Lasting.{last_from, last_of_none, lasting, low_fits, same_sym}
 use Rattle.shared_trees.proofs.Sifting.{IsSame, LowAt, Yields, fits, fits_is, sift_block, starts_level, unkept_all, yields_is}
 use Rattle.shared_trees.proofs.Trails.{Trail, Visit, after, then_trail, trail_and, trail_below, trail_of, trails}
 use Rattle.shared_trees.proofs.Visiting.{Each, Visits, VisitsOne, visits_after, visits_any, visits_any_from, visits_both, visits_fail, visits_from, visits_map, visits_one, visits_one_from, visits_pass, visits_then_first, visits_then_later}
@@ -49,9 +51,6 @@ carries_then P true b (Err finding) later all more = elim all [ ]
 carries_then P true b (Ok visits) later all more = carries_after P b visits later all more
 carries_then P false b (Err finding) later all more = tt
 carries_then P false b (Ok visits) later all more = elim all [ ]
-
-pub itself : (n : ℕ) → (n == n) ≡ true
-itself n = grind (arith, nat_tests)
 
 -- the bound of a child or of its node, where what is below the child is below the next key
 bound_split : (trail : Trail) (later : Bool) (pointers : List Pointer) (high old_high : Option Key) → upto trail (high_of pointers old_high) ≡ true → keys_below (pointer_keys pointers) high ≡ true
@@ -79,23 +78,16 @@ found e starts last false (Some live) is = by (is_same e live) refl is
     by true same is = record { live = live; free = refl; known = refl; same = same; last_is = cc }
     by false same is = absurd (cc)
 
-pub neither : (a b : Bool) → (a || b) ≡ false → (a ≡ false) × (b ≡ false)
-neither true b is = absurd (cc)
-neither false b is = (refl, is)
-
 -- the first key of a block that is accepted
 pub header_kept : (bytes fsid : List ℕ) (e : Expect) → block_fault bytes fsid e ≡ None → first_failing (header_rules bytes fsid e) ≡ None
 unfolding block_fault
 header_kept bytes fsid e none = (joined_none (header_rules bytes fsid e) _ none).0
 
-first_is : (sup : Super) (old : Stored) (v : Expect) (a : Accepts sup old v) → (count_of a.bytes == 0) ≡ false → first_in (old v.address) ≡ entry_key a.bytes (entry_size v.level) 0
+pub first_is : (sup : Super) (old : Stored) (v : Expect) (a : Accepts sup old v) → (count_of a.bytes == 0) ≡ false → first_in (old v.address) ≡ entry_key a.bytes (entry_size v.level) 0
 first_is sup old v a some = rw (a.is, some, level_kept a.bytes sup.fsid v (header_kept a.bytes sup.fsid v a.passes)) refl
 
 first_of_none : (sup : Super) (old : Stored) (v : Expect) (a : Accepts sup old v) → (count_of a.bytes == 0) ≡ true → first_in (old v.address) ≡ greatest_key
 first_of_none sup old v a none = rw (a.is, none) refl
-
-same_sym : (a b : Key) → key_same a b ≡ true → key_same b a ≡ true
-same_sym a b same = grind (arith, common_steps)
 
 -- what is expected is what was visited where the test says so
 pub same_from : (P : Expect → Type 0) (sup : Super) (old : Stored) (e v : Expect) → IsSame old e v → is_some e.low ≡ true → Visits P (trail_of sup old v) → is_same e (live_at sup old v) ≡ true

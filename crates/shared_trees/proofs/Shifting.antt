@@ -6,6 +6,8 @@ use Rattle.std.specs.Prelude.{Option, Some, None, Ok, is_some, map}
 use Rattle.std.specs.List.{AllByRecursion, filter, flat_map, list_any}
 use Rattle.std.specs.Ordering.{nat_cmp}
 use Rattle.std.specs.FinMap.{FinMap}
+use Rattle.verdict.proofs.Lists.{all_map as each_map}
+use Rattle.verdict.proofs.Truth.{and_parts, neither}
 use Rattle.verdict.specs.OnDisk.{key_same}
 use Rattle.write_cache.specs.Cache.{overlaid}
 use Rattle.super_reader.specs.declared.Super.{Super}
@@ -25,13 +27,11 @@ use Rattle.shared_trees.specs.SharedLaw.{KeepsShared, MarksTouched, moves_betwee
 use Rattle.shared_trees.specs.ShiftedLaw.{MovesListed, ShiftedLaw, is_shifted, shifted_met}
 use Rattle.shared_trees.specs.Skips.{Kept}
 use Rattle.shared_trees.specs.TableLaw.{AreApart, Tree}
-use Rattle.shared_trees.proofs.Bounds.{and_parts}
 use Rattle.shared_trees.proofs.Forest.{all_lives, lives_all, lives_of, others_all, stands_as, table_none, tables_stand, walks}
 use Rattle.shared_trees.proofs.KeptImage.{IsOfImage, keeps_image, of_image, was}
 use Rattle.shared_trees.proofs.Meeting.{none_kept, shown_at, shows}
-use Rattle.shared_trees.proofs.Picking.{each_both, each_map, one_of}
+use Rattle.shared_trees.proofs.Picking.{each_both, one_of}
 use Rattle.shared_trees.proofs.ReadAlike.{listed_alike, marked_alike, stands_alike}
-use Rattle.shared_trees.proofs.Sharing.{neither}
 use Rattle.shared_trees.proofs.Tables.{Any, any_each}
 use Rattle.shared_trees.proofs.Treed.{trees_walk}
 use Rattle.shared_trees.proofs.Visiting.{visits_from}
@@ -41,7 +41,7 @@ abbrev pub differ : Live → Live → Bool
 differ one live = not (one.parent == live.parent && key_same one.last live.last)
 
 -- a pair of which a walk without a touched block is alike stands among the pairs
-alike_some : (touched : ℕ → Bool) (live : Live) (seen : List Seen) → stands_untouched touched seen live ≡ true
+pub alike_some : (touched : ℕ → Bool) (live : Live) (seen : List Seen) → stands_untouched touched seen live ≡ true
     → list_any (λ one. are_alike one live) (live_in seen) ≡ true
 unfolding stands_untouched live_in
 alike_some touched live [] is = absurd (cc)

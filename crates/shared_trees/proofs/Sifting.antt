@@ -2,6 +2,7 @@
 use Rattle.std.proofs.Common.{◌≡◌, ℕ, zero, suc, ◌-◌, Bool, true, false, ◌&&◌, List, [], ◌∷◌, ◌++◌, refl, ap, sym, subst, ◌∙◌, arith}
 use Rattle.std.specs.Prelude.{Option, Some, None, is_none, is_some, Result, Ok, Err, if◌then◌else◌}
 use Rattle.std.specs.List.{AllByRecursion, flat_map}
+use Rattle.verdict.proofs.Truth.{and_parts, absorbs_left}
 use Rattle.verdict.specs.OnDisk.{key_below}
 use Rattle.verdict.specs.declared.key.Key.{Key}
 use Rattle.super_reader.specs.declared.Super.{Super}
@@ -19,7 +20,7 @@ use Rattle.shared_trees.specs.Keeping.{bound_at, bound_of, or_high, starts_at, s
 use Rattle.shared_trees.specs.SkipLaw.{anew_below}
 use Rattle.shared_trees.specs.Skips.{Kept, Told, is_below, unkept}
 use Rattle.shared_trees.proofs.Accepted.{IsAs, LowFits, accepts, high_finding, keys_at, visit_of, walk_again}
-use Rattle.shared_trees.proofs.Bounds.{and_parts, below_through, keys_below, upto, upto_then, upto_through}
+use Rattle.shared_trees.proofs.Bounds.{below_through, keys_below, upto, upto_then, upto_through}
 use Rattle.shared_trees.proofs.Lasting.{low_fits}
 use Rattle.shared_trees.proofs.Skipping.{own_or, pick, unkept_after, unkept_in, unkept_is, unkept_then}
 use Rattle.shared_trees.proofs.Trails.{Tells, Trail, Visit, after, tells, then_trail, trail_and, trail_below, trail_of, trails}
@@ -138,11 +139,6 @@ fits_first moving false pointer (next ∷ pointers) trail r high old_high none b
     let key = (and_parts (is_below next.key high) (keys_below (pointer_keys pointers) high) (and_parts (is_below pointer.key high) (keys_below (pointer_keys (next ∷ pointers)) high) keys).1).0 in
     let whole : upto trail high ≡ true = upto_through trail next.key high below key in
     ap (λ b. b && fits (starts_in moving (next ∷ pointers)) r high) below ∙ ap (λ b. fits (starts_in moving (next ∷ pointers)) (b && r) high) (sym whole)
-
-absorbs_left : (a b : Bool) → (b ≡ true → a ≡ true) → (a && b) ≡ b
-absorbs_left true b f = refl
-absorbs_left false true f = f refl
-absorbs_left false false f = refl
 
 -- the pointers of a node and what is below it
 fits_own : (moving : ℕ → Bool) (pointers : List Pointer) (g : Bool) (high : Option Key) → Ascend (pointer_keys pointers)

@@ -8,6 +8,7 @@ use Rattle.std.specs.Ordering.{nat_cmp}
 use Rattle.std.specs.List.Sorted.{IsBinarySearchResult, IsNonDecreasingBy, IsPermutation}
 use Rattle.std.proofs.lemmas.Bool.{eqb-true, eq-eqb}
 use Rattle.std.proofs.lemmas.List.Sorted.{list_any-IsPermutation, searched}
+use Rattle.verdict.proofs.Truth.{or_right}
 use Rattle.verdict.specs.Rules.{and_then}
 use Rattle.verdict.specs.declared.finding.Finding.{Finding}
 use Rattle.super_reader.specs.declared.Super.{Super}
@@ -45,15 +46,11 @@ addresses_more met i d before after inside so more =
     more ∙ ap (λ l. l ++ (get_or met i d).expect.address ∷ []) so
     ∙ sym (ap addresses_of (take_more met i d inside) ∙ addresses_both (take i met) (get_or met i d ∷ []))
 
-or_true : (b c : Bool) → c ≡ true → (b || c) ≡ true
-or_true true c is = refl
-or_true false c is = is
-
 -- an address is one of some where one of them is equal to it, and else none
 pub has_at : (addresses : List ℕ) (a i : ℕ) → i < length addresses → get_or addresses i 0 ≡ a → has_address addresses a ≡ true
 has_at [] a i inside is = absurd (omega arith)
 has_at (one ∷ more) a zero inside is = ap (λ b. b || has_address more a) (eq-eqb one a is)
-has_at (one ∷ more) a (suc i) inside is = or_true (one == a) _ (has_at more a i (omega arith) is)
+has_at (one ∷ more) a (suc i) inside is = or_right (one == a) _ (has_at more a i (omega arith) is)
 
 no_other : (one a : ℕ) (b : Bool) → (one == a) ≡ b → (one ≡ a → ⊥) → b ≡ false
 no_other one a true is none = absurd (none (eqb-true one a is))
@@ -88,7 +85,7 @@ search_has addresses a (Err i) rise found =
 pub stop_at : (met : List Met) (i : ℕ) (d : Met) → i < length met → is_stop (blocks_met met) (get_or met i d).expect.address ≡ true
 stop_at [] i d inside = absurd (omega arith)
 stop_at (one ∷ met) zero d inside = ap (λ b. b || is_stop (blocks_met met) one.expect.address) (eq-eqb one.expect.address one.expect.address refl)
-stop_at (one ∷ met) (suc i) d inside = or_true (one.expect.address == (get_or met i d).expect.address) _ (stop_at met i d (omega arith))
+stop_at (one ∷ met) (suc i) d inside = or_right (one.expect.address == (get_or met i d).expect.address) _ (stop_at met i d (omega arith))
 
 -- no blocks were met
 pub met_none : (pairs : Pairs) (met : List Met) → met ≡ [] → AreMetBy pairs met

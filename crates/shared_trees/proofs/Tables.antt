@@ -6,6 +6,7 @@ use Rattle.std.proofs.lemmas.Bool.Decides.{nat_tests}
 use Rattle.std.specs.Prelude.{Option, Some, None, IfSome, Ok, map}
 use Rattle.std.specs.List.{AllByRecursion}
 use Rattle.std.specs.Result.{IsOk}
+use Rattle.verdict.proofs.Truth.{and_parts}
 use Rattle.verdict.specs.OnDisk.{key_below, key_same}
 use Rattle.verdict.specs.declared.key.Key.{Key}
 use Rattle.super_reader.specs.declared.Super.{Super}
@@ -26,7 +27,7 @@ use Rattle.shared_trees.specs.Keeping.{IsKnown, OneOf, Stands, live_at}
 use Rattle.shared_trees.specs.LivePairs.{table_of}
 use Rattle.shared_trees.specs.Skips.{is_below}
 use Rattle.shared_trees.proofs.Accepted.{Accepts, LowFits, accepts, keys_at, visit_of, walk_accepted}
-use Rattle.shared_trees.proofs.Bounds.{and_parts, below_through}
+use Rattle.shared_trees.proofs.Bounds.{below_through}
 use Rattle.shared_trees.proofs.Lasting.{low_fits}
 use Rattle.shared_trees.proofs.Trails.{Trail, then_trail, trail_and, trail_below, trail_of, trails}
 use Rattle.shared_trees.proofs.Visiting.{Visits, comes_from, visits_after, visits_both, visits_from, visits_map, visits_then, visits_then_first, visits_then_later}

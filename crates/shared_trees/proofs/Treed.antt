@@ -2,6 +2,8 @@
 use Rattle.std.proofs.Common.{◌≡◌, ℕ, zero, suc, ◌<◌, Bool, true, false, List, [], ◌∷◌, ◌++◌, length, refl, ap, sym, subst, ◌∙◌, arith}
 use Rattle.std.specs.Prelude.{None, Ok, Err, map, nat_lt, if◌then◌else◌}
 use Rattle.std.specs.List.{AllByRecursion, flat_map}
+use Rattle.walk_laws.proofs.Trees.{step_ok}
+use Rattle.verdict.proofs.Lists.{all_map}
 use Rattle.verdict.specs.Image.{range}
 use Rattle.verdict.specs.Rules.{and_then, finding_or, first_failing, image_finding}
 use Rattle.verdict.specs.Trees.{is_node_size}
@@ -29,8 +31,7 @@ use Rattle.shared_trees.specs.TableLaw.{AreApart, Tree, trees_in}
 use Rattle.shared_trees.proofs.Accepted.{accepts}
 use Rattle.shared_trees.proofs.ArrayTree.{same_stored}
 use Rattle.shared_trees.proofs.Forest.{then_ok, walks}
-use Rattle.shared_trees.proofs.Picking.{each_map}
-use Rattle.shared_trees.proofs.Rooted.{all_apart, all_walks, roots_are, step_ok}
+use Rattle.shared_trees.proofs.Rooted.{all_apart, all_walks, roots_are}
 use Rattle.shared_trees.proofs.Tables.{Any, any_each}
 use Rattle.shared_trees.proofs.Trails.{trail_below, trail_of}
 use Rattle.shared_trees.proofs.Visiting.{Visits, comes_from, visits_from}
@@ -139,7 +140,7 @@ chunk_tree_alike image whole s =
     let any : Visits (Any sup stored) (trail_of sup stored root) =
     visits_from (Any sup stored) sup stored root (record { fine = rw split.2 refl; each = any_each sup stored (visited sup stored root) }) in
     alike_all stored other (visited sup stored root)
-    (each_map (Below (Any sup stored) sup stored) (λ w. other w.address ≡ stored w.address) (visited sup stored root) (λ w below. block w below)
+    (all_map (Below (Any sup stored) sup stored) (λ w. other w.address ≡ stored w.address) (visited sup stored root) (λ w below. block w below)
     (comes_from (Below (Any sup stored) sup stored) sup stored root (within (Any sup stored) sup stored root any)).each)
   where
     stored : Stored
@@ -157,7 +158,7 @@ chunk_tree_alike image whole s =
         same_stored image whole.chunks s.array whole.sup.nodesize a.bytes w.address (nodesize_some image whole.sup s.sup_is)
         (map_kept whole.sup s.array whole.chunks image s.chunks_are) a.is
 
-same_chunks : (place : At) (array : List ℕ) (n : ℕ) (a b : List Chunk) → array_chunks place array n ≡ Ok a → array_chunks place array n ≡ Ok b → a ≡ b
+pub same_chunks : (place : At) (array : List ℕ) (n : ℕ) (a b : List Chunk) → array_chunks place array n ≡ Ok a → array_chunks place array n ≡ Ok b → a ≡ b
 same_chunks place array n a b x y = cc
 
 pub chunk_tree : ChunkTreeLaw

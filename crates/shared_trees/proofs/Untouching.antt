@@ -4,6 +4,9 @@ use Rattle.std.proofs.Common.{◌≡◌, ℕ, zero, suc, Bool, true, false, not,
 use Rattle.std.proofs.lemmas.List.Folds.{list_any-append}
 use Rattle.std.specs.Prelude.{Ok, Err}
 use Rattle.std.specs.List.{list_any}
+use Rattle.walk_laws.proofs.Trees.{step_ok}
+use Rattle.verdict.proofs.Truth.{or_assoc}
+use Rattle.verdict.proofs.Lists.{append_append}
 use Rattle.super_reader.specs.declared.Super.{Super}
 use Rattle.live_index.specs.declared.live.Live.{Live}
 use Rattle.node_reader.specs.Layout.{pointers_of}
@@ -22,16 +25,11 @@ use Rattle.shared_trees.specs.Skips.{own_of}
 use Rattle.shared_trees.specs.TableLaw.{AreApart, Tree}
 use Rattle.shared_trees.proofs.Accepted.{Accepts, accepts, visit_of, walk_accepted}
 use Rattle.shared_trees.proofs.Forest.{others_after, stops_none, then_ok, walks}
-use Rattle.shared_trees.proofs.Lives.{Inside, NoBlocks, Placed, PlacedAll, Stops, Under, append_append, entries_none, inside_append, inside_none, live_is, ok_same, placed, placed_append, placed_none, records_until, stops_less, under_placed, walk_told}
-use Rattle.shared_trees.proofs.Rooted.{step_ok}
+use Rattle.shared_trees.proofs.Lives.{Inside, NoBlocks, Placed, PlacedAll, Stops, Under, entries_none, inside_append, inside_none, live_is, ok_same, placed, placed_append, placed_none, records_until, stops_less, under_placed, walk_told}
 use Rattle.shared_trees.proofs.Tables.{Any, any_each}
 use Rattle.shared_trees.proofs.Trails.{Matches, Tells, Trail, Visit, after, all_own, all_own_append, tells, then_trail, trail_and, trail_below, trail_of, trails}
 use Rattle.shared_trees.proofs.Visiting.{Visits, visits_from, visits_then_first, visits_then_later}
 use Rattle.shared_trees.proofs.Within.{rest_of}
-
-or_assoc : (a b c : Bool) → ((a || b) || c) ≡ (a || (b || c))
-or_assoc true b c = refl
-or_assoc false b c = refl
 
 -- records without a block have none that passes a test
 where_none : (test : ℕ → Bool) (records : List Seen) → NoBlocks records → list_any (is_block_where test) records ≡ false

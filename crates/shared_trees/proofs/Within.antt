@@ -2,6 +2,7 @@
 use Rattle.std.proofs.Common.{◌≡◌, ℕ, zero, suc, Bool, true, false, ◌&&◌, List, [], ◌∷◌, refl, ap, sym, subst, ◌∙◌, arith}
 use Rattle.std.specs.Prelude.{Option, Some, None, Result, Ok, Err, map, ◌==◌, if◌then◌else◌}
 use Rattle.std.proofs.lemmas.Bool.Decides.{nat_tests}
+use Rattle.verdict.proofs.Truth.{and_true, and_parts}
 use Rattle.verdict.specs.OnDisk.{key_below}
 use Rattle.verdict.specs.Rules.{and_then}
 use Rattle.verdict.specs.declared.finding.Finding.{Finding}
@@ -23,7 +24,7 @@ use Rattle.walk_laws.proofs.Blocks.{block_keys, item_keys_of, pointer_keys_of}
 use Rattle.walk_laws.proofs.Keys.{AllBelow}
 use Rattle.shared_trees.specs.Skips.{is_below}
 use Rattle.shared_trees.proofs.Accepted.{Accepts, accepts, keys_at, visit_of, walk_accepted}
-use Rattle.shared_trees.proofs.Bounds.{and_parts, and_true, keys_below, own_below, upto, upto_after, upto_then, upto_through}
+use Rattle.shared_trees.proofs.Bounds.{keys_below, own_below, upto, upto_after, upto_then, upto_through}
 use Rattle.shared_trees.proofs.Trails.{Trail, trail_and, trail_below, trail_of, trails}
 use Rattle.shared_trees.proofs.Visiting.{Visits, visits_after, visits_first, visits_later, visits_then, visits_then_first, visits_then_later}
 

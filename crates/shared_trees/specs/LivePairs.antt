@@ -86,7 +86,3 @@ walked image =
     and_then (root_items_in sup chunks image) (λ roots.
     and_then (all_records sup array chunks roots image) (λ seen.
     Ok (record { sup = sup; chunks = chunks; seen = seen }))))))
-
--- the live pairs of an image, or that finding
-abbrev pub live_pairs : List ℕ → Result (List Live) Finding
-live_pairs image = and_then (walked image) (λ w. Ok (live_in w.seen))

@@ -7,6 +7,7 @@ use Rattle.std.specs.declared.cmp.Ordering.TheVariants.{Less, Equal, Greater}
 use Rattle.std.proofs.Math.Path.{fun_ext}
 use Rattle.std.proofs.lemmas.List.{take_more}
 use Rattle.std.proofs.lemmas.List.Folds.{list_any-append}
+use Rattle.verdict.proofs.Truth.{neither, false_either_way, is_less}
 use Rattle.accounts.specs.declared.account.Account.{Account}
 use Rattle.accounts.specs.declared.postings.Posting.{Posting}
 use Rattle.accounts.specs.Broken.{is_broken}
@@ -30,10 +31,6 @@ touched_one ps p account = list_any-append (λ (one : Posting). is_same one.acco
 
 -- ---- an account to which no posting goes
 
-neither : (a b : Bool) → (a || b) ≡ false → (a ≡ false) × (b ≡ false)
-neither true b is = absurd (cc is)
-neither false b is = (refl, is)
-
 nothing_added : (s c : Bool) (amount rest : ℕ) → s ≡ false → rest ≡ 0 → cond (s && c) amount 0 + rest ≡ 0
 nothing_added true c amount rest is none = absurd (cc is)
 nothing_added false c amount rest is none = let same : 0 + rest ≡ 0 = omega arith in same
@@ -48,16 +45,12 @@ untouched (p ∷ ps) account n is =
 unmoved : (x y gone came : ℕ) → gone ≡ 0 → came ≡ 0 → x + gone ≡ y + came → x ≡ y
 unmoved x y gone came first second is = omega arith
 
-either : (broken t : Bool) → (t ≡ false → broken ≡ false) → (t ≡ true → broken ≡ false) → broken ≡ false
-either broken true other one = one refl
-either broken false other one = other refl
-
 -- where no other account is broken, the least of the touched is the least of all
 of_all : (sums : Sums) (ps : List Posting) (least : Option Account) → ((account : Account) → is_touched ps account ≡ false → is_broken account (sums account) ≡ false)
     → IsLeastTouched sums ps least → IsLeastBroken (λ account. is_broken account (sums account)) least
-of_all sums ps None others is = λ account. either (is_broken account (sums account)) (is_touched ps account) (others account) (is account)
+of_all sums ps None others is = λ account. false_either_way (is_broken account (sums account)) (is_touched ps account) (others account) (is account)
 of_all sums ps (Some least) others is =
-    (is.0, λ account less. either (is_broken account (sums account)) (is_touched ps account) (others account) (λ one. is.2 account one less))
+    (is.0, λ account less. false_either_way (is_broken account (sums account)) (is_touched ps account) (others account) (λ one. is.2 account one less))
 
 -- an account to which nothing that is gone or came goes keeps its rule
 other_keeps : (old new : Sums) (gone came : List Posting) → AreMoved old new gone came → ((account : Account) → is_broken account (old account) ≡ false)
@@ -101,11 +94,6 @@ no_less_itself a b same less =
     let it : account_cmp a a ≡ Less = subst (λ k. account_cmp k a ≡ Less) (sym same) less in
     absurd (cc (tie, it))
 
-is_Less : (o : Ordering) → is_lt o ≡ true → o ≡ Less
-is_Less Less is = refl
-is_Less Equal is = absurd (cc is)
-is_Less Greater is = absurd (cc is)
-
 module _ (sums : Sums) (ps : List Posting) (p : Posting) where
   -- the least stays: the posting's account is not broken, or does not stand before it
   unbroken_more : (least : Option Account) → is_broken p.account (sums p.account) ≡ false → IsLeastTouched sums ps least → IsLeastTouched sums (ps ++ p ∷ []) least
@@ -143,7 +131,7 @@ module _ (sums : Sums) (ps : List Posting) (p : Posting) where
     is_touched_here ps p,
     λ account more less.
         more_case ps p account (is_touched ps account) (is_same p.account account) refl refl more
-        (λ one. is.2 account one (account_total.trans account p.account least less (is_Less (account_cmp p.account least) before)))
+        (λ one. is.2 account one (account_total.trans account p.account least less (is_less (account_cmp p.account least) before)))
         (λ e. no_less_itself p.account account e less),
   )
 

@@ -11,13 +11,13 @@ use Rattle.accounts.proofs.Kept.{total_joined}
 use Rattle.touched_accounts.specs.Laws.{MovesLaw}
 
 -- a total is a sum over the postings
-total_by : (ps : List Posting) (account : Account) (n : ℕ) → total_of ps account n ≡ sum_by (λ (p : Posting). added p account n) ps
+pub total_by : (ps : List Posting) (account : Account) (n : ℕ) → total_of ps account n ≡ sum_by (λ (p : Posting). added p account n) ps
 unfolding total_of
 total_by [] account n = refl
 total_by (p ∷ ps) account n = ap (λ k. added p account n + k) (total_by ps account n) ∙ sym (sum_by-cons (λ (q : Posting). added q account n) p ps)
 
 -- the order of postings does not matter
-total_permuted : (ps qs : List Posting) (account : Account) (n : ℕ) → IsPermutation ps qs → total_of ps account n ≡ total_of qs account n
+pub total_permuted : (ps qs : List Posting) (account : Account) (n : ℕ) → IsPermutation ps qs → total_of ps account n ≡ total_of qs account n
 total_permuted ps qs account n is =
     total_by ps account n ∙ sym (sum_by-IsPermutation (λ (p : Posting). added p account n) ps qs is) ∙ sym (total_by qs account n)
 

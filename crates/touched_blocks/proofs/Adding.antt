@@ -8,6 +8,8 @@ use Rattle.std.proofs.lemmas.Bool.Decides.{nat_tests}
 use Rattle.std.proofs.lemmas.List.Folds.{list_any-append, list_any_at, list_any_more}
 use Rattle.std.proofs.lemmas.List.Sorted.{length_permutation, list_any-IsPermutation}
 use Rattle.std.proofs.lemmas.List.Sums.{sum_by_more}
+use Rattle.touched_blocks.proofs.Joining.{has_in}
+use Rattle.verdict.proofs.Truth.{and_left, and_right, and_true, or_cases, or_left, or_right}
 use Rattle.verdict.specs.Chunks.{home, holds_range, place_in, place_of_copies}
 use Rattle.verdict.specs.declared.place.Chunk.{Chunk}
 use Rattle.verdict.specs.declared.place.Place.TheVariants.{Nowhere, One, Two}
@@ -20,7 +22,7 @@ use Rattle.touched_blocks.specs.Pending.{touches, touches_in_chunk, touches_in_c
 use Rattle.touched_blocks.specs.Spots.{LiesIn, has_address, has_offset, is_in, meets_in_copy, ranges_meet}
 use Rattle.touched_blocks.specs.Touched.{Written, any_written, copy_written, written_in}
 use Rattle.touched_blocks.proofs.Moving.{IsOneOf, found_holds, has_byte, holds_byte, one_byte}
-use Rattle.touched_blocks.proofs.Writing.{and_true, either, left_of, one_written, or_left, or_right, right_of, written_one}
+use Rattle.touched_blocks.proofs.Writing.{one_written, written_one}
 
 -- ---- lists of ranges
 
@@ -74,7 +76,7 @@ adds_more Is must count xs i d old mid new begun inside more =
     subst (λ n. AreAdded Is (λ a. list_any (must a) (take (i + 1) xs)) n old new) (sym (sum_by_more count xs i d inside))
     (adds_then Is (λ a. list_any (must a) (take i xs)) (λ a. must a (get_or xs i d)) (λ a. list_any (must a) (take (i + 1) xs)) (sum_by count (take i xs))
     (count (get_or xs i d)) old mid new begun more
-    (λ a h. either _ _ (sym (list_any_more (must a) xs i d inside) ∙ h)))
+    (λ a h. or_cases _ _ (sym (list_any_more (must a) xs i d inside) ∙ h)))
 
 -- in whichever order
 pub adds_sorted : (Is : ℕ → Type 0) (must : ℕ → Bool) (n : ℕ) (old new sorted : List Range) → IsPermutation new sorted → AreAdded Is must n old new → AreAdded Is must n old sorted
@@ -111,9 +113,6 @@ common at m from n h = elim (cases_lt at from) [
 
     two : at < from + n
     two = grind (arith, nat_tests)
-
-has_at : (o : ℕ) (spot : Spot) → spot.at ≤ o → o < spot.at + spot.len → has_offset o spot ≡ true
-has_at o spot low high = grind (arith, nat_tests)
 
 in_chunks_copy : (chunk : Chunk) (copy a n o : ℕ) → holds_range chunk a n ≡ true → o < copy + (a - chunk.start) + n → o < copy + chunk.length
 in_chunks_copy chunk copy a n o holds high = grind (arith, nat_tests)
@@ -166,12 +165,12 @@ spot_touches pending spot chunk copy range of written low high meets a within pl
     one_byte pending.map.now found.0 chunk a apart held.1 (one_of pending.map.now of.0.0 chunk chunk of.0.1 of.0.2) (holds_byte found.0 a pending.nodesize some held.0) in_range in
     let is : home pending.map.now a pending.nodesize ≡ Some chunk = found.1 ∙ ap Some same in
     let holds : holds_range chunk a pending.nodesize ≡ true = subst (λ c. holds_range c a pending.nodesize ≡ true) same held.0 in
-    let at = common spot.at spot.len (copy + (a - chunk.start)) pending.nodesize (right_of (holds_range chunk a pending.nodesize) _ (meets a some within holds)) in
+    let at = common spot.at spot.len (copy + (a - chunk.start)) pending.nodesize (and_right (holds_range chunk a pending.nodesize) _ (meets a some within holds)) in
     subst (λ o. copy_written (written_in pending.cache.now) pending.nodesize (place_in o a pending.nodesize pending.end) ≡ true) (sym is)
     (copy_touched (written_in pending.cache.now) chunk.first chunk.second (a - chunk.start) pending.nodesize pending.end copy of.1
     (subst (λ o. has_place (place_in o a pending.nodesize pending.end) ≡ true) is placed)
     (one_written (written_in pending.cache.now) (copy + (a - chunk.start)) pending.nodesize at.0 at.3 at.4
-    (written at.0 (omega (arith, at.3)) (in_chunks_copy chunk copy a pending.nodesize at.0 holds at.4) (has_at at.0 spot at.1 at.2))))
+    (written at.0 (omega (arith, at.3)) (in_chunks_copy chunk copy a pending.nodesize at.0 holds at.4) (has_in at.0 spot at.1 at.2))))
   where
     above : range.from ≤ a
     above = grind (arith, nat_tests)
@@ -202,10 +201,10 @@ one_range pending spot chunk copy old new range of written lies low high only me
     subst (AreAdded (IsTouched pending) (meets_in_copy spot pending.nodesize chunk copy) (cond (ranges_meet spot.at spot.len copy chunk.length) 1 0) old) (sym is) (record {
       kept = λ a h. list_any-append (has_address a) old (range ∷ []) ∙ or_left _ _ h;
       found = λ a small h. list_any-append (has_address a) old (range ∷ []) ∙ or_right (is_in old a) _ (or_left _ _ (lies a small h));
-      only = λ a h. elim (either (is_in old a) _ (sym (list_any-append (has_address a) old (range ∷ [])) ∙ h)) [
+      only = λ a h. elim (or_cases (is_in old a) _ (sym (list_any-append (has_address a) old (range ∷ [])) ∙ h)) [
         | inl had ↦ inl had
         | inr here ↦ inr (spot_touches pending spot chunk copy range of written low high only a
-            (elim (either (has_address a range) _ here) [ inl is_here ↦ is_here | inr elsewhere ↦ absurd (nothing elsewhere) ]))
+            (elim (or_cases (has_address a range) _ here) [ inl is_here ↦ is_here | inr elsewhere ↦ absurd (nothing elsewhere) ]))
       ];
       few =
           let long : length (old ++ range ∷ []) ≡ length old + length (range ∷ []) = length-append old (range ∷ []) in
@@ -257,7 +256,7 @@ any_meets : (nodesize : ℕ) (chunk : Chunk) (copy a o : ℕ) (spots : List Spot
     → list_any (has_offset o) spots ≡ true → list_any (λ spot. meets_in_copy spot nodesize chunk copy a) spots ≡ true
 any_meets nodesize chunk copy a o [] holds low high h = cc
 any_meets nodesize chunk copy a o (spot ∷ spots) holds low high h =
-    elim (either (has_offset o spot) _ h) [
+    elim (or_cases (has_offset o spot) _ h) [
       | inl here ↦ or_left _ _ (and_true _ _ holds (meets (copy + (a - chunk.start)) low high here))
       | inr later ↦ or_right (meets_in_copy spot nodesize chunk copy a) _ (any_meets nodesize chunk copy a o spots holds low high later)
     ]
@@ -279,8 +278,8 @@ spots_all pending chunk copy spots i old new whole same fewer added =
   where
     met : (a : ℕ) → touches_in_copy pending chunk copy a ≡ true → list_any (λ spot. meets_in_copy spot pending.nodesize chunk copy a) spots ≡ true
     met a h =
-        let holds = left_of (holds_range chunk a pending.nodesize) _ h in
-        let found = written_one (written_in pending.cache.now) (copy + (a - chunk.start)) pending.nodesize (right_of (holds_range chunk a pending.nodesize) _ h) in
+        let holds = and_left (holds_range chunk a pending.nodesize) _ h in
+        let found = written_one (written_in pending.cache.now) (copy + (a - chunk.start)) pending.nodesize (and_right (holds_range chunk a pending.nodesize) _ h) in
         any_meets pending.nodesize chunk copy a found.0 spots holds found.1 found.2
         (same found.0 (omega (arith, found.1)) (in_chunks_copy chunk copy a pending.nodesize found.0 holds found.2) ∙ sym (pending.listed.whole found.0) ∙ found.3)
 
@@ -294,7 +293,7 @@ one_copy pending chunk old new alone added =
     adds_as (IsTouched pending) (touches_in_copy pending chunk chunk.first) (touches_in_chunk pending chunk)
     (in_one_copy pending.spots.items chunk.length chunk.first) (in_copies pending.spots.items chunk) old new added
     (λ a small h.
-    elim (either (touches_in_copy pending chunk chunk.first a) _ h) [
+    elim (or_cases (touches_in_copy pending chunk chunk.first a) _ h) [
       | inl first ↦ first
       | inr second ↦ absurd (nothing (subst (λ o. touches_in_second pending chunk o a ≡ true) alone second))
     ])
@@ -309,7 +308,7 @@ two_copies pending chunk second old mid new both begun more =
     (adds_then (IsTouched pending) (touches_in_copy pending chunk chunk.first) (touches_in_copy pending chunk second) (touches_in_chunk pending chunk)
     (in_one_copy pending.spots.items chunk.length chunk.first) (in_one_copy pending.spots.items chunk.length second) old mid new begun more
     (λ a h.
-    elim (either (touches_in_copy pending chunk chunk.first a) _ h) [
+    elim (or_cases (touches_in_copy pending chunk chunk.first a) _ h) [
       | inl here ↦ inl here
       | inr there ↦ inr (subst (λ o. touches_in_second pending chunk o a ≡ true) both there)
     ]))
@@ -353,7 +352,7 @@ place_touched pending chunk a holds = by chunk.second refl
         → touches_in_chunk pending chunk a ≡ true
     by None is h = or_left _ _ (and_true _ _ holds (placed_one (nat_le (chunk.first + (a - chunk.start) + pending.nodesize) pending.end) h))
     by (Some second) is h =
-        elim (either _ _
+        elim (or_cases _ _
         (placed_two (nat_le (chunk.first + (a - chunk.start) + pending.nodesize) pending.end && nat_le (second + (a - chunk.start) + pending.nodesize) pending.end) second h)) [
           | inl first ↦ or_left _ _ (and_true _ _ holds first)
           | inr other ↦ or_right (touches_in_copy pending chunk chunk.first a) _

@@ -10,6 +10,7 @@ use Rattle.std.proofs.lemmas.List.{length-append, length-map}
 use Rattle.std.proofs.lemmas.List.Folds.{list_any-append}
 use Rattle.std.proofs.lemmas.Map.Keys.{IsDistinct-from_sorted}
 use Rattle.std.proofs.lemmas.Map.Made.{length-le_from_is_member}
+use Rattle.verdict.proofs.Truth.{and_left, and_right, or_cases, or_left, or_right}
 use Rattle.live_index.specs.declared.live.Live.{Live}
 use Rattle.live_index.specs.Pairs.{Pairs}
 use Rattle.touched_blocks.specs.declared.marks.Marks.{Marks}
@@ -20,8 +21,7 @@ use Rattle.touched_blocks.specs.Marks.{AreAmong, Marked, by_pair, count_of, in_l
 use Rattle.touched_blocks.specs.OneTree.{chosen, in_chosen, is_chosen}
 use Rattle.touched_blocks.proofs.Choosing.{there_chosen}
 use Rattle.touched_blocks.proofs.MarkLaws.{tied}
-use Rattle.touched_blocks.proofs.Marking.{above_is, same_address, same_tree}
-use Rattle.touched_blocks.proofs.Writing.{either, left_of, or_left, or_right, right_of}
+use Rattle.touched_blocks.proofs.Marking.{above_is, same_address, same_tree, no_up}
 
 -- ---- marks are different places
 
@@ -114,10 +114,7 @@ all_few pairs (live ∷ lives) =
 itself : (t a : ℕ) → is_pair t a t a ≡ true
 itself t a = grind (arith, nat_tests)
 
-no_up : (o : Option Live) (up : Live) → o ≡ None → o ≡ Some up → ⊥
-no_up o up e f = cc
-
-some_same : (one other : Live) → Some one ≡ Some other → one ≡ other
+pub some_same : (one other : Live) → Some one ≡ Some other → one ≡ other
 some_same one other same = cc
 
 climbed_has : (pairs : Pairs) (one : Live) (t to from n : ℕ) (low : Live) → AreLow pairs → ClimbsTo pairs t to from → pairs t from ≡ Some low → 8 ≤ n + low.level
@@ -163,7 +160,7 @@ unfolding all_climbed climbed_from
 all_has pairs [] t a from lows way there has = cc
 all_has pairs (live ∷ lives) t a from lows way there has =
     list_any-append (λ (l : Live). is_pair l.tree l.address t a) (climbed_from pairs live) (all_climbed pairs lives)
-    ∙ by (all_has pairs lives t a from lows way there) (either (is_pair live.tree live.address t from) _ has)
+    ∙ by (all_has pairs lives t a from lows way there) (or_cases (is_pair live.tree live.address t from) _ has)
   where
     by : (in_lives lives t from ≡ true → in_lives (all_climbed pairs lives) t a ≡ true)
         → (is_pair live.tree live.address t from ≡ true) ⊎ (in_lives lives t from ≡ true)
@@ -192,6 +189,6 @@ few_marked pairs only test must none marked count unmarked more counted lows liv
     among : AreAmong marked (all_climbed pairs lives)
     among t a is = elim (more.only t a is) [
       | inl had ↦ absurd (nothing (none t a) had (unmarked t a))
-      | inr from ↦ all_has pairs lives t a from.0 lows from.3 from.2 (each t from.0 (right_of (is_chosen only t) _ from.1)
-          (there_chosen only pairs t from.0 (left_of _ (test from.0) from.1) from.2))
+      | inr from ↦ all_has pairs lives t a from.0 lows from.3 from.2 (each t from.0 (and_right (is_chosen only t) _ from.1)
+          (there_chosen only pairs t from.0 (and_left _ (test from.0) from.1) from.2))
     ]

@@ -3,6 +3,7 @@ use Rattle.std.proofs.Common.{◌≡◌, ℕ, ◌<◌, Bool, true, false, ◌==�
 use Rattle.std.specs.Prelude.{Option, Some, None, is_some, not}
 use Rattle.std.proofs.lemmas.Bool.{eqb-true}
 use Rattle.std.proofs.lemmas.Bool.Decides.{nat_tests}
+use Rattle.verdict.proofs.Truth.{not_of_false, false_of_not}
 use Rattle.live_index.specs.declared.live.Live.{Live}
 use Rattle.live_index.specs.Pairs.{IsLeastFrom, IsNextOf, Pairs, Stands, comes_before, is_above}
 use Rattle.touched_blocks.specs.Going.{IsFirst}
@@ -46,12 +47,6 @@ pub first_of_all : (pairs : Pairs) (address tree : ℕ) (found : Option Live) �
 first_of_all pairs address tree None least = least
 first_of_all pairs address tree (Some live) least = least
 
-not_true : (b : Bool) → b ≡ false → not b ≡ true
-not_true b e = ap not e
-
-not_false : (b : Bool) → not b ≡ true → b ≡ false
-not_false = elim [ true ↦ λ e. cc | false ↦ λ e. refl ]
-
 below : (a t address tree : ℕ) → comes_before a t address tree ≡ true → t ≡ tree → a < address
 below a t address tree before same = grind (arith, nat_tests)
 
@@ -62,14 +57,14 @@ first_of_tree pairs one address tree last None above none = λ a t not_yet.
     if_none (t == one) (pairs t a) (λ is.
     let same : t ≡ one = eqb-true t one is in
     subst (λ x. pairs x a ≡ None) (sym same)
-    (none a (above a ∙ not_true _ (subst (λ x. comes_before a x address tree ≡ false) same not_yet))))
+    (none a (above a ∙ not_of_false _ (subst (λ x. comes_before a x address tree ≡ false) same not_yet))))
 first_of_tree pairs one address tree last (Some live) above next = (
   ap (λ b. cond b (pairs live.tree live.address) None) (is_one live.tree next.1) ∙ next.0,
-  subst (λ x. comes_before live.address x address tree ≡ false) (sym next.1) (not_false _ (sym (above live.address) ∙ next.2)),
+  subst (λ x. comes_before live.address x address tree ≡ false) (sym next.1) (false_of_not _ (sym (above live.address) ∙ next.2)),
   λ a t not_yet before. if_none (t == one) (pairs t a) (λ is.
       let same : t ≡ one = eqb-true t one is in
       subst (λ x. pairs x a ≡ None) (sym same)
-      (next.3 a (above a ∙ not_true _ (subst (λ x. comes_before a x address tree ≡ false) same not_yet))
+      (next.3 a (above a ∙ not_of_false _ (subst (λ x. comes_before a x address tree ≡ false) same not_yet))
       (below a t live.address live.tree before (same ∙ sym next.1)))),
 )
   where

@@ -9,6 +9,7 @@ use Rattle.std.proofs.lemmas.List.{take_all}
 use Rattle.std.proofs.lemmas.List.Folds.{list_any-append, list_any_more}
 use Rattle.std.proofs.lemmas.List.Sorted.{list_any-IsPermutation, sum_by-IsPermutation}
 use Rattle.std.proofs.lemmas.List.Sums.{sum_by_more}
+use Rattle.verdict.proofs.Truth.{false_if as is_no, never as yes_no, not_of_false, and_left, and_right, and_true, or_cases, or_left, or_right, decided}
 use Rattle.verdict.specs.Chunks.{holds_range, home, place, place_in, place_of_copies}
 use Rattle.verdict.specs.declared.place.Chunk.{Chunk}
 use Rattle.verdict.specs.declared.place.Place.{Place}
@@ -22,8 +23,7 @@ use Rattle.touched_blocks.specs.Moves.{is_kept_chunk, move_passes}
 use Rattle.touched_blocks.specs.Spots.{LiesIn, has_address, is_in}
 use Rattle.touched_blocks.specs.Touched.{same_place}
 use Rattle.touched_blocks.proofs.Adding.{adds_more, adds_sorted, adds_start, homed, one_of}
-use Rattle.touched_blocks.proofs.Moving.{found_holds, holds_byte, holds_low, not_not, not_of, one_any, one_byte, yes_no}
-use Rattle.touched_blocks.proofs.Writing.{and_true, decided, either, left_of, or_left, or_right, right_of}
+use Rattle.touched_blocks.proofs.Moving.{found_holds, holds_byte, holds_low, not_not, one_any, one_byte}
 
 nothing : false ≡ true → ⊥
 nothing h = cc
@@ -49,9 +49,9 @@ only_front : (at : ℕ) (both : Range) (a : ℕ) (old new : List Range)
     → is_in new a ≡ true → (is_in old a ≡ true) ⊎ ((at ≤ a) × (a < both.from))
 only_front at both a old new (inr (none, is)) h = inl (subst (λ l. is_in l a ≡ true) is h)
 only_front at both a old new (inl (some, is)) h =
-    elim (either (is_in old a) _ (sym (list_any-append (has_address a) old _) ∙ subst (λ l. is_in l a ≡ true) is h)) [
+    elim (or_cases (is_in old a) _ (sym (list_any-append (has_address a) old _) ∙ subst (λ l. is_in l a ≡ true) is h)) [
       | inl had ↦ inl had
-      | inr here ↦ inr (by (elim (either (nat_le at a && nat_le a (both.from - 1)) _ here) [ inl is_here ↦ is_here | inr elsewhere ↦ absurd (nothing elsewhere) ]))
+      | inr here ↦ inr (by (elim (or_cases (nat_le at a && nat_le a (both.from - 1)) _ here) [ inl is_here ↦ is_here | inr elsewhere ↦ absurd (nothing elsewhere) ]))
     ]
   where
     by : (nat_le at a && nat_le a (both.from - 1)) ≡ true → (at ≤ a) × (a < both.from)
@@ -84,7 +84,7 @@ gap_passed nodesize chunk other at both next old new all only low room small mee
     | inl had ↦ inl had
     | inr here ↦ inr (lt_false a at here.0, (omega (arith, here.1), omega (arith, here.1)), λ begun. low a begun here.1)
   ];
-  past = λ a fits h. value a fits ∙ or_right (nat_lt a at) _ (right_of (nat_le both.from a) _ (all a fits h));
+  past = λ a fits h. value a fits ∙ or_right (nat_lt a at) _ (and_right (nat_le both.from a) _ (all a fits h));
   on = λ a h. on a (lt_of a at h);
   few =
       let one : cond {A = ℕ} (meet_by nodesize chunk other) 1 0 ≡ 1 = ap (λ b. cond {A = ℕ} b 1 0) meets in
@@ -136,14 +136,14 @@ pub record AreLeft (nodesize : ℕ) (chunk : Chunk) (others : List Chunk) (i : �
 any_split : (p : Chunk → Bool) (xs : List Chunk) (i : ℕ) (d : Chunk) → list_any p xs ≡ true
     → (list_any p (take i xs) ≡ true) ⊎ ((k : ℕ) × (i ≤ k) × (k < length xs) × (p (get_or xs k d) ≡ true))
 any_split p [] i d h = cc
-any_split p (x ∷ xs) zero d h = elim (either (p x) _ h) [
+any_split p (x ∷ xs) zero d h = elim (or_cases (p x) _ h) [
   | inl here ↦ inr (0, omega arith, omega arith, here)
   | inr later ↦ elim (any_split p xs zero d later) [
     | inl none ↦ absurd (nothing none)
     | inr is ↦ inr (suc is.0, omega arith, omega (arith, is.2), is.3)
   ]
 ]
-any_split p (x ∷ xs) (suc i) d h = elim (either (p x) _ h) [
+any_split p (x ∷ xs) (suc i) d h = elim (or_cases (p x) _ h) [
   | inl here ↦ inl (or_left _ _ here)
   | inr later ↦ elim (any_split p xs i d later) [
     | inl before ↦ inl (or_right (p x) _ before)
@@ -151,13 +151,9 @@ any_split p (x ∷ xs) (suc i) d h = elim (either (p x) _ h) [
   ]
 ]
 
-is_no : (b : Bool) → (b ≡ true → ⊥) → b ≡ false
-is_no true none = absurd (none refl)
-is_no false none = refl
-
 -- what both hold begins behind the start of the other
 other_low : (nodesize : ℕ) (chunk other : Chunk) (a : ℕ) → both_hold nodesize chunk a other ≡ true → other.start ≤ a
-other_low nodesize chunk other a h = low (right_of (holds_range chunk a nodesize) _ (right_of (lie_alike chunk other) _ h))
+other_low nodesize chunk other a h = low (and_right (holds_range chunk a nodesize) _ (and_right (lie_alike chunk other) _ h))
   where
     low : holds_range other a nodesize ≡ true → other.start ≤ a
     low holds = grind (arith, nat_tests)
@@ -188,7 +184,7 @@ left_more nodesize chunk others i d cursor next old mid new rise so_far inside p
       is_no _ (λ any. none a is.0 is.1.1 (is.2 (so_far.above a is.0)) (any_split (both_hold nodesize chunk a) others i d any)),
     )
   ];
-  past = λ a small h. elim (either _ _ (sym (more a) ∙ h)) [
+  past = λ a small h. elim (or_cases _ _ (sym (more a) ∙ h)) [
     | inl before ↦ passed.on a (so_far.past a small before)
     | inr here ↦ passed.past a small here
   ];
@@ -261,8 +257,8 @@ place_alike c d a n end low other = by c.second d.second
         let both = two_two (nat_le (c.first + (a - c.start) + n) end && nat_le (s + (a - c.start) + n) end)
         (nat_le (d.first + (a - d.start) + n) end && nat_le (t + (a - d.start) + n) end)
         (c.first + (a - c.start)) (s + (a - c.start)) (d.first + (a - d.start)) (t + (a - d.start)) placed same in
-        and_true _ _ (offset_back c.start c.first d.start d.first a (left_of _ _ both) low other)
-        (offset_back c.start s d.start t a (right_of (c.first + (a - c.start) == d.first + (a - d.start)) _ both) low other)
+        and_true _ _ (offset_back c.start c.first d.start d.first a (and_left _ _ both) low other)
+        (offset_back c.start s d.start t a (and_right (c.first + (a - c.start) == d.first + (a - d.start)) _ both) low other)
 
 left_moves : (move : Move) (c : Chunk) (a : ℕ) → Contains move.old.now c → IsLeft move.nodesize c move.new.now a → IsMoving move a
 unfolding move_passes
@@ -273,7 +269,7 @@ left_moves move c a of left placed apart some =
     one_byte move.old.now found.0 c a apart held.1 (one_of move.old.now of.0 c c of.1 of.2) (holds_byte found.0 a move.nodesize some held.0) (holds_byte c a move.nodesize some left.0) in
     let is : home move.old.now a move.nodesize ≡ Some c = found.1 ∙ ap Some same in
     subst (λ o. not (same_place (place_in o a move.nodesize move.end) (place move.new.now a move.nodesize move.end)) ≡ true) (sym is)
-    (not_of _ (is_no _ (elsewhere (subst (λ o. has_place (place_in o a move.nodesize move.end) ≡ true) is placed) (home move.new.now a move.nodesize) refl)))
+    (not_of_false _ (is_no _ (elsewhere (subst (λ o. has_place (place_in o a move.nodesize move.end) ≡ true) is placed) (home move.new.now a move.nodesize) refl)))
   where
     no_place : (p : Place) → same_place p Nowhere ≡ true → has_place p ≡ true → ⊥
     no_place Nowhere same placed = nothing placed
@@ -301,16 +297,16 @@ leaves_found move chunk others cursor old new rest order all lies a small h =
         | inr any ↦ absurd (not_not (list_any (both_hold move.nodesize chunk a) move.new.now)
             (list_any-IsPermutation (both_hold move.nodesize chunk a) move.new.now others order
             ∙ subst (λ l. list_any (both_hold move.nodesize chunk a) l ≡ true) (take_all (length others) others (omega arith)) any)
-            (right_of (holds_range chunk a move.nodesize) _ left))
+            (and_right (holds_range chunk a move.nodesize) _ left))
       ]
       | inr ahead ↦ inr (lies a small ahead holds)
     ]
   where
     left : (holds_range chunk a move.nodesize && not (list_any (both_hold move.nodesize chunk a) move.new.now)) ≡ true
-    left = right_of (not (is_kept_chunk move.new.now chunk)) _ h
+    left = and_right (not (is_kept_chunk move.new.now chunk)) _ h
 
     holds : holds_range chunk a move.nodesize ≡ true
-    holds = left_of _ _ left
+    holds = and_left _ _ left
 
 few_meet : (move : Move) (chunk : Chunk) (others : List Chunk) → IsPermutation move.new.now others
     → count_by (meet_by move.nodesize chunk) (take (length others) others) ≡ count_by (meet_by move.nodesize chunk) move.new.now
@@ -353,13 +349,13 @@ left_one move chunk others cursor old new last range order of all lies past room
             | inl had ↦ or_left _ _ had
             | inr here ↦ or_right (is_in new a) _ (or_left _ _ here)
           ];
-      only = λ a h. elim (either (is_in new a) _ (sym (list_any-append (has_address a) new (range ∷ [])) ∙ h)) [
+      only = λ a h. elim (or_cases (is_in new a) _ (sym (list_any-append (has_address a) new (range ∷ [])) ∙ h)) [
         | inl had ↦ elim (all.only a had) [
           | inl before ↦ inl before
           | inr left ↦ inr (left_moves move chunk a of (none_left move chunk others order a left))
         ]
         | inr here ↦ inr (left_moves move chunk a of (none_left move chunk others order a
-            (in_rest a (elim (either (has_address a range) _ here) [ inl is_here ↦ is_here | inr elsewhere ↦ absurd (nothing elsewhere) ]))))
+            (in_rest a (elim (or_cases (has_address a range) _ here) [ inl is_here ↦ is_here | inr elsewhere ↦ absurd (nothing elsewhere) ]))))
       ];
       few =
           let long : length (new ++ range ∷ []) ≡ length new + length (range ∷ []) = length-append new (range ∷ []) in

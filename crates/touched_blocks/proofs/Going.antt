@@ -4,6 +4,7 @@ use Rattle.std.specs.Prelude.{Option, Some, None, is_some}
 use Rattle.std.specs.List.{AllByRecursion}
 use Rattle.std.proofs.lemmas.Bool.Decides.{nat_tests}
 use Rattle.std.proofs.lemmas.Map.Keys.{IsDistinct-cons}
+use Rattle.verdict.proofs.Truth.{and_left, and_right, and_true, decided, never}
 use Rattle.live_index.specs.declared.live.Live.{Live}
 use Rattle.live_index.specs.Pairs.{Pairs, comes_before}
 use Rattle.touched_blocks.specs.declared.marks.Marks.{Marks}
@@ -18,21 +19,6 @@ use Rattle.touched_blocks.proofs.Marking.{marked_then, marked_as, marked_none, s
 
 no_pair : (o : Option Live) → o ≡ None → is_some o ≡ true → ⊥
 no_pair o none some = cc
-
-left_of : (a b : Bool) → (a && b) ≡ true → a ≡ true
-left_of = elim [ true ↦ λ b e. refl | false ↦ λ b e. e ]
-
-right_of : (a b : Bool) → (a && b) ≡ true → b ≡ true
-right_of = elim [ true ↦ λ b e. e | false ↦ λ b e. cc ]
-
-and_true : (a b : Bool) → a ≡ true → b ≡ true → (a && b) ≡ true
-and_true a b e f = ap (λ x. x && b) e ∙ f
-
-decided : (b : Bool) → (b ≡ true) ⊎ (b ≡ false)
-decided = elim [ true ↦ inl refl | false ↦ inr refl ]
-
-both : (b : Bool) → b ≡ true → b ≡ false → ⊥
-both b t f = cc
 
 from_range : (from last a : ℕ) → lies_between from last a ≡ true → from ≤ a
 from_range from last a in_range = grind (arith, nat_tests)
@@ -157,7 +143,7 @@ other_places marked at live (place ∷ places) low all =
   where
     other : (b : Bool) → is_pair live.tree live.address place.tree place.address ≡ b → is_pair live.tree live.address place.tree place.address ≡ false
     other false is = is
-    other true is = absurd (both (is_passed at place.tree place.address) all.0.1
+    other true is = absurd (never (is_passed at place.tree place.address) all.0.1
         (subst (λ x. is_passed at x place.address ≡ false) (same_tree live.tree live.address place.tree place.address is)
         (subst (λ x. is_passed at live.tree x ≡ false) (same_address live.tree live.address place.tree place.address is) low)))
 
@@ -201,10 +187,10 @@ way_more pairs only test from last cursor at next live before now looked after o
       no_mark (in_chosen only (λ a. lies_between from last a && test a)) (marked_by old) (marked_by mid) (marked_by new) way.marks more
       (λ t a tight narrow s some. absurd (nothing s)) (λ t a s. s)
       (λ t a s. and_true _ _
-      (subst (λ x. is_chosen only x ≡ true) (same_tree live.tree live.address t a (left_of _ (test a) s)) stands.0)
+      (subst (λ x. is_chosen only x ≡ true) (same_tree live.tree live.address t a (and_left _ (test a) s)) stands.0)
       (and_true _ _
-      (subst (λ x. lies_between from last x ≡ true) (same_address live.tree live.address t a (left_of _ (test a) s)) (inside from last live.address low high))
-      (right_of (is_pair live.tree live.address t a) _ s)));
+      (subst (λ x. lies_between from last x ≡ true) (same_address live.tree live.address t a (and_left _ (test a) s)) (inside from last live.address low high))
+      (and_right (is_pair live.tree live.address t a) _ s)));
   gone = λ gone t a tight narrow above passed passes some. elim (decided (is_passed at t a)) [
     | inl was ↦ more.kept t a (way.gone gone t a tight narrow above was passes some)
     | inr not_yet ↦ more.found t a tight narrow (and_true _ _ (here t a tight narrow passed not_yet some) passes) (chosen_there only pairs t a some).1
@@ -250,9 +236,9 @@ way_end pairs only test from last cursor at before now looked old new way looks 
     kept = way.marks.kept;
     closed = way.marks.closed;
     found = λ t a tight narrow s some.
-        let within : (lies_between from last a && test a) ≡ true = right_of (is_chosen only t) _ s in
-        let is : is_some (chosen only pairs t a) ≡ true = there_chosen only pairs t a (left_of _ (lies_between from last a && test a) s) some in
-        way.gone gone t a tight narrow (from_range from last a (left_of _ (test a) within)) (passed t a (left_of _ (test a) within) is) (right_of (lies_between from last a) _ within) is;
+        let within : (lies_between from last a && test a) ≡ true = and_right (is_chosen only t) _ s in
+        let is : is_some (chosen only pairs t a) ≡ true = there_chosen only pairs t a (and_left _ (lies_between from last a && test a) s) some in
+        way.gone gone t a tight narrow (from_range from last a (and_left _ (test a) within)) (passed t a (and_left _ (test a) within) is) (and_right (lies_between from last a) _ within) is;
     only = way.marks.only;
   };
   gone = way.gone;
@@ -288,13 +274,13 @@ pub met_marked : (pairs : Pairs) (test : ℕ → Bool) (live : Live) (old new : 
     → AreMarked pairs (is_pair live.tree live.address) old new → AreMarked pairs (met test live) old new
 met_marked pairs test live old new passes more =
     marked_as pairs (is_pair live.tree live.address) (is_pair live.tree live.address) (met test live) (met test live) old new more
-    (λ t a small low s some. left_of _ (test a) s)
+    (λ t a small low s some. and_left _ (test a) s)
     (λ t a s. and_true _ _ s (subst (λ x. test x ≡ true) (same_address live.tree live.address t a s) passes))
 
 pub met_past : (pairs : Pairs) (test : ℕ → Bool) (live : Live) (old : Marked) → test live.address ≡ false → AreMarked pairs (met test live) old old
 met_past pairs test live old fails =
     marked_none pairs (met test live) (met test live) old
-    (λ t a s. both (test a) (right_of (is_pair live.tree live.address t a) _ s)
-    (subst (λ x. test x ≡ false) (same_address live.tree live.address t a (left_of _ (test a) s)) fails))
+    (λ t a s. never (test a) (and_right (is_pair live.tree live.address t a) _ s)
+    (subst (λ x. test x ≡ false) (same_address live.tree live.address t a (and_left _ (test a) s)) fails))
 
 pub ruleset mets = (met_marked, met_past)

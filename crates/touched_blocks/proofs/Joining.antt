@@ -8,6 +8,7 @@ use Rattle.std.proofs.Math.Bool.{or_assoc}
 use Rattle.std.proofs.lemmas.Bool.{cases_lt}
 use Rattle.std.proofs.lemmas.Bool.Decides.{nat_tests}
 use Rattle.std.proofs.lemmas.List.{append_assoc}
+use Rattle.verdict.proofs.Truth.{never}
 use Rattle.write_cache.specs.Pieces.{AreApart, AreDisjoint, ArePartsOf, ArePiecesOf, Piece}
 use Rattle.touched_blocks.specs.declared.spot.Spot.{Spot}
 use Rattle.touched_blocks.specs.Joining.{IsJoined, joined, joined_all, joined_behind, joined_from}
@@ -15,9 +16,6 @@ use Rattle.touched_blocks.specs.Looks.{spot_of}
 use Rattle.touched_blocks.specs.Spots.{AreSpotsOf, StandApart, has_offset}
 use Rattle.touched_blocks.specs.Touched.{written_in}
 use Rattle.touched_blocks.proofs.Writing.{map_has}
-
-both : (b : Bool) → b ≡ true → b ≡ false → ⊥
-both b t f = cc
 
 -- Each range has a byte, the first begins at this offset or behind it, and each other behind the one before without touching it.
 abbrev pub AreRuns : ℕ → List Spot → Type 0
@@ -93,7 +91,7 @@ low_out o from (spot ∷ spots) are low =
 has_first : (spot : Spot) → 0 < spot.len → has_offset spot.at spot ≡ true
 has_first spot some = grind (arith, nat_tests)
 
-has_in : (o : ℕ) (spot : Spot) → spot.at ≤ o → o < spot.at + spot.len → has_offset o spot ≡ true
+pub has_in : (o : ℕ) (spot : Spot) → spot.at ≤ o → o < spot.at + spot.len → has_offset o spot ≡ true
 has_in o spot low high = grind (arith, nat_tests)
 
 has_past : (o : ℕ) (spot : Spot) → spot.at + spot.len ≤ o → has_offset o spot ≡ false
@@ -109,7 +107,7 @@ first_low from one other ones others are some same = by (cases_lt other.at one.a
   where
     by : (other.at < one.at) ⊎ (one.at ≤ other.at) → one.at ≤ other.at
     by (inr low) = low
-    by (inl high) = absurd (both (list_any (has_offset other.at) (one ∷ ones))
+    by (inl high) = absurd (never (list_any (has_offset other.at) (one ∷ ones))
         (same other.at ∙ ap (λ b. b || list_any (has_offset other.at) others) (has_first other some))
         (low_out other.at one.at (one ∷ ones) (omega arith, are.1, are.2) high))
 
@@ -122,7 +120,7 @@ first_short one other ones others at are same = by (cases_lt other.len one.len)
     by (inr short) = short
     by (inl long) =
         let o = other.at + other.len in
-        absurd (both (list_any (has_offset o) (one ∷ ones))
+        absurd (never (list_any (has_offset o) (one ∷ ones))
         (ap (λ b. b || list_any (has_offset o) ones) (has_in o one (omega (arith, at)) (omega (arith, at))))
         (same o ∙ ap (λ b. b || list_any (has_offset o) others) (has_past o other (omega arith)) ∙ low_out o (other.at + other.len + 1) others are (omega arith)))
 

@@ -8,18 +8,13 @@ use Rattle.std.specs.declared.cmp.Ordering.{Ordering}
 use Rattle.std.specs.declared.cmp.Ordering.TheVariants.{Less, Equal, Greater}
 use Rattle.std.specs.BTreeMap.{is_at}
 use Rattle.std.specs.BTreeSet as set
+use Rattle.verdict.proofs.Truth.{then_tied, and_alike}
 use Rattle.touched_blocks.specs.declared.marks.Marks.{Marks}
 use Rattle.touched_blocks.specs.declared.marks.PairPlace.{PairPlace}
 use Rattle.touched_blocks.specs.Marks.{by_pair, count_of, marked_by, marked_in, pair_place, with_mark}
 
-then_tied : (o p : Ordering) → is_eq (ordering_then o p) ≡ (is_eq o && is_eq p)
-then_tied = elim [ Less ↦ λ p. refl | Equal ↦ λ p. refl | Greater ↦ λ p. refl ]
-
-both : (a b c d : Bool) → a ≡ b → c ≡ d → (a && c) ≡ (b && d)
-both a b c d e f = ap (λ x. x && c) e ∙ ap (λ x. b && x) f
-
 pub tied : (k q : PairPlace) → is_at (by_pair k) q ≡ (k.tree == q.tree && k.address == q.address)
-tied k q = then_tied (nat_cmp k.tree q.tree) (nat_cmp k.address q.address) ∙ both _ _ _ _ (unsigned_tied k.tree q.tree) (unsigned_tied k.address q.address)
+tied k q = then_tied (nat_cmp k.tree q.tree) (nat_cmp k.address q.address) ∙ and_alike _ _ _ _ (unsigned_tied k.tree q.tree) (unsigned_tied k.address q.address)
 
 pub put_mark : (old new : Marks) (tree address : ℕ) (k : PairPlace) → k ≡ pair_place tree address → set.UpdatesBy by_pair (by_pair k) old.places new.places true
     → (t a : ℕ) → marked_by new t a ≡ with_mark (marked_by old) tree address t a
@@ -50,5 +45,5 @@ pub listed_marks : (places : List PairPlace) (tree address : ℕ) → list_any (
 listed_marks [] tree address = refl
 listed_marks (place ∷ places) tree address =
     ap (λ b. b || list_any (is_at (by_pair (pair_place tree address))) places)
-    (tied (pair_place tree address) place ∙ both _ _ _ _ (turned tree place.tree) (turned address place.address))
+    (tied (pair_place tree address) place ∙ and_alike _ _ _ _ (turned tree place.tree) (turned address place.address))
     ∙ ap (λ b. (place.tree == tree && place.address == address) || b) (listed_marks places tree address)

@@ -3,6 +3,8 @@ use Rattle.std.proofs.Common.{◌≡◌, ℕ, ◌+◌, ◌<◌, ◌≤◌, ◌^�
 use Rattle.std.specs.Prelude.{Option, Some, None, is_some, Result, Ok, Err, OnOk}
 use Rattle.std.proofs.lemmas.Bool.{eqb-true}
 use Rattle.std.proofs.lemmas.Bool.Decides.{nat_tests}
+use Rattle.verdict.proofs.Truth.{and_true, and_left, and_right}
+use Rattle.verdict.proofs.Numbers.{itself}
 use Rattle.recon_disk.specs.Outside.{counted}
 use Rattle.live_index.specs.declared.live.Live.{Live}
 use Rattle.live_index.specs.Pairs.{Pairs, Stands}
@@ -11,23 +13,11 @@ use Rattle.touched_blocks.specs.Marking.{AreMarked, AreMarkedFrom, ClimbsTo, if_
 use Rattle.touched_blocks.specs.Marking.ClimbsTo.{Here, Up}
 use Rattle.touched_blocks.specs.Marks.{Marked, count_of, is_pair, marked_by, with_mark}
 
-itself : (n : ℕ) → (n == n) ≡ true
-itself n = grind (arith, nat_tests)
-
-and_true : (a b : Bool) → a ≡ true → b ≡ true → (a && b) ≡ true
-and_true a b e f = ap (λ x. x && b) e ∙ f
-
-left_of : (a b : Bool) → (a && b) ≡ true → a ≡ true
-left_of = elim [ true ↦ λ b e. refl | false ↦ λ b e. e ]
-
-right_of : (a b : Bool) → (a && b) ≡ true → b ≡ true
-right_of = elim [ true ↦ λ b e. e | false ↦ λ b e. cc ]
-
 pub same_tree : (t a tree address : ℕ) → is_pair t a tree address ≡ true → t ≡ tree
-same_tree t a tree address e = eqb-true t tree (left_of _ _ e)
+same_tree t a tree address e = eqb-true t tree (and_left _ _ e)
 
 pub same_address : (t a tree address : ℕ) → is_pair t a tree address ≡ true → a ≡ address
-same_address t a tree address e = eqb-true a address (right_of (t == tree) _ e)
+same_address t a tree address e = eqb-true a address (and_right (t == tree) _ e)
 
 -- what a pair of marks says also holds of the pair that is the same
 moved_pair : (P : ℕ → ℕ → Type 0) (t a tree address : ℕ) → is_pair t a tree address ≡ true → P t a → P tree address
@@ -37,7 +27,7 @@ moved_pair P t a tree address e h = subst (λ x. P tree x) (same_address t a tre
 put_here : (marked : Marked) (t a tree address : ℕ) → is_pair t a tree address ≡ true → with_mark marked t a tree address ≡ true
 put_here marked t a tree address e = ap (λ b. cond b true (marked tree address)) e
 
-put_kept : (marked : Marked) (t a tree address : ℕ) → marked tree address ≡ true → with_mark marked t a tree address ≡ true
+pub put_kept : (marked : Marked) (t a tree address : ℕ) → marked tree address ≡ true → with_mark marked t a tree address ≡ true
 put_kept marked t a tree address e =
     elim (is_pair t a tree address) as (λ b. cond b true (marked tree address) ≡ true) [ true ↦ refl | false ↦ e ]
 
@@ -65,7 +55,7 @@ marked_before pairs live old new same had =
     unmarked pairs (is_pair live.tree live.address) old new same
     (λ t a is some. moved_pair (λ x y. old x y ≡ true) live.tree live.address t a is had)
 
-no_up : (o : Option Live) (up : Live) → o ≡ None → o ≡ Some up → ⊥
+pub no_up : (o : Option Live) (up : Live) → o ≡ None → o ≡ Some up → ⊥
 no_up o up e f = cc
 
 is_there : (o : Option Live) (live : Live) → o ≡ Some live → is_some o ≡ true
@@ -120,7 +110,7 @@ marked_child pairs live up old mid new small low stands above tree address there
             (more.found t one.parent (subst (λ x. x < 2 ^ 64) (same_tree live.tree live.address t a same) small)
             (subst (λ x. x < 2 ^ 64) (parent_alike live one (same_live pairs live one t a stands same here)) low)
             (and_true (up.tree == t) (up.address == one.parent)
-            (ap (λ x. x == t) tree ∙ left_of _ (live.address == a) same)
+            (ap (λ x. x == t) tree ∙ and_left _ (live.address == a) same)
             (ap (λ x. x == one.parent) (address ∙ parent_alike live one (same_live pairs live one t a stands same here)) ∙ itself one.parent))
             (is_there_at t a one same here))
       ];

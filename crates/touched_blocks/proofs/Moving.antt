@@ -6,6 +6,8 @@ use Rattle.std.specs.List.{AllByRecursion, list_any, sum_by}
 use Rattle.std.specs.Option.{option_eq}
 use Rattle.std.proofs.lemmas.Bool.{eqb-true}
 use Rattle.std.proofs.lemmas.Bool.Decides.{Decides-and, Decides-eqb, Decides-like, nat_tests}
+use Rattle.verdict.proofs.Numbers.{itself}
+use Rattle.verdict.proofs.Truth.{never, not_of_false, and_left, and_right, and_true, or_left, or_right, decided}
 use Rattle.verdict.specs.Chunks.{holds_range, home, place, place_in, place_of_copies}
 use Rattle.verdict.specs.declared.place.Chunk.{Chunk}
 use Rattle.verdict.specs.declared.place.Place.{Place}
@@ -28,12 +30,9 @@ use Rattle.touched_blocks.specs.Touched.{same_place, stays_in_place}
 use Rattle.touched_blocks.proofs.Among.{few_marked}
 use Rattle.touched_blocks.proofs.Counting.{few_left}
 use Rattle.touched_blocks.proofs.Marking.{marked_as}
-use Rattle.touched_blocks.proofs.Writing.{left_of, right_of, and_true, or_left, or_right, decided, from_none}
+use Rattle.touched_blocks.proofs.Writing.{from_none}
 
 -- ---- a block that a chunk holds which is the same in the new list stays where it stands
-
-pub yes_no : (b : Bool) → b ≡ true → b ≡ false → ⊥
-yes_no b t f = cc
 
 none_some : (o : Option Chunk) (c : Chunk) → o ≡ None → o ≡ Some c → ⊥
 none_some o c n s = cc
@@ -63,7 +62,7 @@ holds_found (chunk ∷ chunks) a n c is holds = by (holds_found chunks a n c) (h
     by : (IsOneOf c chunks → holds_range c a n ≡ true → (d : Chunk) × (home chunks a n ≡ Some d)) → (b : Bool) → holds_range chunk a n ≡ b → (c ≡ chunk) ⊎ IsOneOf c chunks
         → (d : Chunk) × (cond b (Some chunk) (home chunks a n) ≡ Some d)
     by rest true here is = (chunk, refl)
-    by rest false here (inl same) = absurd (yes_no (holds_range chunk a n) (subst (λ x. holds_range x a n ≡ true) same holds) here)
+    by rest false here (inl same) = absurd (never (holds_range chunk a n) (subst (λ x. holds_range x a n ≡ true) same holds) here)
     by rest false here (inr later) = rest later holds
 
 -- whether an address is one of a chunk
@@ -107,19 +106,16 @@ second_is None (Some b) h = cc
 second_is (Some a) None h = cc
 
 start_is : (c d : Chunk) → same_chunk c d ≡ true → c.start ≡ d.start
-start_is c d h = eqb-true _ _ (left_of _ _ (left_of (c.start == d.start && c.length == d.length) _ h))
+start_is c d h = eqb-true _ _ (and_left _ _ (and_left (c.start == d.start && c.length == d.length) _ h))
 
 length_is : (c d : Chunk) → same_chunk c d ≡ true → c.length ≡ d.length
-length_is c d h = eqb-true _ _ (right_of (c.start == d.start) _ (left_of (c.start == d.start && c.length == d.length) _ h))
+length_is c d h = eqb-true _ _ (and_right (c.start == d.start) _ (and_left (c.start == d.start && c.length == d.length) _ h))
 
 first_is : (c d : Chunk) → same_chunk c d ≡ true → c.first ≡ d.first
-first_is c d h = eqb-true _ _ (left_of _ _ (right_of (c.start == d.start && c.length == d.length) _ h))
+first_is c d h = eqb-true _ _ (and_left _ _ (and_right (c.start == d.start && c.length == d.length) _ h))
 
 seconds_are : (c d : Chunk) → same_chunk c d ≡ true → c.second ≡ d.second
-seconds_are c d h = second_is _ _ (right_of (c.first == d.first) _ (right_of (c.start == d.start && c.length == d.length) _ h))
-
-itself : (n : ℕ) → (n == n) ≡ true
-itself n = grind (arith, nat_tests)
+seconds_are c d h = second_is _ _ (and_right (c.first == d.first) _ (and_right (c.start == d.start && c.length == d.length) _ h))
 
 same_as_itself : (p : Place) → same_place p p ≡ true
 same_as_itself Nowhere = refl
@@ -156,9 +152,6 @@ kept_stays old new n end a c apart some is kept = by (home new c.start c.length)
 pub not_not : (b : Bool) → b ≡ true → not b ≡ true → ⊥
 not_not = elim [ true ↦ λ e f. cc | false ↦ λ e f. cc ]
 
-pub not_of : (b : Bool) → b ≡ false → not b ≡ true
-not_of b e = ap not e
-
 pub one_any : (f : Chunk → Bool) (chunks : List Chunk) (c : Chunk) → IsOneOf c chunks → f c ≡ true → list_any f chunks ≡ true
 one_any f [] c is h = absurd is
 one_any f (chunk ∷ chunks) c (inl same) h = or_left (f chunk) _ (subst (λ x. f x ≡ true) same h)
@@ -173,10 +166,10 @@ offset_same : (start at other to a : ℕ) → same_offset start at other to ≡ 
 offset_same start at other to a h low other_low = let same : at + other ≡ to + start = eqb-true _ _ h in omega arith
 
 alike_placed : (c d : Chunk) (a n end : ℕ) → lie_alike c d ≡ true → c.start ≤ a → d.start ≤ a → place_in (Some c) a n end ≡ place_in (Some d) a n end
-alike_placed c d a n end h low other = by c.second d.second (right_of (same_offset c.start c.first d.start d.first) _ h)
+alike_placed c d a n end h low other = by c.second d.second (and_right (same_offset c.start c.first d.start d.first) _ h)
   where
     firsts : c.first + (a - c.start) ≡ d.first + (a - d.start)
-    firsts = offset_same c.start c.first d.start d.first a (left_of _ _ h) low other
+    firsts = offset_same c.start c.first d.start d.first a (and_left _ _ h) low other
 
     by : (s t : Option ℕ) → same_seconds c.start s d.start t ≡ true → place_of_copies c.first s (a - c.start) n end ≡ place_of_copies d.first t (a - d.start) n end
     by None None e = ap (λ x. cond (nat_le (x + n) end) (One x) Nowhere) firsts
@@ -203,37 +196,37 @@ alike_stays : (old new : List Chunk) (n end a : ℕ) (c : Chunk) → AreApart ne
     → stays_in_place old new n end a ≡ true
 alike_stays old new n end a c apart some is any =
     let which = one_of_any (both_hold n c a) new any in
-    let both = right_of (lie_alike c which.0) _ which.2 in
-    let holds = right_of (holds_range c a n) _ both in
+    let both = and_right (lie_alike c which.0) _ which.2 in
+    let holds = and_right (holds_range c a n) _ both in
     let other = holds_found new a n which.0 which.1 holds in
     let at = found_holds new a n other.0 other.1 in
     let one : other.0 ≡ which.0 = one_byte new other.0 which.0 a apart at.1 which.1 (holds_byte other.0 a n some at.0) (holds_byte which.0 a n some holds) in
     let places : place new a n end ≡ place old a n end =
     ap (λ o. place_in o a n end) (other.1 ∙ ap Some one)
-    ∙ sym (alike_placed c which.0 a n end (left_of _ _ which.2) (holds_low c a n (left_of _ _ both)) (holds_low which.0 a n holds)) ∙ ap (λ o. place_in o a n end) (sym is) in
+    ∙ sym (alike_placed c which.0 a n end (and_left _ _ which.2) (holds_low c a n (and_left _ _ both)) (holds_low which.0 a n holds)) ∙ ap (λ o. place_in o a n end) (sym is) in
     subst (λ p. same_place (place old a n end) p ≡ true) (sym places) (same_as_itself (place old a n end))
 
 -- a block that moved leaves a chunk
 moved_leaves : (move : Move) (a : ℕ) → AreApart move.new.now → 0 < move.nodesize → held_and_moved move.old.now move.new.now move.nodesize move.end a ≡ true
     → leaves_one move a ≡ true
 moved_leaves move a apart some h =
-    let found = some_home (home move.old.now a move.nodesize) (left_of _ _ h) in
+    let found = some_home (home move.old.now a move.nodesize) (and_left _ _ h) in
     let held = found_holds move.old.now a move.nodesize found.0 found.1 in
     one_any (leaves move a) move.old.now found.0 held.1
     (and_true _ _
     (elim (decided (is_kept_chunk move.new.now found.0)) [
       | inl kept ↦ absurd (moved (kept_stays move.old.now move.new.now move.nodesize move.end a found.0 apart some found.1 kept))
-      | inr other ↦ not_of _ other
+      | inr other ↦ not_of_false _ other
     ])
     (and_true _ _ held.0
     (elim (decided (list_any (both_hold move.nodesize found.0 a) move.new.now)) [
       | inl any ↦ absurd (moved (alike_stays move.old.now move.new.now move.nodesize move.end a found.0 apart some found.1 any))
-      | inr none ↦ not_of _ none
+      | inr none ↦ not_of_false _ none
     ])))
   where
     moved : stays_in_place move.old.now move.new.now move.nodesize move.end a ≡ true → ⊥
     moved stays =
-        not_not (stays_in_place move.old.now move.new.now move.nodesize move.end a) stays (right_of (is_some (home move.old.now a move.nodesize)) _ h)
+        not_not (stays_in_place move.old.now move.new.now move.nodesize move.end a) stays (and_right (is_some (home move.old.now a move.nodesize)) _ h)
 
 -- ---- lists that are the same
 
@@ -275,10 +268,10 @@ moved_marked pairs only move ranges slice count none marked unmarked all is more
     (marked_as pairs (in_chosen only (λ a. is_in slice a && move_passes move a)) (in_chosen only (move_passes move)) (in_chosen only (held_and_moved move.old.now move.new.now move.nodesize move.end))
     (in_chosen only (is_moved move.old.now move.new.now move.nodesize move.end)) none marked more
     (λ t a tight small s there.
-    let moves : held_and_moved move.old.now move.new.now move.nodesize move.end a ≡ true = right_of (is_chosen only t) _ s in
-    and_true _ _ (left_of _ (held_and_moved move.old.now move.new.now move.nodesize move.end a) s)
+    let moves : held_and_moved move.old.now move.new.now move.nodesize move.end a ≡ true = and_right (is_chosen only t) _ s in
+    and_true _ _ (and_left _ (held_and_moved move.old.now move.new.now move.nodesize move.end a) s)
     (and_true _ _ (subst (λ l. is_in l a ≡ true) (sym is) (all.found a small (moved_leaves move a apart some moves)))
-    (right_of (is_some (home move.old.now a move.nodesize)) _ moves)))
+    (and_right (is_some (home move.old.now a move.nodesize)) _ moves)))
     (λ t a s. s))
 
 -- the same by the lists, the size and the end that a move is made of
@@ -354,5 +347,5 @@ few_of_move pairs only move old new n end must none marked count is_old is_new i
 pub few_unmarked : (pairs : Pairs) (only : Option ℕ) (old new : List Chunk) (n end : ℕ) (none : Marked) (count : ℕ) → ((t a : ℕ) → none t a ≡ false)
     → ((lives : List Live) → AreAmong none lives → count ≤ length lives) → HaveFewMarks pairs only count old new n end
 few_unmarked pairs only old new n end none count unmarked counted lows lives each =
-    let least : count ≤ 0 = counted [] (λ t a is. absurd (yes_no (none t a) is (unmarked t a))) in
+    let least : count ≤ 0 = counted [] (λ t a is. absurd (never (none t a) is (unmarked t a))) in
     omega (arith, least)

@@ -5,13 +5,13 @@ use Rattle.std.proofs.lemmas.List.{length-map, take_more}
 use Rattle.std.proofs.lemmas.List.Folds.{list_any-append}
 use Rattle.std.proofs.lemmas.Map.Keys.{IsDistinct-cons}
 use Rattle.std.proofs.lemmas.Map.Made.{length-le_from_is_member}
+use Rattle.verdict.proofs.Truth.{never, or_cases}
 use Rattle.live_index.specs.declared.live.Live.{Live}
 use Rattle.touched_blocks.specs.declared.marks.PairPlace.{PairPlace}
 use Rattle.touched_blocks.specs.Going.{same_pair}
 use Rattle.touched_blocks.specs.Marks.{AreAmong, Marked, in_lives, is_pair, left_of, marked_in, pair_place, with_mark}
-use Rattle.touched_blocks.proofs.Marking.{same_address, same_tree}
+use Rattle.touched_blocks.proofs.Marking.{same_address, same_tree, put_kept}
 use Rattle.touched_blocks.proofs.Ranges.{same_laws, same_symm}
-use Rattle.touched_blocks.proofs.Writing.{either}
 
 -- one place more
 marked_more : (places : List PairPlace) (i : ℕ) (d : PairPlace) → i < length places → (t a : ℕ)
@@ -96,16 +96,6 @@ put_start old places count = record {
     none true = refl
     none false = refl
 
-both : (b : Bool) → b ≡ true → b ≡ false → ⊥
-both b t f = cc
-
-with_old : (marked : Marked) (u b t a : ℕ) → marked t a ≡ true → with_mark marked u b t a ≡ true
-with_old marked u b t a had = by (is_pair u b t a)
-  where
-    by : (c : Bool) → cond c true (marked t a) ≡ true
-    by true = refl
-    by false = had
-
 with_itself : (marked : Marked) (t a : ℕ) → with_mark marked t a t a ≡ true
 with_itself marked t a = ap (λ b. cond b true (marked t a)) (same_laws.refl (pair_place t a))
 
@@ -125,7 +115,7 @@ others old mid t a (place ∷ places) none all =
   where
     other : (b : Bool) → is_pair t a place.tree place.address ≡ b → is_pair t a place.tree place.address ≡ false
     other false is = is
-    other true is = absurd (both (mid t a)
+    other true is = absurd (never (mid t a)
         (ap (λ u. mid u a) (same_tree t a place.tree place.address is) ∙ ap (λ b. mid place.tree b) (same_address t a place.tree place.address is) ∙ all.0.0) none)
 
 new_more : (old mid now : Marked) (t a before count next : ℕ) → ((u b : ℕ) → now u b ≡ with_mark mid t a u b) → (old t a ≡ true → mid t a ≡ true)
@@ -133,11 +123,11 @@ new_more : (old mid now : Marked) (t a before count next : ℕ) → ((u b : ℕ)
 new_more old mid now t a before count next put had more are = by (mid t a) refl
   where
     kept : (u b : ℕ) → mid u b ≡ true → now u b ≡ true
-    kept u b is = put u b ∙ with_old mid t a u b is
+    kept u b is = put u b ∙ put_kept mid t a u b is
 
     was_none : (b : Bool) → old t a ≡ b → mid t a ≡ false → old t a ≡ false
     was_none false is none = is
-    was_none true is none = absurd (both (mid t a) (had is) none)
+    was_none true is none = absurd (never (mid t a) (had is) none)
 
     by : (b : Bool) → mid t a ≡ b → AreNew old now before next
     by true is =
@@ -211,7 +201,7 @@ module _ (old now other : Marked) (joined : (t a : ℕ) → now t a ≡ (old t a
       → AllByRecursion (λ place. (now place.tree place.address ≡ true) × (old place.tree place.address ≡ false)) places
       → list_any (same_pair q) places ≡ true → left_of old other q.tree q.address ≡ true
   each_left q [] all has = cc
-  each_left q (place ∷ places) all has = elim (either (same_pair q place) _ has) [
+  each_left q (place ∷ places) all has = elim (or_cases (same_pair q place) _ has) [
     | inl same ↦
         ap (λ t. left_of old other t q.address) (same_tree q.tree q.address place.tree place.address same)
         ∙ ap (λ a. left_of old other place.tree a) (same_address q.tree q.address place.tree place.address same)

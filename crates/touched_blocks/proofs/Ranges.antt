@@ -10,6 +10,7 @@ use Rattle.std.proofs.lemmas.List.{get_or_default}
 use Rattle.std.proofs.lemmas.List.Folds.{list_any_at}
 use Rattle.std.proofs.lemmas.Map.Keys.{IsDistinct-from_apart}
 use Rattle.std.proofs.lemmas.Map.Made.{length-le_from_is_member}
+use Rattle.verdict.proofs.Truth.{and_left, and_right, and_true, or_cases}
 use Rattle.live_index.specs.Pairs.{Pairs}
 use Rattle.touched_blocks.specs.declared.marks.Marks.{Marks}
 use Rattle.touched_blocks.specs.declared.marks.PairPlace.{PairPlace}
@@ -22,7 +23,6 @@ use Rattle.touched_blocks.specs.Spots.{has_address, is_in}
 use Rattle.touched_blocks.proofs.Each.{any_has, each_more, each_start}
 use Rattle.touched_blocks.proofs.MarkLaws.{tied}
 use Rattle.touched_blocks.proofs.Marking.{marked_as, same_address, same_tree}
-use Rattle.touched_blocks.proofs.Writing.{and_true, either, left_of, right_of}
 
 -- ---- of the pairs that were found there are no more than marks
 
@@ -52,7 +52,7 @@ member_marked : (marks : Marks) (at : Option (ℕ × ℕ)) (places : List PairPl
 unfolding marked_by
 member_marked marks at [] q all h = cc
 member_marked marks at (place ∷ places) q all h =
-    elim (either (same_pair q place) _ h) [
+    elim (or_cases (same_pair q place) _ h) [
       | inl same ↦
           any_alike (same_pair q) (same_pair place) (λ r. same_congr q place r same) marks.places.keys
           ∙ sym (any_alike (is_at (by_pair place)) (same_pair place) (λ r. tied place r) marks.places.keys)
@@ -98,7 +98,7 @@ ranges_more pairs only test ranges i d cursor next before now after old mid new 
       (marked_as pairs (in_chosen only (λ a. has_address a (get_or ranges i d) && test a)) (in_chosen only (λ a. has_address a (get_or ranges i d) && test a))
       (in_chosen only (λ a. has_address a (get_or ranges i d) && test a)) (in_chosen only test) (marked_by mid) (marked_by new) (more before_it)
       (λ t a tight narrow s some. s)
-      (λ t a s. and_true _ _ (left_of _ (has_address a (get_or ranges i d) && test a) s) (right_of (has_address a (get_or ranges i d)) _ (right_of (is_chosen only t) _ s))));
+      (λ t a s. and_true _ _ (and_left _ (has_address a (get_or ranges i d) && test a) s) (and_right (has_address a (get_or ranges i d)) _ (and_right (is_chosen only t) _ s))));
   gone = λ e from low t a tight narrow above passed passes some.
       gone before_it t a tight narrow
       (let begins : (get_or ranges i e).from ≤ from = low i (omega arith) in

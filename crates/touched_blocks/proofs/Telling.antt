@@ -1,6 +1,7 @@
 -- What is known of all marks on the pairs that pending writes touch.
 use Rattle.std.proofs.Common.{◌≡◌, ℕ, ◌+◌, ◌*◌, ◌<◌, ◌≤◌, true, false, ◌&&◌, List, [], length, map, inl, inr, sym, ap, subst, arith}
 use Rattle.std.specs.Prelude.{is_some}
+use Rattle.verdict.proofs.Truth.{and_true}
 use Rattle.live_index.specs.Pairs.{Pairs}
 use Rattle.write_cache.specs.Pieces.{ArePiecesOf, Piece}
 use Rattle.touched_blocks.specs.declared.marks.Marks.{Marks}
@@ -17,7 +18,7 @@ use Rattle.touched_blocks.specs.Spots.{at_address, is_in}
 use Rattle.touched_blocks.specs.Touched.{touches_block, written_in}
 use Rattle.touched_blocks.proofs.Counting.{few_ranges}
 use Rattle.touched_blocks.proofs.Marking.{marked_as}
-use Rattle.touched_blocks.proofs.Writing.{and_true, from_none}
+use Rattle.touched_blocks.proofs.Writing.{from_none}
 
 -- the ranges have each address at which a block is touched
 pub marked_told : (pairs : Pairs) (pending : Pending) (ranges slice : List Range) (count : ℕ) (none marked : Marked) → ((t a : ℕ) → none t a ≡ false)

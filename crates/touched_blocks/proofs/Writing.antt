@@ -7,6 +7,7 @@ use Rattle.std.specs.Ordering.{nat_cmp}
 use Rattle.std.specs.FinMap.{FinMap, get, get-empty}
 use Rattle.std.proofs.lemmas.Bool.{cases_lt}
 use Rattle.std.proofs.lemmas.Bool.Decides.{nat_tests}
+use Rattle.verdict.proofs.Truth.{and_left, and_right, and_true, or_cases, or_left, or_right, decided}
 use Rattle.live_index.specs.Pairs.{Pairs}
 use Rattle.write_cache.specs.Cache.{with_bytes}
 use Rattle.write_cache.specs.Pieces.{Piece, map_of}
@@ -17,32 +18,11 @@ use Rattle.touched_blocks.specs.Marks.{Marked, no_mark}
 use Rattle.touched_blocks.specs.Spots.{has_offset}
 use Rattle.touched_blocks.specs.Touched.{Written, any_written, written_in}
 
-pub left_of : (a b : Bool) → (a && b) ≡ true → a ≡ true
-left_of = elim [ true ↦ λ b e. refl | false ↦ λ b e. e ]
-
-pub right_of : (a b : Bool) → (a && b) ≡ true → b ≡ true
-right_of = elim [ true ↦ λ b e. e | false ↦ λ b e. cc ]
-
-pub and_true : (a b : Bool) → a ≡ true → b ≡ true → (a && b) ≡ true
-and_true a b e f = ap (λ x. x && b) e ∙ f
-
-pub either : (a b : Bool) → (a || b) ≡ true → (a ≡ true) ⊎ (b ≡ true)
-either = elim [ true ↦ λ b e. inl refl | false ↦ λ b e. inr e ]
-
-pub or_left : (a b : Bool) → a ≡ true → (a || b) ≡ true
-or_left a b e = ap (λ x. x || b) e
-
-pub or_right : (a b : Bool) → b ≡ true → (a || b) ≡ true
-or_right = elim [ true ↦ λ b e. refl | false ↦ λ b e. e ]
-
-pub decided : (b : Bool) → (b ≡ true) ⊎ (b ≡ false)
-decided = elim [ true ↦ inl refl | false ↦ inr refl ]
-
 -- an offset of a range that is written, and a range with such an offset
 pub written_one : (written : Written) (at n : ℕ) → any_written written at n ≡ true → (o : ℕ) × (at ≤ o) × (o < at + n) × (written o ≡ true)
 unfolding any_written
 written_one written at zero h = cc
-written_one written at (suc n) h = by (written_one written (suc at) n) (either (written at) _ h)
+written_one written at (suc n) h = by (written_one written (suc at) n) (or_cases (written at) _ h)
   where
     by : (any_written written (suc at) n ≡ true → (o : ℕ) × (suc at ≤ o) × (o < suc at + n) × (written o ≡ true))
         → (written at ≡ true) ⊎ (any_written written (suc at) n ≡ true) → (o : ℕ) × (at ≤ o) × (o < at + suc n) × (written o ≡ true)

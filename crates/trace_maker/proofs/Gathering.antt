@@ -4,6 +4,7 @@ use Rattle.std.specs.List.{All, Contains, flat_map}
 use Rattle.std.proofs.lemmas.List.{length-map, get_or-map}
 use Rattle.std.proofs.lemmas.Bool.Decides.{nat_tests}
 use Rattle.std.proofs.lemmas.List.Elements.{All-nil, All-cons, All-append, All-weaker, All-contains, All-from_get_or, Contains-append_left, Contains-append_right}
+use Rattle.trace_reader.proofs.Filling.{are_bytes}
 use Rattle.verdict.specs.declared.machine.Event.{Event}
 use Rattle.verdict.specs.declared.machine.Event.TheVariants.{Write}
 use Rattle.verdict.specs.Events.{begin_of, length_of, meets_superblock}
@@ -56,10 +57,6 @@ has_some g few blocks copy a b among m = record {
       (λ e w. record { block = w.block; one = among w.block w.one; new = w.new; place = w.place; size = w.size }) m.more m.placed;
 }
 
--- the elements of a list of bytes are bytes
-pub are_bytes : (xs : List ℕ) → ((i : ℕ) → get_or xs i 0 < 256) → IsBytes xs
-are_bytes xs h = All-from_get_or (λ b. b < 256) xs 0 (λ i b. h i)
-
 behind_superblock : (at len : ℕ) → 69632 ≤ at → meets_superblock at len ≡ false
 behind_superblock at len h = grind (arith, nat_tests)
 
@@ -93,10 +90,6 @@ whole_commit k standing op sector data_writes front events last place of_data la
 pub if_made : {E : Type 0} (P : List ℕ → Type 0) (r : Result (List ℕ) E) (s : List ℕ) → IfOk r (λ b. b ≡ s) → P s → IfOk r P
 if_made P (Ok b) s e h = subst P (sym e) h
 if_made P (Err x) s e h = tt
-
--- the writes of data, where there is some
-pub some_data : (k sector : ℕ) (op : Operation) (events : List Event) (write : Event) → events ≡ write ∷ [] → write ≡ Write 1 (22020096 + 4096 * sector) (data_of k op) → IsDataOf k op sector events
-some_data k sector op events write e h = inr (e ∙ ap (λ (w : Event). w ∷ []) h)
 
 leaf_stands : (t : Tree) (leaf : Block) → Contains t.leaves.items leaf → Contains (blocks_of t) leaf.at
 leaf_stands t leaf (k, within, is) =

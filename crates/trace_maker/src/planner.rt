@@ -46,10 +46,7 @@ fn sharers_of(alloc: Global, files: &[ListedFile]) -> Result<Vec<u64>, NoMemory>
     ensures { IfOk result (λ list. list.items ≡ sharers files.now) }
 {
     let sharers = files.iter().filter(|f| f.may_share).map(|f| f.ino);
-    match sharers.collect(alloc) {
-        Ok(list) => Ok(list),
-        Err(_) => Err(NoMemory),
-    }
+    Ok(sharers.collect(alloc)?)
 }
 
 impl Planner {

@@ -64,10 +64,7 @@ pub fn data_writes(
         return Ok(Vec::new(alloc));
     }
     let write = data_write(alloc, k, sectors, sector)?;
-    match Vec::from_array(alloc, [write]) {
-        Ok(events) => Ok(events),
-        Err(_) => Err(NoMemory),
-    }
+    Ok(Vec::from_array(alloc, [write])?)
 }
 
 // A copy of these bytes, each of which is one.
@@ -110,10 +107,7 @@ fn add_block(
         return Ok(());
     }
     let write = block_write(alloc, block, copy)?;
-    match into.push(write) {
-        Ok(()) => Ok(()),
-        Err(_) => Err(NoMemory),
-    }
+    Ok(into.push(write)?)
 }
 
 /// Adds the writes of a copy of each block of a tree that has this generation. The copy lies so far behind

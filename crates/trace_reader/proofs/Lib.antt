@@ -1,4 +1,4 @@
-mod Filling
+pub mod Filling
 pub mod Spelling
 pub mod OneRecord
 pub mod Records

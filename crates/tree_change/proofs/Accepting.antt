@@ -6,6 +6,8 @@ use Rattle.std.specs.Prelude.{IfSome, Option, Some, None, Ok, Err, is_some}
 use Rattle.std.specs.List.{AllByRecursion, filter, list_any}
 use Rattle.std.specs.Ordering.{nat_cmp}
 use Rattle.std.specs.FinMap.{FinMap}
+use Rattle.verdict.proofs.Lists.{all_map as each_map}
+use Rattle.verdict.proofs.Truth.{and_parts}
 use Rattle.verdict.specs.Chunks.{place}
 use Rattle.verdict.specs.Items.{is_multiple}
 use Rattle.verdict.specs.OnDisk.{key_same}
@@ -36,11 +38,10 @@ use Rattle.shared_trees.specs.TableLaw.{Tree, trees_in}
 use Rattle.shared_trees.proofs.Accepted.{accepts}
 use Rattle.shared_trees.proofs.ArrayKept.{moves_same}
 use Rattle.shared_trees.proofs.ArrayPlaces.{as_by_all}
-use Rattle.shared_trees.proofs.Bounds.{and_parts}
 use Rattle.shared_trees.proofs.Forest.{lives_all, tables_stand}
 use Rattle.shared_trees.proofs.KeptImage.{IsOfImage, of_image}
 use Rattle.shared_trees.proofs.MarkedTrees.{marks_image}
-use Rattle.shared_trees.proofs.Picking.{comes_there, each_both, each_map, is_at, is_there, one_of, table_some, there_trees}
+use Rattle.shared_trees.proofs.Picking.{comes_there, each_both, is_at, is_there, one_of, table_some, there_trees}
 use Rattle.shared_trees.proofs.Premises.{chunks_apart}
 use Rattle.shared_trees.proofs.Tables.{Any, any_each}
 use Rattle.shared_trees.proofs.Trails.{trail_below, trail_of}

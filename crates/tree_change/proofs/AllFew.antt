@@ -4,6 +4,8 @@ use Rattle.std.proofs.lemmas.Bool.{eqb-true}
 use Rattle.std.proofs.lemmas.List.Sorted.{length_permutation}
 use Rattle.std.specs.Prelude.{Option, Some, None, Result, Ok, Err, is_some, map}
 use Rattle.std.specs.List.{AllByRecursion}
+use Rattle.walk_laws.proofs.Trees.{step_ok}
+use Rattle.verdict.proofs.Lists.{all_map as each_map}
 use Rattle.verdict.specs.Chunks.{place}
 use Rattle.verdict.specs.Items.{is_multiple}
 use Rattle.verdict.specs.Rules.{finding_or}
@@ -39,8 +41,6 @@ use Rattle.shared_trees.specs.TableLaw.{Tree, trees_in}
 use Rattle.shared_trees.specs.VisitsLaw.{entries_at, entries_in}
 use Rattle.shared_trees.proofs.ArrayPlaces.{as_by_all}
 use Rattle.shared_trees.proofs.Lives.{lives_are}
-use Rattle.shared_trees.proofs.Picking.{each_map}
-use Rattle.shared_trees.proofs.Rooted.{step_ok}
 use Rattle.shared_trees.proofs.Treed.{Steps, steps_of}
 use Rattle.tree_change.specs.Accepted.{AreMarkedTouched, AreUnshared, IsWalked, IsWellFormed, unshared_old}
 use Rattle.tree_change.specs.AllLooks.{FewForMap, FewForRest, FewFromOld}

@@ -6,6 +6,7 @@ use Rattle.std.specs.Prelude.{Ok, map, bytes_eq}
 use Rattle.std.specs.List.{AllByRecursion, list_any}
 use Rattle.std.specs.Ordering.{nat_cmp}
 use Rattle.std.specs.FinMap.{FinMap}
+use Rattle.verdict.proofs.Truth.{and_parts}
 use Rattle.verdict.specs.Chunks.{place}
 use Rattle.verdict.specs.OnDisk.{key_same}
 use Rattle.verdict.specs.declared.place.Chunk.{Chunk}
@@ -26,7 +27,6 @@ use Rattle.shared_trees.specs.LivePairs.{Walked, live_in}
 use Rattle.shared_trees.specs.Shared.{are_alike, are_read_alike, is_shared_by, stands_untouched}
 use Rattle.shared_trees.specs.ShiftedLaw.{is_shifted}
 use Rattle.shared_trees.proofs.ArrayPlaces.{as_by_all}
-use Rattle.shared_trees.proofs.Bounds.{and_parts}
 use Rattle.shared_trees.proofs.Lives.{lives_are}
 use Rattle.shared_trees.proofs.OldTells.{has_same}
 use Rattle.shared_trees.proofs.Picking.{one_of}

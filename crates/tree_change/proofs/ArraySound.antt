@@ -5,6 +5,7 @@ use Rattle.std.proofs.lemmas.Bool.{eqb-true}
 use Rattle.std.specs.Prelude.{nat_eq}
 use Rattle.std.specs.List.{AllByRecursion, list_any}
 use Rattle.std.specs.Option.{option_eq}
+use Rattle.verdict.proofs.Lists.{all_map as each_map}
 use Rattle.verdict.specs.declared.place.Chunk.{Chunk}
 use Rattle.verdict.proofs.Tables.{joined_none}
 use Rattle.volume_items.specs.ChunkOrder.{by_start}
@@ -15,7 +16,7 @@ use Rattle.shared_trees.specs.LivePairs.{Walked}
 use Rattle.shared_trees.proofs.ArrayApart.{array_apart}
 use Rattle.shared_trees.proofs.ArrayPlaces.{array_is}
 use Rattle.shared_trees.proofs.ArrayTree.{array_has}
-use Rattle.shared_trees.proofs.Picking.{each_both, each_map, one_of}
+use Rattle.shared_trees.proofs.Picking.{each_both, one_of}
 use Rattle.shared_trees.proofs.Treed.{map_kept, steps_of}
 use Rattle.tree_change.proofs.Chunks.{Ends, chunks_end}
 use Rattle.tree_change.proofs.Copies.{HasBytes, chunks_have_bytes}

@@ -2,6 +2,7 @@
 use Rattle.std.proofs.Common.{◌≡◌, ℕ, Bool, true, false, ◌||◌, ◌&&◌, not, List, [], ◌∷◌, refl, ap, sym, subst, ◌∙◌}
 use Rattle.std.specs.Prelude.{is_some}
 use Rattle.std.specs.List.{list_any}
+use Rattle.verdict.proofs.Lists.{all_map}
 use Rattle.verdict.specs.declared.place.Chunk.{Chunk}
 use Rattle.super_reader.specs.declared.Super.{Super}
 use Rattle.live_index.specs.Pairs.{AreNarrow, Pairs}
@@ -19,7 +20,7 @@ use Rattle.shared_trees.specs.LivePairs.{Walked}
 use Rattle.shared_trees.specs.SharedLaw.{MarksTouched, touches_old}
 use Rattle.shared_trees.specs.TableLaw.{Tree}
 use Rattle.shared_trees.proofs.Listing.{lists}
-use Rattle.shared_trees.proofs.Picking.{each_both, each_map}
+use Rattle.shared_trees.proofs.Picking.{each_both}
 use Rattle.tree_change.specs.Unchanged.{ChangesListed, changes_at, either_mark}
 
 -- a walk comes to an address that passes one of two tests where it comes to one that passes the first or to one that passes the second
@@ -45,7 +46,7 @@ either_marked some other a b test same sup stored e first second =
     let B = λ (v : Expect). other v.tree v.address ≡ comes_to b sup stored v in
     record {
       fine = first.fine;
-      each = each_map (λ v. A v × B v) (λ v. either_mark some other v.tree v.address ≡ comes_to test sup stored v) (visited sup stored e)
+      each = all_map (λ v. A v × B v) (λ v. either_mark some other v.tree v.address ≡ comes_to test sup stored v) (visited sup stored e)
           (λ v h. ap (λ m. m || other v.tree v.address) h.0
           ∙ (ap (λ m. comes_to a sup stored v || m) h.1 ∙ either_comes a b test same (visited sup stored v)))
           (each_both A B (visited sup stored e) first.each second.each);

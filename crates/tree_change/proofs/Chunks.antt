@@ -8,6 +8,7 @@ use Rattle.std.specs.Prelude.{Some, Result, Ok, Err}
 use Rattle.std.specs.List.{AllByRecursion, filter_map}
 use Rattle.std.specs.Ordering.{nat_cmp}
 use Rattle.std.specs.FinMap.{FinMap}
+use Rattle.walk_laws.proofs.Trees.{step_ok}
 use Rattle.recon_bytes.specs.Field.{field}
 use Rattle.verdict.specs.Items.{is_multiple, passes_64}
 use Rattle.verdict.specs.Rules.{and_then, finding_or, first_failing}
@@ -45,7 +46,6 @@ use Rattle.shared_trees.specs.LivePairs.{Walked, walked}
 use Rattle.shared_trees.specs.MergedLaw.{IsInOrder, begins_before, chunk_in, chunks_seen, items}
 use Rattle.shared_trees.specs.TableLaw.{Tree}
 use Rattle.shared_trees.proofs.MergedLists.{map_seen, walk_fits}
-use Rattle.shared_trees.proofs.Rooted.{step_ok}
 use Rattle.shared_trees.proofs.Treed.{chunk_tree, steps_of}
 use Rattle.tree_change.specs.Merging.{IsSortedOf, chunks_left}
 use Rattle.tree_change.specs.OneTree.{IsTree, OneTreeLaw, side_of}

@@ -3,6 +3,7 @@
 use Rattle.std.proofs.Common.{◌≡◌, ℕ, Bool, List, ◌∷◌, ◌++◌, length, refl, ap, sym, ◌∙◌}
 use Rattle.std.specs.Prelude.{Result, Ok, Err, map}
 use Rattle.std.specs.List.{filter_map}
+use Rattle.walk_laws.proofs.Trees.{step_ok}
 use Rattle.verdict.specs.Rules.{and_then, finding_or}
 use Rattle.verdict.specs.declared.finding.Finding.{Finding}
 use Rattle.verdict.specs.declared.place.Chunk.{Chunk}
@@ -20,7 +21,6 @@ use Rattle.records.specs.Walk.{behind}
 use Rattle.shared_trees.specs.LivePairs.{walked}
 use Rattle.shared_trees.specs.MergedLaw.{chunks_seen, roots_seen}
 use Rattle.shared_trees.proofs.MergedLists.{map_seen, roots_are_seen}
-use Rattle.shared_trees.proofs.Rooted.{step_ok}
 use Rattle.shared_trees.proofs.Treed.{has_trees, steps_of}
 use Rattle.tree_change.specs.Change.{BasesStand}
 use Rattle.tree_change.specs.Merging.{root_at}

@@ -4,6 +4,8 @@ use Rattle.std.proofs.lemmas.Bool.{or_parts}
 use Rattle.std.proofs.lemmas.Grind.{common_steps}
 use Rattle.std.specs.Prelude.{Option, Some, None, Result, Ok, Err, nat_le}
 use Rattle.std.specs.List.{AllByRecursion, filter_map, list_any}
+use Rattle.walk_laws.proofs.Trees.{step_ok}
+use Rattle.verdict.proofs.Lists.{all_map as each_map}
 use Rattle.recon_bytes.specs.Field.{field}
 use Rattle.verdict.specs.Items.{is_multiple, passes_64}
 use Rattle.verdict.specs.Rules.{and_then, finding_or, first_failing}
@@ -30,8 +32,6 @@ use Rattle.shared_trees.specs.LivePairs.{Walked, walked}
 use Rattle.shared_trees.specs.MergedLaw.{chunk_in, chunks_seen, items}
 use Rattle.shared_trees.proofs.ArrayTree.{put_each}
 use Rattle.shared_trees.proofs.MergedLists.{map_seen, walk_fits}
-use Rattle.shared_trees.proofs.Picking.{each_map}
-use Rattle.shared_trees.proofs.Rooted.{step_ok}
 use Rattle.shared_trees.proofs.Treed.{map_kept, steps_of}
 use Rattle.tree_change.proofs.Olds.{same_ok}
 

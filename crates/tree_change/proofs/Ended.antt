@@ -4,6 +4,8 @@ use Rattle.std.proofs.lemmas.Bool.{eqb-true}
 use Rattle.std.proofs.lemmas.Bool.Decides.{nat_tests}
 use Rattle.std.specs.Prelude.{Some, Result, Ok, Err, map}
 use Rattle.std.specs.List.{AllByRecursion, flat_map, fold, list_any}
+use Rattle.touched_blocks.proofs.Among.{some_same}
+use Rattle.verdict.proofs.Lists.{all_map as each_map}
 use Rattle.verdict.specs.Rules.{no_key}
 use Rattle.verdict.specs.declared.finding.Finding.{Finding}
 use Rattle.verdict.specs.declared.key.Key.{Key}
@@ -20,10 +22,9 @@ use Rattle.shared_trees.specs.EndsLaw.{all_ended, ended_at, next_or, walked_and,
 use Rattle.shared_trees.specs.Keeping.{Marks, OneOf, Stands, Under, anew_of, comes_to, kept_of, last_in, live_at, starts_at, starts_in}
 use Rattle.shared_trees.specs.Known.{last_of}
 use Rattle.shared_trees.specs.Skips.{Anew, Kept}
-use Rattle.shared_trees.proofs.Climbing.{some_live}
 use Rattle.shared_trees.proofs.EndsTold.{ends}
 use Rattle.shared_trees.proofs.Forest.{of_root}
-use Rattle.shared_trees.proofs.Picking.{each_both, each_map}
+use Rattle.shared_trees.proofs.Picking.{each_both}
 use Rattle.shared_trees.proofs.Skipping.{children_level}
 use Rattle.tree_change.specs.Walks.{last_at, with_last}
 use Rattle.tree_change.proofs.Whole.{KeepsNone, ends_same}
@@ -230,7 +231,7 @@ module _ (sup : Super) (stored : Stored) where
 
     same_last : (w v : Expect) → IsOf w → IsOf v → w.address ≡ v.address → last_in (walk_of sup stored w) ≡ last_in (walk_of sup stored v)
     same_last w v p q at =
-        ap (λ (live : Live). live.last) (some_live (live_at sup stored w) (live_at sup stored v)
+        ap (λ (live : Live). live.last) (some_same (live_at sup stored w) (live_at sup stored v)
         (sym p.1 ∙ (ap (λ t. pairs t w.address) (p.0 ∙ sym q.0) ∙ (ap (pairs v.tree) at ∙ q.1))))
 
     -- the key that is told last of a block's address is the greatest in it or below it

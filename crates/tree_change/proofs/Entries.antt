@@ -4,6 +4,8 @@ use Rattle.std.proofs.lemmas.Bool.{eqb-true}
 use Rattle.std.proofs.lemmas.Bool.Decides.{nat_tests}
 use Rattle.std.specs.Prelude.{IfSome, Option, Some, None, Ok, Err, Result, is_some}
 use Rattle.std.specs.List.{AllByRecursion, flat_map, list_any}
+use Rattle.verdict.proofs.Lists.{all_map as each_map}
+use Rattle.verdict.proofs.Truth.{and_parts}
 use Rattle.verdict.specs.declared.finding.Finding.{Finding}
 use Rattle.verdict.specs.declared.key.Key.{Key}
 use Rattle.super_reader.specs.declared.Super.{Super}
@@ -23,11 +25,10 @@ use Rattle.shared_trees.specs.SharedLaw.{HasTrees}
 use Rattle.shared_trees.specs.TableLaw.{Tree, trees_in}
 use Rattle.shared_trees.specs.VisitsLaw.{entries_at, entries_in}
 use Rattle.shared_trees.proofs.Accepted.{LowFits, accepts}
-use Rattle.shared_trees.proofs.Bounds.{and_parts}
 use Rattle.shared_trees.proofs.Forest.{lives_all, of_root, tables_stand}
 use Rattle.shared_trees.proofs.KeptImage.{IsOfImage, of_image}
 use Rattle.shared_trees.proofs.Lasting.{low_fits}
-use Rattle.shared_trees.proofs.Picking.{comes_there, each_both, each_map, is_at, is_there, one_of, table_some, there_trees}
+use Rattle.shared_trees.proofs.Picking.{comes_there, each_both, is_at, is_there, one_of, table_some, there_trees}
 use Rattle.shared_trees.proofs.Tables.{Any, any_each}
 use Rattle.shared_trees.proofs.Trails.{trail_below, trail_of}
 use Rattle.shared_trees.proofs.Treed.{has_trees, steps_of, trees_walk}

@@ -5,6 +5,7 @@ use Rattle.std.specs.Prelude.{Option, Some, None, Ok, map}
 use Rattle.std.specs.List.{AllByRecursion, list_any}
 use Rattle.std.specs.Ordering.{nat_cmp}
 use Rattle.std.specs.FinMap.{FinMap}
+use Rattle.walk_laws.proofs.Trees.{step_ok}
 use Rattle.verdict.specs.Rules.{and_then}
 use Rattle.volume_items.specs.declared.root.RootItem.{RootItem}
 use Rattle.volume_items.specs.declared.root_at.RootAt.{RootAt}
@@ -19,7 +20,6 @@ use Rattle.shared_trees.specs.LivePairs.{Walked}
 use Rattle.shared_trees.specs.TableLaw.{AreApart, Tree}
 use Rattle.shared_trees.proofs.Forest.{walks}
 use Rattle.shared_trees.proofs.Lives.{ok_same}
-use Rattle.shared_trees.proofs.Rooted.{step_ok}
 use Rattle.shared_trees.proofs.Treed.{trees_walk}
 use Rattle.tree_change.specs.AllTrees.{KnowsTrees, gone_all, has_id, named_at, named_parts, no_parts, root_named, with_parts}
 use Rattle.tree_change.specs.Merging.{root_at}

@@ -6,6 +6,7 @@ use Rattle.std.proofs.lemmas.List.{get_or-map, length-map}
 use Rattle.std.proofs.lemmas.List.Elements.{filter_map-append}
 use Rattle.std.specs.Prelude.{Option, Some, None, is_some, Ok, map}
 use Rattle.std.specs.List.{AllByRecursion, AllPairs, cons_option, filter, filter_map, list_any}
+use Rattle.verdict.proofs.Lists.{all_map as each_map}
 use Rattle.verdict.specs.OnDisk.{key_same}
 use Rattle.verdict.specs.declared.key.Key.{Key}
 use Rattle.super_reader.specs.declared.Super.{Super}
@@ -31,7 +32,6 @@ use Rattle.shared_trees.proofs.Merged.{read_of, walks_of}
 use Rattle.shared_trees.proofs.MergedLists.{chunks_merge, roots_merge}
 use Rattle.shared_trees.proofs.OldBlocks.{unshared_are}
 use Rattle.shared_trees.proofs.Trails.{Matches, Visit, all_own}
-use Rattle.shared_trees.proofs.Picking.{each_map}
 use Rattle.tree_change.specs.Gathered.{block_seen, blocks_seen}
 use Rattle.tree_change.specs.Merging.{chunks_left, has_named, named_before, root_at, root_at_of, roots_among, roots_left}
 use Rattle.tree_change.specs.Walks.{last_at, live_with, lives_of, pairs_at}

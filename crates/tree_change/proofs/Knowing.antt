@@ -3,6 +3,7 @@ use Rattle.std.proofs.Common.{◌≡◌, ℕ, ◌⊎◌, inl, inr, true, not, �
 use Rattle.std.specs.Prelude.{Some, is_some}
 use Rattle.std.specs.Ordering.{nat_cmp}
 use Rattle.std.specs.FinMap.{FinMap}
+use Rattle.verdict.proofs.Lists.{all_map}
 use Rattle.verdict.specs.Chunks.{home, place}
 use Rattle.verdict.specs.declared.place.Chunk.{Chunk}
 use Rattle.volume_items.specs.declared.root.RootItem.{RootItem}
@@ -24,7 +25,7 @@ use Rattle.shared_trees.specs.TableLaw.{Tree, trees_in}
 use Rattle.shared_trees.proofs.ArrayMoves.{array_moves}
 use Rattle.shared_trees.proofs.Forest.{stands_as}
 use Rattle.shared_trees.proofs.MarkedTrees.{marks_image, moves_image}
-use Rattle.shared_trees.proofs.Picking.{each_both, each_map}
+use Rattle.shared_trees.proofs.Picking.{each_both}
 use Rattle.tree_change.specs.AllTrees.{KnowsTrees}
 use Rattle.tree_change.specs.OneTree.{KnowsTree, old_tree}
 use Rattle.tree_change.specs.Unchanged.{ChangesListed, either_mark}
@@ -113,7 +114,7 @@ knows_trees image pending old trees pairs marked own moving under is narrow has 
       moved_is = refl;
       marked_is = touched_known pairs (touches_old old written end) marked own narrow touched own_are;
       changing = either_mark moving marked;
-      changes = each_map (λ tree. stand tree × (MarksTouched old written end marked tree × moves tree))
+      changes = all_map (λ tree. stand tree × (MarksTouched old written end marked tree × moves tree))
           (ChangesListed old is.chunks written end (either_mark moving marked) under) trees
           (λ tree h. changes_listed old is.chunks written end pairs marked moving under tree
           (stands_as old.sup tree table pairs (pairs_are tree.1.tree) h.0) h.1.0 h.1.1 listed)

@@ -3,6 +3,7 @@ use Rattle.std.proofs.Common.{◌≡◌, ℕ, zero, suc, ◌<◌, ◌≤◌, ◌
 use Rattle.std.proofs.lemmas.Bool.{ltb-false}
 use Rattle.std.specs.Prelude.{Result, Ok, Err, map, nat_lt, slice_index}
 use Rattle.std.specs.List.{AllByRecursion, filter_map, flat_map}
+use Rattle.walk_laws.proofs.Trees.{step_ok}
 use Rattle.verdict.specs.Image.{range}
 use Rattle.verdict.specs.Rules.{and_then, finding_or, first_failing, image_finding}
 use Rattle.verdict.specs.declared.finding.Family.TheVariants.{S}
@@ -33,7 +34,6 @@ use Rattle.shared_trees.specs.MergedLaw.{items, root_in, roots_seen}
 use Rattle.shared_trees.specs.SharedLaw.{HasTrees}
 use Rattle.shared_trees.specs.TableLaw.{Tree}
 use Rattle.shared_trees.proofs.MergedLists.{roots_are_seen, walk_fits}
-use Rattle.shared_trees.proofs.Rooted.{step_ok}
 use Rattle.shared_trees.proofs.Treed.{steps_of}
 use Rattle.tree_change.proofs.Olds.{same_ok}
 

@@ -6,6 +6,7 @@ use Rattle.std.specs.Prelude.{IfSome, Option, Some, None, Ok, map}
 use Rattle.std.specs.List.{AllByRecursion, cons_option, filter_map, list_any}
 use Rattle.std.specs.Ordering.{nat_cmp}
 use Rattle.std.specs.FinMap.{FinMap}
+use Rattle.walk_laws.proofs.Trees.{step_ok}
 use Rattle.verdict.specs.Rules.{and_then}
 use Rattle.volume_items.specs.declared.root.RootItem.{RootItem}
 use Rattle.volume_items.specs.declared.root_at.RootAt.{RootAt}
@@ -16,7 +17,6 @@ use Rattle.records.specs.Contents.{named_root}
 use Rattle.shared_trees.specs.LivePairs.{Walked}
 use Rattle.shared_trees.specs.Shared.{are_read_alike}
 use Rattle.shared_trees.specs.TableLaw.{Tree}
-use Rattle.shared_trees.proofs.Rooted.{step_ok}
 use Rattle.tree_change.specs.AllTrees.{gone_all, has_id, named_parts, no_parts, root_named, with_parts}
 use Rattle.tree_change.specs.Looks.{is_expected, met_by, new_visits, stays_by}
 use Rattle.tree_change.specs.LooksLaw.{entries_of}

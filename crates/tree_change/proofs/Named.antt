@@ -5,6 +5,7 @@ use Rattle.std.specs.Prelude.{Option, Some, None, Result, Ok, Err, map}
 use Rattle.std.specs.List.{AllByRecursion}
 use Rattle.std.specs.Ordering.{nat_cmp}
 use Rattle.std.specs.FinMap.{FinMap}
+use Rattle.walk_laws.proofs.Trees.{step_ok}
 use Rattle.verdict.specs.Rules.{and_then}
 use Rattle.verdict.specs.declared.finding.Finding.{Finding}
 use Rattle.verdict.specs.declared.key.Key.{Key}
@@ -30,7 +31,6 @@ use Rattle.shared_trees.specs.Skips.{Kept, nothing, unkept}
 use Rattle.shared_trees.specs.TableLaw.{Tree}
 use Rattle.shared_trees.proofs.Forest.{stands_as}
 use Rattle.shared_trees.proofs.ReadAlike.{listed_alike, marked_alike, stands_alike}
-use Rattle.shared_trees.proofs.Rooted.{step_ok}
 use Rattle.shared_trees.proofs.Sharing.{keeps}
 use Rattle.shared_trees.proofs.Sifting.{starts_level}
 use Rattle.shared_trees.proofs.Skipping.{skips, unkept_in, unkept_is}

@@ -3,6 +3,7 @@ use Rattle.std.proofs.Common.{◌≡◌, ℕ, zero, suc, ◌+◌, ◌*◌, ◌-�
 use Rattle.std.proofs.lemmas.Bool.{eq-eqb, eqb-true}
 use Rattle.std.specs.Prelude.{Some, None, Result, Ok, Err}
 use Rattle.std.specs.List.{AllByRecursion}
+use Rattle.verdict.proofs.Lists.{all_map as each_map}
 use Rattle.verdict.specs.Rules.{and_then}
 use Rattle.verdict.specs.declared.finding.Finding.{Finding}
 use Rattle.verdict.specs.declared.key.Key.{Key}
@@ -18,7 +19,7 @@ use Rattle.shared_trees.specs.Skips.{Anew, Kept, next_of, nothing, skip_and, ski
 use Rattle.shared_trees.specs.Visits.{visits_and, visits_below, visits_each, visits_of, visits_or}
 use Rattle.shared_trees.specs.VisitsLaw.{IsLed, LeadsOn, blocks_seen, entries_seen}
 use Rattle.shared_trees.proofs.FewVisits.{few_visits}
-use Rattle.shared_trees.proofs.Picking.{each_both, each_map}
+use Rattle.shared_trees.proofs.Picking.{each_both}
 use Rattle.shared_trees.proofs.Sifting.{starts_level}
 use Rattle.shared_trees.proofs.Skipping.{children_level}
 use Rattle.tree_change.proofs.SomeRead.{HasBlock, some_read}

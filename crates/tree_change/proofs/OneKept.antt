@@ -4,6 +4,9 @@ use Rattle.std.proofs.lemmas.Bool.{eqb-true}
 use Rattle.std.specs.Prelude.{Option, Some, None, IfSome, Result, Ok}
 use Rattle.std.specs.List.{AllByRecursion, list_any}
 use Rattle.std.specs.Result.{IsOk}
+use Rattle.shared_trees.proofs.Meeting.{block_is}
+use Rattle.verdict.proofs.Lists.{all_map as each_map}
+use Rattle.verdict.proofs.Truth.{and_parts, neither}
 use Rattle.verdict.specs.declared.key.Key.{Key}
 use Rattle.super_reader.specs.declared.Super.{Super}
 use Rattle.live_index.specs.Pairs.{Pairs}
@@ -16,11 +19,9 @@ use Rattle.records.specs.WalkLaw.{visited, visited_from}
 use Rattle.shared_trees.specs.Keeping.{AreListed, AreMarked, AreUntouched, IsKnown, Marks, OneOf, Stands, Under, comes_to, first_in, is_first, is_same, kept_of, last_in, live_at, owner_in, starts_at}
 use Rattle.shared_trees.specs.LivePairs.{live_in, table_of}
 use Rattle.shared_trees.proofs.Accepted.{accepts}
-use Rattle.shared_trees.proofs.Bounds.{and_parts}
 use Rattle.shared_trees.proofs.Forest.{of_root, tree_table}
-use Rattle.shared_trees.proofs.OldStops.{block_is}
-use Rattle.shared_trees.proofs.Picking.{each_both, each_map}
-use Rattle.shared_trees.proofs.Sharing.{found, neither}
+use Rattle.shared_trees.proofs.Picking.{each_both}
+use Rattle.shared_trees.proofs.Sharing.{found}
 use Rattle.shared_trees.proofs.Tables.{Any, any_each}
 use Rattle.shared_trees.proofs.Trails.{trail_below, trail_of}
 use Rattle.shared_trees.proofs.Visiting.{Visits, comes_from, visits_from}

@@ -4,6 +4,9 @@ use Rattle.std.proofs.Common.{◌≡◌, ℕ, ◌-◌, ◌==◌, Bool, true, fal
 use Rattle.std.proofs.lemmas.Bool.{eqb-true}
 use Rattle.std.specs.Prelude.{Option, Some, None, is_some, Result, Ok, map, if◌then◌else◌}
 use Rattle.std.specs.List.{AllByRecursion, cons_option, filter, filter_map, fold}
+use Rattle.touched_blocks.proofs.Among.{some_same}
+use Rattle.verdict.proofs.Numbers.{itself}
+use Rattle.verdict.proofs.Lists.{all_map}
 use Rattle.verdict.specs.OnDisk.{key_same}
 use Rattle.verdict.specs.Rules.{no_key}
 use Rattle.verdict.specs.declared.finding.Finding.{Finding}
@@ -29,12 +32,9 @@ use Rattle.shared_trees.specs.Skips.{Anew, Kept, is_below, nothing, skip_of, unk
 use Rattle.shared_trees.specs.Stops.{stops_of}
 use Rattle.shared_trees.specs.Unshared.{AreOfPairs, pair_seen}
 use Rattle.shared_trees.specs.declared.keeps.Ended.{Ended}
-use Rattle.shared_trees.proofs.Climbing.{some_live}
 use Rattle.shared_trees.proofs.Forest.{tree_table}
 use Rattle.shared_trees.proofs.MeetingStops.{meets, no_walk}
 use Rattle.shared_trees.proofs.OldBlocks.{unshared_are}
-use Rattle.shared_trees.proofs.Picking.{each_map}
-use Rattle.shared_trees.proofs.Sharing.{itself}
 use Rattle.shared_trees.proofs.Skipping.{skips}
 use Rattle.tree_change.specs.Gathered.{blocks_seen}
 use Rattle.tree_change.specs.Walks.{last_at, live_with, lives_of, moved_of, moved_pair, moved_to, pairs_at, with_last}
@@ -158,9 +158,9 @@ module _ (pairs : Pairs) (kept : Kept) (anew : Anew) (lasts : Lasts) (shared : L
   last_is w good one =
       ap (λ all. last_at all w.address) n.ends
       ∙ last_told sup stored w.address (last_in (walk_of sup stored w)) no_key walked
-      (each_map Good (λ x. x.address ≡ w.address → last_in (walk_of sup stored x) ≡ last_in (walk_of sup stored w)) walked
+      (all_map Good (λ x. x.address ≡ w.address → last_in (walk_of sup stored x) ≡ last_in (walk_of sup stored w)) walked
       (λ x g same. ap (λ (live : Live). live.last)
-      (some_live (live_at sup stored x) (live_at sup stored w)
+      (some_same (live_at sup stored x) (live_at sup stored w)
       (sym g.known ∙ (ap (λ t. table t x.address) (g.of ∙ sym good.of) ∙ (ap (table w.tree) same ∙ good.known))))) goods)
       one
 
@@ -206,7 +206,7 @@ module _ (pairs : Pairs) (kept : Kept) (anew : Anew) (lasts : Lasts) (shared : L
       → lives_of ended (blocks_seen records) ≡ filter (λ live. not (shared live)) (live_in news)
   new_blocks records is =
       sym (lives_are_pairs table ended (blocks_seen records)
-      (each_map (λ b. OneOf (Reads b) walked) (λ b. table b.tree b.address ≡ Some (live_with b (last_at ended b.address))) (blocks_seen records)
+      (all_map (λ b. OneOf (Reads b) walked) (λ b. table b.tree b.address ≡ Some (live_with b (last_at ended b.address))) (blocks_seen records)
       block_pair
       (reads_walked now.tree kept anew sup stored Good block low lists now.level now refl refl (all_good sup stored now news n.is) records
       (comes ∙ is))))
@@ -265,6 +265,6 @@ module _ (pairs : Pairs) (kept : Kept) (anew : Anew) (lasts : Lasts) (shared : L
   moved_is records is =
       ap (moved_of pairs ended) (met_is records is)
       ∙ (moved_all (stops_of kept anew sup stored now)
-      (each_map (λ e. OneOf (Stop e) walked) IsStopped (stops_of kept anew sup stored now) stopped
+      (all_map (λ e. OneOf (Stop e) walked) IsStopped (stops_of kept anew sup stored now) stopped
       (stops_walked now.tree kept anew sup stored Good block low lists now.level now refl refl (all_good sup stored now news n.is)))
       ∙ sym n.shifted)

@@ -3,6 +3,7 @@ use Rattle.std.proofs.Common.{◌≡◌, ℕ, zero, suc, ◌-◌, Bool, true, fa
 use Rattle.std.specs.Prelude.{Option, Some, None, Result, Ok, Err, is_some, map, if◌then◌else◌}
 use Rattle.std.specs.List.{AllByRecursion, filter, flat_map, list_any}
 use Rattle.std.specs.Result.{IsOk}
+use Rattle.verdict.proofs.Lists.{all_map as each_map}
 use Rattle.verdict.specs.Rules.{no_key}
 use Rattle.verdict.specs.declared.finding.Finding.{Finding}
 use Rattle.verdict.specs.declared.key.Key.{Key}
@@ -27,7 +28,7 @@ use Rattle.shared_trees.specs.Skips.{Anew, Kept, next_of, nothing}
 use Rattle.shared_trees.specs.Stops.{stops_and, stops_below, stops_or}
 use Rattle.shared_trees.proofs.EndsTold.{ends}
 use Rattle.shared_trees.proofs.Forest.{of_root, tree_table}
-use Rattle.shared_trees.proofs.Picking.{each_both, each_map}
+use Rattle.shared_trees.proofs.Picking.{each_both}
 use Rattle.shared_trees.proofs.Sifting.{starts_level}
 use Rattle.shared_trees.proofs.Skipping.{children_level}
 use Rattle.tree_change.proofs.OneNew.{IsNew}

@@ -6,6 +6,7 @@ use Rattle.std.specs.List.{AllByRecursion}
 use Rattle.std.specs.Result.{IsOk}
 use Rattle.std.specs.Ordering.{nat_cmp}
 use Rattle.std.specs.FinMap.{FinMap}
+use Rattle.verdict.proofs.Lists.{all_map as each_map}
 use Rattle.verdict.specs.Rules.{and_then}
 use Rattle.verdict.specs.declared.key.Key.{Key}
 use Rattle.write_cache.specs.Cache.{overlaid}
@@ -48,7 +49,6 @@ use Rattle.shared_trees.proofs.OldBlocks.{unshared_are}
 use Rattle.shared_trees.proofs.OldSide.{old_side}
 use Rattle.shared_trees.proofs.OldSupers.{give_alike}
 use Rattle.shared_trees.proofs.OldTells.{tells_shared}
-use Rattle.shared_trees.proofs.Picking.{each_map}
 use Rattle.shared_trees.proofs.ReadAlike.{listed_alike, marked_alike, stands_alike}
 use Rattle.shared_trees.proofs.Sharing.{keeps}
 use Rattle.shared_trees.proofs.Sifting.{nil}

@@ -5,6 +5,8 @@ use Rattle.std.specs.Prelude.{Option, Some, None, Ok, map}
 use Rattle.std.specs.List.{AllByRecursion}
 use Rattle.std.specs.Ordering.{nat_cmp}
 use Rattle.std.specs.FinMap.{FinMap}
+use Rattle.walk_laws.proofs.Trees.{step_ok}
+use Rattle.touched_blocks.proofs.Among.{some_same}
 use Rattle.verdict.specs.declared.key.Key.{Key}
 use Rattle.super_reader.specs.declared.Super.{Super}
 use Rattle.volume_items.specs.declared.root.RootItem.{RootItem}
@@ -24,8 +26,6 @@ use Rattle.shared_trees.specs.SharedLaw.{HasTrees}
 use Rattle.shared_trees.specs.Skips.{Anew, Kept, is_below}
 use Rattle.shared_trees.specs.TableLaw.{Tree}
 use Rattle.shared_trees.specs.declared.starts.Start.{Start}
-use Rattle.shared_trees.proofs.Climbing.{some_live}
-use Rattle.shared_trees.proofs.Rooted.{step_ok}
 use Rattle.tree_change.specs.Firsts.{first_copies}
 use Rattle.tree_change.specs.Gathered.{Gathers}
 use Rattle.tree_change.specs.Looks.{met_by}
@@ -149,7 +149,7 @@ module _ (image : List ℕ) (pending : FinMap nat_cmp ℕ) (old : Walked) (trees
       let place : known.pairs now.tree now.address ≡ Some (live_at old.sup stored e) =
       knows.pairs_are now.tree now.address
       ∙ (ap (λ tree. table_of (live_in old.seen) tree now.address) (sym old_of.0) ∙ (ap (table_of (live_in old.seen) e.tree) at ∙ first)) in
-      let live = some_live has.live (live_at old.sup stored e) (sym has.pair ∙ place) in
+      let live = some_same has.live (live_at old.sup stored e) (sym has.pair ∙ place) in
       root_same e now old_of.0 (sym at) (sym (has.generation ∙ ap (λ (l : Live). l.generation) live))
       (sym (has.level ∙ ap (λ (l : Live). l.level) live))
       (among (λ tree. IsRoot tree.1) (old_tree image old e) trees old_of.1 (roots_of image old trees t.has)) t.root

@@ -2,6 +2,7 @@
 use Rattle.std.proofs.Common.{◌≡◌, ℕ, ◌==◌, true, ◌&&◌, List, [], ◌∷◌, refl, ap, ◌∙◌}
 use Rattle.std.proofs.lemmas.Bool.{eqb-true}
 use Rattle.std.specs.Prelude.{bytes_eq, Result, Ok, Err}
+use Rattle.verdict.proofs.Truth.{and_parts}
 use Rattle.verdict.specs.Rules.{and_then}
 use Rattle.verdict.specs.declared.finding.Finding.{Finding}
 use Rattle.super_reader.specs.declared.Super.{Super}
@@ -12,7 +13,6 @@ use Rattle.records.specs.Walk.{each, own_records, then_records, walk_of}
 use Rattle.records.specs.WalkLaw.{visited}
 use Rattle.shared_trees.specs.Shared.{are_read_alike}
 use Rattle.shared_trees.specs.Skips.{Kept, nothing, own_of, part_of, unkept, where_new}
-use Rattle.shared_trees.proofs.Bounds.{and_parts}
 use Rattle.shared_trees.proofs.Images.{read_alike, same_fsid}
 use Rattle.shared_trees.proofs.OldSupers.{give_alike}
 use Rattle.shared_trees.proofs.Skipping.{unkept_in, unkept_is}

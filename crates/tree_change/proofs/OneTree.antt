@@ -5,6 +5,7 @@ use Rattle.std.specs.Prelude.{Option, Some, None, Ok, is_some}
 use Rattle.std.specs.List.{AllByRecursion}
 use Rattle.std.specs.Ordering.{nat_cmp}
 use Rattle.std.specs.FinMap.{FinMap}
+use Rattle.verdict.proofs.Lists.{all_map as each_map}
 use Rattle.write_cache.specs.Cache.{overlaid}
 use Rattle.verdict.specs.declared.key.Key.{Key}
 use Rattle.live_index.specs.Pairs.{Pairs}
@@ -27,7 +28,7 @@ use Rattle.shared_trees.specs.Skips.{Kept}
 use Rattle.shared_trees.specs.TableLaw.{Tree}
 use Rattle.shared_trees.proofs.Forest.{all_lives, lives_all, of_root, others_all, table_none, tree_table}
 use Rattle.shared_trees.proofs.Kept.{keeps_tree}
-use Rattle.shared_trees.proofs.Picking.{each_both, each_map}
+use Rattle.shared_trees.proofs.Picking.{each_both}
 use Rattle.shared_trees.proofs.Treed.{trees_walk}
 use Rattle.tree_change.specs.OneTree.{GivesTree, IsOldOf, KnowsTree, alone, unchanged}
 use Rattle.tree_change.specs.Unchanged.{changes_at, none_touched, stays_unchanged}

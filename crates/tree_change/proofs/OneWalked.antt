@@ -4,6 +4,7 @@ use Rattle.std.proofs.Common.{◌≡◌, ℕ, zero, suc, ◌-◌, Bool, true, fa
 use Rattle.std.proofs.lemmas.List.Elements.{filter_map-append}
 use Rattle.std.specs.Prelude.{Option, Some, None, is_some, Ok, Err, if◌then◌else◌}
 use Rattle.std.specs.List.{AllByRecursion, flat_map}
+use Rattle.verdict.proofs.Lists.{all_map as each_map}
 use Rattle.verdict.specs.Rules.{and_then}
 use Rattle.verdict.specs.declared.key.Key.{Key}
 use Rattle.super_reader.specs.declared.Super.{Super}
@@ -23,7 +24,7 @@ use Rattle.shared_trees.specs.Stops.{stops_and, stops_below, stops_or}
 use Rattle.shared_trees.proofs.Forest.{then_ok}
 use Rattle.shared_trees.proofs.Lives.{NoBlocks, entries_none, ok_same}
 use Rattle.shared_trees.proofs.OldStops.{all_append}
-use Rattle.shared_trees.proofs.Picking.{each_both, each_map}
+use Rattle.shared_trees.proofs.Picking.{each_both}
 use Rattle.shared_trees.proofs.Sifting.{behind_none, or_high_is}
 use Rattle.shared_trees.proofs.Skipping.{children_level}
 use Rattle.tree_change.specs.Gathered.{block_seen, blocks_seen}

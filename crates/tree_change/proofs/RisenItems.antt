@@ -8,6 +8,8 @@ use Rattle.std.specs.Prelude.{Some, None, Ok, map}
 use Rattle.std.specs.List.{AllByRecursion, cons_option, filter, list_any}
 use Rattle.std.specs.Ordering.{nat_cmp}
 use Rattle.std.specs.FinMap.{FinMap}
+use Rattle.verdict.proofs.Lists.{all_map}
+use Rattle.verdict.proofs.Truth.{and_parts}
 use Rattle.verdict.specs.OnDisk.{key_same}
 use Rattle.verdict.specs.declared.place.At.{At}
 use Rattle.write_cache.specs.Cache.{overlaid}
@@ -34,10 +36,9 @@ use Rattle.shared_trees.specs.Shared.{are_alike, are_read_alike, is_shared, is_s
 use Rattle.shared_trees.specs.SharedLaw.{HasTrees, MarksTouched, touches_old}
 use Rattle.shared_trees.specs.TableLaw.{AreApart, Tree}
 use Rattle.shared_trees.specs.Unshared.{item_seen, items_in}
-use Rattle.shared_trees.proofs.Bounds.{and_parts}
 use Rattle.shared_trees.proofs.Forest.{all_lives, lives_all, lives_of, tables_stand, then_ok, walks}
 use Rattle.shared_trees.proofs.Merged.{read_of, walks_of}
-use Rattle.shared_trees.proofs.Picking.{each_map, is_there, one_of}
+use Rattle.shared_trees.proofs.Picking.{is_there, one_of}
 use Rattle.shared_trees.proofs.Trails.{Matches, Visit, all_own}
 use Rattle.shared_trees.proofs.Treed.{trees_walk}
 use Rattle.shared_trees.proofs.Untouching.{free_all, is_free}
@@ -193,13 +194,13 @@ leaves_same sup trees seen apart is p q same =
     let entries : AllByRecursion (IsEntry table) (live_in seen) =
     subst (AllByRecursion (IsEntry table)) (sym (lives_all sup trees seen apart is)) (entries_all table sup trees stand) in
     items_same (filter p (live_in seen)) (filter q (live_in seen)) seen
-    (each_map (InLeaf table)
+    (all_map (InLeaf table)
     (λ (one : Located). list_any (is_there one.tree one.block) (filter p (live_in seen))
     ≡ list_any (is_there one.tree one.block) (filter q (live_in seen)))
     (items seen)
     (λ one at.
     any_left (is_there one.tree one.block) p q (live_in seen)
-    (each_map (IsEntry table) (λ (live : Live). is_there one.tree one.block live ≡ true → p live ≡ q live) (live_in seen)
+    (all_map (IsEntry table) (λ (live : Live). is_there one.tree one.block live ≡ true → p live ≡ q live) (live_in seen)
     (λ live entry there. same live (is_leaf table one at live entry there)) entries))
     (walks_in table sup trees seen is stand))
 

@@ -7,6 +7,9 @@ use Rattle.std.specs.List.{AllByRecursion, filter, filter_map, list_any}
 use Rattle.std.specs.List.Sorted.{IsPermutation, IsStrictlySortedBy}
 use Rattle.std.specs.Ordering.{nat_cmp}
 use Rattle.std.specs.FinMap.{FinMap}
+use Rattle.live_index.proofs.PlaceLaws.{same_name}
+use Rattle.verdict.proofs.Lists.{all_map as each_map}
+use Rattle.verdict.proofs.Truth.{and_parts}
 use Rattle.verdict.specs.OnDisk.{key_same}
 use Rattle.write_cache.specs.Cache.{overlaid}
 use Rattle.live_index.specs.Pairs.{Pairs}
@@ -21,11 +24,9 @@ use Rattle.shared_trees.specs.Shared.{are_alike, are_read_alike}
 use Rattle.shared_trees.specs.SharedLaw.{HasTrees}
 use Rattle.shared_trees.specs.ShiftedLaw.{is_shifted}
 use Rattle.shared_trees.specs.TableLaw.{Tree}
-use Rattle.shared_trees.proofs.Bounds.{and_parts}
 use Rattle.shared_trees.proofs.Images.{stored_alike}
 use Rattle.shared_trees.proofs.KeptImage.{nodesize_same}
-use Rattle.shared_trees.proofs.Ordering.{same_key}
-use Rattle.shared_trees.proofs.Picking.{each_map, is_there}
+use Rattle.shared_trees.proofs.Picking.{is_there}
 use Rattle.tree_change.specs.Rising.{is_left, is_marked, risen_at, unmoved_at}
 use Rattle.tree_change.specs.Unchanged.{stays_unchanged}
 use Rattle.tree_change.proofs.RisenLists.{at_most_one, at_some, by_places, each_passing, option_list}
@@ -162,7 +163,7 @@ module _ (image : List ℕ) (pending : FinMap nat_cmp ℕ) (old new : Walked) (t
           old_owner ∙ (ap (λ a. owner_in (stored_in image old.chunks old.sup.nodesize a)) l_at.1
           ∙ (ap owner_in (sym (stored_same address both.0))
           ∙ (ap (λ a. owner_in (stored_in (overlaid pending 0 image) new.chunks new.sup.nodesize a)) (sym n_at.1) ∙ sym new_owner))) in
-          sym (same_live l n fields (same_key l.last n.last near.1) (eqb-true l.parent n.parent near.0) owner)
+          sym (same_live l n fields (same_name l.last n.last near.1) (eqb-true l.parent n.parent near.0) owner)
         where
           kept : (a b : Bool) → a ≡ true → (a && not b) ≡ false → b ≡ true
           kept true true is none = refl

@@ -8,6 +8,8 @@ use Rattle.std.specs.List.{AllByRecursion, AllPairs, filter, list_any}
 use Rattle.std.specs.List.Sorted.{IsStrictlySortedBy}
 use Rattle.std.specs.Ordering.{nat_cmp, ordering_then}
 use Rattle.std.specs.declared.cmp.Ordering.TheVariants.{Less}
+use Rattle.live_index.proofs.PlaceLaws.{same_name}
+use Rattle.verdict.proofs.Truth.{and_parts}
 use Rattle.verdict.specs.OnDisk.{key_same}
 use Rattle.live_index.specs.declared.live.Live.{Live}
 use Rattle.node_reader.specs.Stored.{Stored, stored_in}
@@ -20,10 +22,8 @@ use Rattle.shared_trees.specs.LivePairs.{Walked, live_in, table_of}
 use Rattle.shared_trees.specs.Shared.{are_alike}
 use Rattle.shared_trees.specs.SharedLaw.{HasTrees}
 use Rattle.shared_trees.specs.TableLaw.{Tree}
-use Rattle.shared_trees.proofs.Bounds.{and_parts}
 use Rattle.shared_trees.proofs.Forest.{all_lives, lives_all, lives_of}
 use Rattle.shared_trees.proofs.KeptImage.{IsOfImage, of_image}
-use Rattle.shared_trees.proofs.Ordering.{same_key}
 use Rattle.shared_trees.proofs.Picking.{is_there}
 use Rattle.shared_trees.proofs.Treed.{trees_walk}
 use Rattle.tree_change.proofs.Apart.{either_pair, pairs_apart}
@@ -250,7 +250,7 @@ fields_of a b alike =
       address = eqb-true a.address b.address two.1;
       level = eqb-true a.level b.level three.0;
       generation = eqb-true a.generation b.generation four.0;
-      first = same_key a.first b.first four.1;
+      first = same_name a.first b.first four.1;
     }
 
 -- an alike pair with the same greatest key, node above and owner is the same

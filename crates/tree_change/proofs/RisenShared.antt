@@ -5,6 +5,8 @@ use Rattle.std.specs.Prelude.{Option, Some, None, Ok}
 use Rattle.std.specs.List.{AllByRecursion, list_any}
 use Rattle.std.specs.Ordering.{nat_cmp}
 use Rattle.std.specs.FinMap.{FinMap}
+use Rattle.verdict.proofs.Lists.{all_map as each_map}
+use Rattle.verdict.proofs.Truth.{and_parts}
 use Rattle.verdict.specs.OnDisk.{key_same}
 use Rattle.super_reader.specs.declared.Super.{Super}
 use Rattle.live_index.specs.Pairs.{Pairs}
@@ -19,9 +21,8 @@ use Rattle.shared_trees.specs.LivePairs.{Walked, live_in, table_of}
 use Rattle.shared_trees.specs.Shared.{are_alike, are_read_alike, is_shared, is_shared_by, stands_untouched}
 use Rattle.shared_trees.specs.SharedLaw.{HasTrees, MarksTouched, touches_old}
 use Rattle.shared_trees.specs.TableLaw.{AreApart, Tree}
-use Rattle.shared_trees.proofs.Bounds.{and_parts}
 use Rattle.shared_trees.proofs.Forest.{lives_all, tables_stand, walks}
-use Rattle.shared_trees.proofs.Picking.{comes_there, each_both, each_map, is_at, is_there, one_of, table_some, there_trees}
+use Rattle.shared_trees.proofs.Picking.{comes_there, each_both, is_at, is_there, one_of, table_some, there_trees}
 use Rattle.shared_trees.proofs.Treed.{trees_walk}
 use Rattle.shared_trees.proofs.Untouching.{free_all, is_free}
 use Rattle.tree_change.specs.Unchanged.{is_unchanged, none_touched, stays_unchanged}

@@ -3,6 +3,7 @@ use Rattle.std.proofs.Common.{◌≡◌, ℕ, List, refl, ap, sym, subst, ◌∙
 use Rattle.std.specs.Prelude.{Some, Ok, Err, map}
 use Rattle.std.specs.Ordering.{nat_cmp}
 use Rattle.std.specs.FinMap.{FinMap}
+use Rattle.walk_laws.proofs.Trees.{step_ok}
 use Rattle.verdict.specs.Rules.{and_then, finding_or}
 use Rattle.verdict.specs.declared.finding.Finding.{Finding}
 use Rattle.verdict.specs.declared.place.Chunk.{Chunk}
@@ -17,7 +18,6 @@ use Rattle.shared_trees.specs.LivePairs.{Walked}
 use Rattle.shared_trees.specs.MergedLaw.{IsInOrder, roots_seen}
 use Rattle.shared_trees.specs.TableLaw.{Tree}
 use Rattle.shared_trees.proofs.MergedLists.{roots_are_seen}
-use Rattle.shared_trees.proofs.Rooted.{step_ok}
 use Rattle.tree_change.specs.Merging.{IsSortedOf, named_before, root_at, roots_left}
 use Rattle.tree_change.specs.OneTree.{IsTree, OneTreeLaw, side_of}
 use Rattle.tree_change.specs.Walks.{Known, Parts, Side, tree_parts}

@@ -3,6 +3,7 @@ use Rattle.std.proofs.Common.{◌≡◌, ℕ, zero, suc, ◌+◌, ◌-◌, ◌<�
 use Rattle.std.proofs.lemmas.List.Elements.{filter_map-append}
 use Rattle.std.specs.Prelude.{Option, Some, None, Ok, Err, if◌then◌else◌}
 use Rattle.std.specs.List.{AllByRecursion}
+use Rattle.walk_laws.proofs.Trees.{step_ok}
 use Rattle.verdict.specs.declared.key.Key.{Key}
 use Rattle.super_reader.specs.declared.Super.{Super}
 use Rattle.node_reader.specs.Stored.{Stored, block_in}
@@ -15,7 +16,6 @@ use Rattle.shared_trees.specs.Skips.{Anew, Kept, is_below, next_of, nothing, ski
 use Rattle.shared_trees.specs.VisitsLaw.{IsLed, LeadsOn}
 use Rattle.shared_trees.proofs.Forest.{then_ok}
 use Rattle.shared_trees.proofs.Lives.{ok_same}
-use Rattle.shared_trees.proofs.Rooted.{step_ok}
 use Rattle.shared_trees.proofs.Sifting.{behind_none}
 use Rattle.tree_change.specs.Gathered.{block_seen, blocks_seen}
 

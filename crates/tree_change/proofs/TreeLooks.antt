@@ -5,6 +5,7 @@ use Rattle.std.specs.Prelude.{Option, Some, None, IfSome, is_some, Ok}
 use Rattle.std.specs.List.{AllByRecursion}
 use Rattle.std.specs.Ordering.{nat_cmp}
 use Rattle.std.specs.FinMap.{FinMap}
+use Rattle.walk_laws.proofs.Trees.{step_ok}
 use Rattle.verdict.specs.Rules.{and_then}
 use Rattle.verdict.specs.declared.key.Key.{Key}
 use Rattle.live_index.specs.Pairs.{Pairs}
@@ -28,7 +29,6 @@ use Rattle.shared_trees.specs.Visits.{visits_in}
 use Rattle.shared_trees.specs.VisitsLaw.{IsLed}
 use Rattle.shared_trees.proofs.Forest.{stands_as}
 use Rattle.shared_trees.proofs.OldBlocks.{unshared_are}
-use Rattle.shared_trees.proofs.Rooted.{step_ok}
 use Rattle.tree_change.specs.Gathered.{Gathers, blocks_seen}
 use Rattle.tree_change.specs.Looks.{met_by, new_visits, old_visits}
 use Rattle.tree_change.specs.LooksLaw.{ComesToFew, GoesByFew, GoneLooksLaw, IsRootTouched, TreeLooksLaw, entries_of, few_for}

@@ -6,6 +6,7 @@ use Rattle.std.specs.Prelude.{IfSome, Option, Some, None, Result, Ok, Err, map}
 use Rattle.std.specs.List.{AllByRecursion, list_any}
 use Rattle.std.specs.Ordering.{nat_cmp}
 use Rattle.std.specs.FinMap.{FinMap}
+use Rattle.walk_laws.proofs.Trees.{step_ok}
 use Rattle.verdict.specs.OnDisk.{key_same}
 use Rattle.verdict.specs.Rules.{and_then}
 use Rattle.verdict.specs.declared.finding.Finding.{Finding}
@@ -22,7 +23,6 @@ use Rattle.shared_trees.specs.Shared.{are_read_alike}
 use Rattle.shared_trees.specs.SharedLaw.{HasTrees}
 use Rattle.shared_trees.specs.TableLaw.{Tree}
 use Rattle.shared_trees.specs.VisitsLaw.{entries_at}
-use Rattle.shared_trees.proofs.Rooted.{step_ok}
 use Rattle.tree_change.specs.AllTrees.{gone_all, has_id, named_parts, root_named, with_parts}
 use Rattle.tree_change.specs.Gathered.{Gathers}
 use Rattle.tree_change.specs.Looks.{gone_all_looks, gone_looks, is_expected, met_by, named_looks, new_visits, old_visits, old_visits_or, read_count, same_bound, stays_by, tree_looks}

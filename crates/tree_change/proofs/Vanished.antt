@@ -5,6 +5,7 @@ use Rattle.std.specs.Prelude.{Option, Some, None, is_some, Result, Ok}
 use Rattle.std.specs.List.{AllByRecursion, cons_option, filter, filter_map}
 use Rattle.std.specs.Ordering.{nat_cmp}
 use Rattle.std.specs.FinMap.{FinMap}
+use Rattle.walk_laws.proofs.Trees.{step_ok}
 use Rattle.verdict.specs.Rules.{and_then}
 use Rattle.verdict.specs.declared.finding.Finding.{Finding}
 use Rattle.verdict.specs.declared.key.Key.{Key}
@@ -31,7 +32,6 @@ use Rattle.shared_trees.specs.declared.starts.Start.{Start}
 use Rattle.shared_trees.proofs.Forest.{NoneOf, stands_as, tables_stand, walks}
 use Rattle.shared_trees.proofs.OldBlocks.{unshared_are}
 use Rattle.shared_trees.proofs.OldTells.{gone}
-use Rattle.shared_trees.proofs.Rooted.{step_ok}
 use Rattle.shared_trees.proofs.Skipping.{skips}
 use Rattle.tree_change.specs.Gathered.{Gathers, blocks_seen}
 use Rattle.tree_change.specs.OneTree.{IsAmong, old_tree, side_of}

@@ -31,11 +31,9 @@ use volume_items::RootAt;
 use write_cache::WriteCache;
 
 /// What changes from an accepted image to the image that the pending writes make of it, or the first finding of what that image holds. The
-/// disk's bytes are the accepted image, and the bases are what is known of it. `fresh` is the superblock of the new image. It reads blocks
-/// that the two images do not share, and no others: of an old one the first copy, since an accepted image has the same in both, and of a new
-/// one each copy that the pending writes do not cover, each once. It does not read those that are not shared for a block below them alone. So
-/// it reads once at most for each old pair of the change and twice for each new one. A commit that writes nothing but the superblock with its
-/// own bytes reads none. Where the two superblocks do not read blocks alike, nothing is shared. Of the live table it asks for what the
+/// disk's bytes are the accepted image, and the bases are what is known of it. `fresh` is the superblock of the new image. Its reads of the
+/// disk are counted: at most one for each old pair of the change, and two for each new one. So a commit that writes nothing but the superblock
+/// with its own bytes reads none. Of an old block the first copy is read, since an accepted image has the same in both. Where the two superblocks do not read blocks alike, nothing is shared. Of the live table it asks for what the
 /// pending writes touch and what the walks meet. Where the answer is a change, it counts at most 58 looks into that table for each old block
 /// that changes and 35 for each new one, 56 for each pointer or item of the old ones and four for each of the new ones, one for each piece of
 /// the writes (a maximal run of written bytes), four for each old chunk, one for each new one, and 77. A change has at most one shifted pair

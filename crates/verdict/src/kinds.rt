@@ -1,4 +1,10 @@
-//! The kinds of items, by the names that the on-disk format gives them: the second part of an item's key.
+//! The kinds of items, by the names that the on-disk format gives them: the second part of an item's key; and in which
+//! trees each is read.
+
+ghost use Rattle.std.specs.Prelude.{◌≡◌};
+ghost use Rattle.verdict.specs.Items.{is_kind_of};
+
+use crate::TreeSort;
 
 /// An inode: (inode, 1, 0) in a tree of files.
 pub const INODE_ITEM: u8 = 1;
@@ -46,3 +52,40 @@ pub const DEV_ITEM: u8 = 216;
 pub const CHUNK_ITEM: u8 = 228;
 /// Statistics of a device: (0, 249, device) in the device tree.
 pub const PERSISTENT_ITEM: u8 = 249;
+
+impl TreeSort {
+    /// Whether items of this kind are read in a tree of this sort.
+    pub fn has_kind(self, kind: u8) -> bool
+        ensures { result ≡ is_kind_of self kind }
+    {
+        match self {
+            TreeSort::Root => matches!(kind, ROOT_ITEM | ROOT_BACKREF | ROOT_REF),
+            TreeSort::Extent => matches!(
+                kind,
+                EXTENT_ITEM
+                    | METADATA_ITEM
+                    | TREE_BLOCK_REF
+                    | EXTENT_DATA_REF
+                    | SHARED_BLOCK_REF
+                    | SHARED_DATA_REF
+                    | BLOCK_GROUP_ITEM
+            ),
+            TreeSort::Chunk => matches!(kind, DEV_ITEM | CHUNK_ITEM),
+            TreeSort::Device => kind == DEV_EXTENT,
+            TreeSort::File => matches!(
+                kind,
+                INODE_ITEM
+                    | INODE_REF
+                    | INODE_EXTREF
+                    | XATTR_ITEM
+                    | ORPHAN_ITEM
+                    | DIR_ITEM
+                    | DIR_INDEX
+                    | EXTENT_DATA
+            ),
+            TreeSort::Sums => kind == EXTENT_CSUM,
+            TreeSort::Groups => kind == BLOCK_GROUP_ITEM,
+            TreeSort::Unread => false,
+        }
+    }
+}

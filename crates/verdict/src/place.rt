@@ -2,15 +2,10 @@
 //! device.
 
 ghost use Rattle.std.specs.Prelude.{◌≡◌};
-ghost use Rattle.verdict.specs.Items.{item_finding, is_file_objectid, is_free_id, is_kind_of, is_listed, is_multiple};
+ghost use Rattle.verdict.specs.Items.{item_finding, is_file_objectid, is_free_id, is_listed, is_multiple};
 ghost use Rattle.verdict.specs.Trees.{has_group_tree, is_node_size, sort_of};
 
-use crate::kinds::{
-    BLOCK_GROUP_ITEM, CHUNK_ITEM, DEV_EXTENT, DEV_ITEM, DIR_INDEX, DIR_ITEM, EXTENT_CSUM,
-    EXTENT_DATA, EXTENT_DATA_REF, EXTENT_ITEM, INODE_EXTREF, INODE_ITEM, INODE_REF, METADATA_ITEM,
-    ORPHAN_ITEM, ROOT_BACKREF, ROOT_ITEM, ROOT_REF, SHARED_BLOCK_REF, SHARED_DATA_REF,
-    TREE_BLOCK_REF, XATTR_ITEM,
-};
+use crate::kinds::ORPHAN_ITEM;
 use crate::trees::{
     BLOCK_GROUP_TREE, CHUNK_TREE, CSUM_TREE, DEV_TREE, EXTENT_TREE, FREE_SPACE_TREE, QUOTA_TREE,
     ROOT_TREE,
@@ -52,41 +47,6 @@ impl TreeSort {
             QUOTA_TREE..=FREE_SPACE_TREE => TreeSort::Unread,
             BLOCK_GROUP_TREE => TreeSort::Groups,
             _ => TreeSort::File,
-        }
-    }
-
-    /// Whether items of this kind are read in a tree of this sort.
-    pub fn has_kind(self, kind: u8) -> bool
-        ensures { result ≡ is_kind_of self kind }
-    {
-        match self {
-            TreeSort::Root => matches!(kind, ROOT_ITEM | ROOT_BACKREF | ROOT_REF),
-            TreeSort::Extent => matches!(
-                kind,
-                EXTENT_ITEM
-                    | METADATA_ITEM
-                    | TREE_BLOCK_REF
-                    | EXTENT_DATA_REF
-                    | SHARED_BLOCK_REF
-                    | SHARED_DATA_REF
-                    | BLOCK_GROUP_ITEM
-            ),
-            TreeSort::Chunk => matches!(kind, DEV_ITEM | CHUNK_ITEM),
-            TreeSort::Device => kind == DEV_EXTENT,
-            TreeSort::File => matches!(
-                kind,
-                INODE_ITEM
-                    | INODE_REF
-                    | INODE_EXTREF
-                    | XATTR_ITEM
-                    | ORPHAN_ITEM
-                    | DIR_ITEM
-                    | DIR_INDEX
-                    | EXTENT_DATA
-            ),
-            TreeSort::Sums => kind == EXTENT_CSUM,
-            TreeSort::Groups => kind == BLOCK_GROUP_ITEM,
-            TreeSort::Unread => false,
         }
     }
 

@@ -5,8 +5,9 @@ use Rattle.std.proofs.lemmas.Bool.{eqb-true, not-false}
 use Rattle.verdict.specs.Items.{item_rule, is_multiple, listed_rule}
 use Rattle.verdict.specs.declared.finding.Family.TheVariants.{I}
 use Rattle.std.specs.Prelude.{Option, Some, None, Ok, Err}
+use Rattle.verdict.proofs.Lists.{all_behind}
 use Rattle.verdict.specs.Rules.{TableRow, first_failing, or_found, finding_or}
-use Rattle.verdict.proofs.Tables.{first_failing_joined}
+use Rattle.verdict.proofs.Tables.{first_failing_joined, kept_first}
 use Rattle.recon_bytes.specs.Field.{field}
 use Rattle.verdict.specs.declared.finding.Finding.{Finding}
 use Rattle.verdict.specs.declared.key.Key.{Key}
@@ -54,16 +55,9 @@ unfolding chunk_row
 row_at_stripes at key bytes rest size frame fields finding f f0 g g0 s r last =
     ap (λ o. finding_or o (chunk_fields key bytes)) (three at key bytes rest size frame fields f f0 g g0 s r ∙ sym last)
 
-row_passes : (row : TableRow) (rows : List TableRow) → first_failing (row ∷ rows) ≡ None → (row.fails ≡ false) × (first_failing rows ≡ None)
-row_passes row rows kept =
-    (elim row.fails as (λ b. cond b (Some row.finding) (first_failing rows) ≡ None → (b ≡ false) × (first_failing rows ≡ None)) [
-      | true ↦ λ e. cc
-      | false ↦ λ e. (refl, e)
-    ]) kept
-
 fifth_kept : (a b c d e : TableRow) → first_failing (a ∷ b ∷ c ∷ d ∷ e ∷ []) ≡ None → e.fails ≡ false
 fifth_kept a b c d e kept =
-    (row_passes e [] (row_passes d (e ∷ []) (row_passes c (d ∷ e ∷ []) (row_passes b (c ∷ d ∷ e ∷ []) (row_passes a (b ∷ c ∷ d ∷ e ∷ []) kept).1).1).1).1).0
+    (kept_first e [] (kept_first d (e ∷ []) (kept_first c (d ∷ e ∷ []) (kept_first b (c ∷ d ∷ e ∷ []) (kept_first a (b ∷ c ∷ d ∷ e ∷ []) kept).1).1).1).1).0
 
 -- where the size keeps its rule, the whole stripes are as many as num_stripes says
 frame_size : (at : At) (key : Key) (bytes : List ℕ) → first_failing (frame_rows at key bytes) ≡ None → length bytes ≡ 48 + 32 * field 2 bytes 44
@@ -88,10 +82,6 @@ unfolding chunk_row
 row_kept at key bytes rest size class frame fields stripes f f0 g g0 s k r last last0 =
     ap (λ o. finding_or o (chunk_fields key bytes)) (three at key bytes rest size frame fields f f0 g g0 s r ∙ sym last ∙ last0)
     ∙ rw (s, k, r) (ap (λ x. Ok (record { key = key; length = field 8 bytes 0; class = field 8 bytes 24; stripes = x })) (counted bytes (field 2 bytes 44) (frame_size at key bytes (sym f ∙ f0))))
-
--- all bytes behind a place
-pub all_behind : (n : ℕ) (bytes : List ℕ) → take (length bytes - n) (drop n bytes) ≡ drop n bytes
-all_behind n bytes = grind (arith, common_steps)
 
 -- behind a stripe there are fewer
 pub stripes_fewer : (bytes : List ℕ) → 32 ≤ length bytes → length (stripes_of (take (length bytes - 32) (drop 32 bytes))) < length (stripes_of bytes)

@@ -32,14 +32,6 @@ busy_or_free : (space : List Bool) (number : ℕ) (b : Bool) → get_or space nu
 busy_or_free space number true e = inl e
 busy_or_free space number false e = inr e
 
--- taking a block frees none
-pub take_frees_none : (space : List Bool) (number : ℕ) → NoneFreed space (set space number true)
-take_frees_none space number other free =
-    elim (busy_or_free space other (get_or space other true) refl) [
-      | inl busy ↦ absurd (busy_not_free (set space number true) other (still_busy space number other busy) free)
-      | inr before ↦ before
-    ]
-
 -- one more block is in use
 pub one_more_busy : (space after : List Bool) (blocks : List BlockAt) (i : ℕ) (d : BlockAt) → i < length blocks
     → after ≡ set space (get_or blocks i d).number true

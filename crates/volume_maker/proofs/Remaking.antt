@@ -201,10 +201,3 @@ first_blocks P t device files sums none roots extents =
     (All-append P (front ++ blocks_of t.sums) subvolumes
     (All-append P front (blocks_of t.sums)
     (All-append P (device_block ∷ []) (blocks_of t.files) device_all files) sums) (subst Q (sym none) (All-nil P))) roots) extents
-
--- a tree of new blocks of a generation
-pub new_up_to : (g : ℕ) (s : List Bool) (new : List BlockAt) (u : List Bool) → IsRemade g [] s new u → IsUpTo g new
-new_up_to g s new u m = up_to g [] s new u (All-nil (λ b. b.generation < g)) m
-
-pub new_in_chunk : (g : ℕ) (s : List Bool) (new : List BlockAt) (u : List Bool) → IsRemade g [] s new u → AreInChunk new
-new_in_chunk g s new u m = in_chunk g [] s new u (All-nil (λ b. b.number < 512)) m

@@ -30,10 +30,7 @@ fn name_of(alloc: Global, letter: &str, k: u32) -> Result<String, NoMemory>
     ensures name { IfOk result (λ name. string_bytes name ≡ letter.now ++ decimal k) }
     ensures short { IfOk result (λ name. string_len name < 2 ^ 16) }
 {
-    match format!(in alloc; "{letter}{k}") {
-        Ok(name) => Ok(name),
-        Err(_) => Err(NoMemory),
-    }
+    Ok(format!(in alloc; "{letter}{k}")?)
 }
 
 // The key of an inode.

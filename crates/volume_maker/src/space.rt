@@ -61,10 +61,10 @@ impl Space {
     pub fn new(alloc: Global) -> Result<Space, NoMemory>
         ensures { IfOk result (λ space. space ≡ replicate 512 false) }
     {
-        match vec![in alloc; false; BLOCKS] {
-            Ok(busy) => Ok(Space { alloc, busy }),
-            Err(_) => Err(NoMemory),
-        }
+        Ok(Space {
+            alloc,
+            busy: vec![in alloc; false; BLOCKS]?,
+        })
     }
 
     /// Takes a block.

@@ -2,6 +2,7 @@
 use Rattle.std.proofs.Common.{◌≡◌, ℕ, zero, suc, ◌+◌, ◌-◌, ◌<◌, Bool, true, false, not, List, [], ◌∷◌, ◌++◌, refl, ap, sym, ◌∙◌, arith}
 use Rattle.std.proofs.lemmas.Grind.{common_steps}
 use Rattle.std.specs.Prelude.{Option, Some, None, is_some, ◌==◌, ◌&&◌, map}
+use Rattle.verdict.proofs.Answers.{none_is}
 use Rattle.verdict.specs.Rules.{first_failing}
 use Rattle.verdict.specs.OnDisk.{key_below, key_same}
 use Rattle.verdict.specs.declared.key.Key.{Key}
@@ -21,10 +22,6 @@ keys_kept bytes fsid e kept =
     (joined_none (key_rules bytes e) (body_rules bytes e)
     (joined_none (count_rules bytes e) (key_rules bytes e ++ body_rules bytes e)
     (joined_none (header_rules bytes fsid e) (count_rules bytes e ++ (key_rules bytes e ++ body_rules bytes e)) kept).1).1).0
-
-none_is : {A : Type 0} (found : Option A) → is_some found ≡ false → found ≡ None
-none_is None is = refl
-none_is (Some x) is = cc
 
 first_key : (bytes : List ℕ) (e : Expect) → first_failing (key_rules bytes e) ≡ None → differs_from e.low (entry_key bytes (entry_size e.level) 0) ≡ false
 unfolding key_rules

@@ -25,7 +25,7 @@ use Rattle.walk_laws.proofs.Keys.{AllBelow, Lie, NoneBelow, item_keys-append, li
 use Rattle.walk_laws.proofs.Blocks.{block_keys, item_keys_of, pointer_keys_of}
 
 -- a step that comes to a value, and what followed
-step_ok : {A B : Type 0} (step : Result A Finding) (next : A → Result B Finding) (value : B) → and_then step next ≡ Ok value → (a : A) × (step ≡ Ok a) × (next a ≡ Ok value)
+pub step_ok : {A B : Type 0} (step : Result A Finding) (next : A → Result B Finding) (value : B) → and_then step next ≡ Ok value → (a : A) × (step ≡ Ok a) × (next a ≡ Ok value)
 step_ok (Err finding) next value is = absurd (cc)
 step_ok (Ok a) next value is = (a, refl, is)
 

@@ -13,15 +13,6 @@ pub fn part(bytes: &[u8], at: u64, len: usize) -> &[u8] {
     &bytes[at..at + len.min(bytes.len() - at)]
 }
 
-/// The number of so many bytes at a place, the lowest first.
-pub fn number_at(bytes: &[u8], at: u64, width: usize) -> u64 {
-    let mut number = 0u64;
-    for byte in part(bytes, at, width).iter().rev() {
-        number = number << 8 | u64::from(*byte);
-    }
-    number
-}
-
 /// Whether each byte is the old or the new one.
 pub fn is_in_part(left: &[u8], old: &[u8], new: &[u8]) -> bool {
     left.len() == old.len()

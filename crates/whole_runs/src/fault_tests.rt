@@ -1,11 +1,13 @@
 //! What stands after a failed call: each call of the disk, of the trace and of the sink fails in its turn.
 
 use crate::bytes::{is_in_part, part, superblock_in};
-use crate::change::{Change, changed};
 use crate::runs::{
     ACCEPTED, CHECK, CREATED, Fault, Object, REPLAY, REPLAY_JSON, Run, checks_so, run_over,
 };
-use crate::trace::{Step, trace_of};
+use crate::trace::{
+    empty_trace, header, new_file_trace, put_fetch, put_less_used, put_new_file, put_write,
+    with_new_file,
+};
 use image_maker::{BASE_LENGTH, base_image};
 use recon_disk::{MemSink, Op};
 use std::alloc::Global;
@@ -92,14 +94,16 @@ fn wrong_object(alloc: Global, whole: &Whole, rows: &[Object]) -> Result<Option<
 
 // A pending write, a superblock that says less, and a new file, with a fetch on each side of the first superblock: what
 // is rejected takes the pending write with it. The run without a failed call has all these lines, as text and as JSON.
-const STEPS: &[Step] = &[
-    Step::Write(30_408_704, b"ABCD"),
-    Step::Fetch(30_408_704, 4),
-    Step::Rejected(&[Change::Used(94_208)]),
-    Step::Fetch(30_408_704, 4),
-    Step::Commit(&[Change::NewFile]),
-    Step::End,
-];
+fn steps(alloc: Global) -> Result<Vec<u8>, Fail> {
+    let mut trace = header(alloc)?;
+    put_write(&mut trace, 30_408_704, b"ABCD")?;
+    put_fetch(&mut trace, 30_408_704, 4)?;
+    put_less_used(&mut trace)?;
+    put_fetch(&mut trace, 30_408_704, 4)?;
+    put_new_file(alloc, &mut trace)?;
+    trace.push(255)?;
+    Ok(trace)
+}
 
 const LINES: &str = "image accepted generation 1
 fetch 30408704 4 41424344
@@ -140,8 +144,8 @@ fn wrong_in_a_replay(
     rows: &[Object],
 ) -> Result<Option<Object>, Fail> {
     let base = base_image(alloc)?;
-    let new = changed(alloc, base.as_slice(), &[Change::NewFile])?;
-    let trace = trace_of(alloc, base.as_slice(), STEPS)?;
+    let new = with_new_file(alloc, base.as_slice())?;
+    let trace = steps(alloc)?;
     let whole = Whole {
         words,
         old: base.as_slice(),
@@ -288,8 +292,8 @@ fn a_new_file_is_three_writes(rt: HostRuntime) -> Result<(), Fail> {
     let alloc = rt.alloc();
     let base = base_image(alloc)?;
     let base = base.as_slice();
-    let new = changed(alloc, base, &[Change::NewFile])?;
-    let trace = trace_of(alloc, base, &[Step::Commit(&[Change::NewFile]), Step::End])?;
+    let new = with_new_file(alloc, base)?;
+    let trace = new_file_trace(alloc)?;
     for row in WRITES.iter().copied() {
         let (nth, keep, ..) = row;
         let object = Object::Disk(Op::Write, keep);
@@ -311,7 +315,7 @@ const EARLY: &[(Object, u64, u8, &str)] = &[
 fn a_run_that_ends_early_keeps_its_lines(rt: HostRuntime) -> Result<(), Fail> {
     let alloc = rt.alloc();
     let base = base_image(alloc)?;
-    let trace = trace_of(alloc, base.as_slice(), &[Step::End])?;
+    let trace = empty_trace(alloc)?;
     for (object, nth, status, lines) in EARLY.iter().copied() {
         let fault = Fault { object, nth };
         let run = run_over(alloc, REPLAY, base.as_slice(), &trace, &[fault])?;

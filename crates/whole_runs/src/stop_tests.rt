@@ -1,8 +1,7 @@
 //! What a replay leaves on a disk that tells what a stop leaves: each call fails in its turn, and the full check accepts what is left.
 
-use crate::change::Change;
-use crate::runs::{ACCEPTED, checks_so};
-use crate::trace::{Step, trace_of};
+use crate::runs::checks_so;
+use crate::trace::new_file_trace;
 use image_maker::base_image;
 use recon_cli::recon_run;
 use recon_disk::{Disk, Fail as DiskFail, MemSink, MemSource, Op, Steps, StopDisk};
@@ -54,36 +53,6 @@ fn is_accepted(alloc: Global, image: &[u8], generation: usize) -> Result<bool, F
     checks_so(alloc, image, 0, &line)
 }
 
-// A new file is three writes, the third of which is the superblock's, and a flush before it and behind it. Each row has
-// the call that fails and the generation of the image that is left.
-const ROWS: &[(Op, u64, usize)] = &[
-    (Op::Write, 1, 1),
-    (Op::Write, 2, 1),
-    (Op::Write, 3, 1),
-    (Op::Flush, 1, 1),
-    (Op::Flush, 2, 2),
-];
-
-#[test]
-fn a_failed_call_in_a_commit_leaves_an_accepted_image(rt: HostRuntime) -> Result<(), Fail> {
-    let alloc = rt.alloc();
-    let base = base_image(alloc)?;
-    let base = base.as_slice();
-    let trace = trace_of(alloc, base, &[Step::Commit(&[Change::NewFile]), Step::End])?;
-    for (op, nth, generation) in ROWS.iter().copied() {
-        for keep in [0, 2048] {
-            let run = replay_over(alloc, base, &trace, DiskFail { op, nth, keep })?;
-            assert!(rt; run.status == 4 && run.out.bytes() == ACCEPTED.as_bytes());
-            assert!(rt; run.disk.faults() == 1);
-            assert!(rt;
-                is_accepted(alloc, run.disk.bytes(), generation)?,
-                "{nth} {keep}"
-            );
-        }
-    }
-    Ok(())
-}
-
 // How many lines a run's output has, and how many of them are passed commits with no hot block.
 fn lines_of(out: &[u8]) -> (usize, usize) {
     let mut lines = 0usize;
@@ -95,12 +64,12 @@ fn lines_of(out: &[u8]) -> (usize, usize) {
     (lines, cold)
 }
 
-// Whether each run of a workload with a call of this kind failing, in turn, ends with 4 and leaves an accepted image: that
+// Whether each run of so many commits with a call of this kind failing, in turn, ends with 4 and leaves an accepted image: that
 // of the last commit with a line, or the next one where the call was its last flush. At the end none fails. The answer has how many
 // calls failed.
 fn all_leave_accepted(
     alloc: Global,
-    (image, trace): (&[u8], &[u8]),
+    (image, trace, commits): (&[u8], &[u8], usize),
     op: Op,
     keep: u32,
 ) -> Result<Option<u64>, Fail> {
@@ -108,19 +77,37 @@ fn all_leave_accepted(
         let run = replay_over(alloc, image, trace, DiskFail { op, nth, keep })?;
         let (lines, cold) = lines_of(run.out.bytes());
         if run.status == 0 {
-            return Ok(if cold == 20 {
+            return Ok(if cold == commits {
                 Some(nth.saturating_sub(1))
             } else {
                 None
             });
         }
         let last = usize::from(op == Op::Flush && nth % 2 == 0);
-        let is_one = run.status == 4 && lines == cold.saturating_add(1);
-        if !is_one || !is_accepted(alloc, run.disk.bytes(), lines.saturating_add(last))? {
+        // A start that fails has no line, and leaves the image as it was.
+        let is_one = run.status == 4 && (lines == 0 || lines == cold.saturating_add(1));
+        let generation = lines.max(1).saturating_add(last);
+        let is_left = is_accepted(alloc, run.disk.bytes(), generation)?;
+        if !is_one || run.disk.faults() != 1 || !is_left {
             return Ok(None);
         }
     }
     Ok(None)
+}
+
+// A new file is three writes, the third of which is the superblock's, and a flush before it and behind it.
+#[test]
+fn a_failed_call_in_a_commit_leaves_an_accepted_image(rt: HostRuntime) -> Result<(), Fail> {
+    let alloc = rt.alloc();
+    let base = base_image(alloc)?;
+    let trace = new_file_trace(alloc)?;
+    let over = (base.as_slice(), trace.as_slice(), 1);
+    assert_eq!(rt; all_leave_accepted(alloc, over, Op::Write, 0)?, Some(3));
+    assert_eq!(rt; all_leave_accepted(alloc, over, Op::Write, 2048)?, Some(3));
+    assert_eq!(rt; all_leave_accepted(alloc, over, Op::Flush, 0)?, Some(2));
+    assert!(rt; all_leave_accepted(alloc, over, Op::Length, 0)? > Some(0));
+    assert!(rt; all_leave_accepted(alloc, over, Op::Read, 0)? > Some(6));
+    Ok(())
 }
 
 #[test]
@@ -129,7 +116,7 @@ fn a_failed_call_in_a_workload_leaves_an_accepted_image(rt: HostRuntime) -> Resu
     let base = base_image(alloc)?;
     let mut trace = MemSink::new(alloc, REPLACED, Vec::new(alloc))?;
     make_trace(alloc, 7, 20, &mut trace)?;
-    let over = (base.as_slice(), trace.bytes());
+    let over = (base.as_slice(), trace.bytes(), 20);
     assert_eq!(rt; all_leave_accepted(alloc, over, Op::Flush, 0)?, Some(40));
     let none = all_leave_accepted(alloc, over, Op::Write, 0)?;
     assert!(rt; none > Some(60));

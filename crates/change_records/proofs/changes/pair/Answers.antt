@@ -2,7 +2,7 @@ use Rattle.std.proofs.Common.{◌≡◌, ◌+◌, ◌<◌, length, sym, subst, a
 use Rattle.std.specs.Prelude.{slice_get, None, Some}
 use Rattle.std.proofs.lemmas.Option.{slice_get_within, get_or_from_slice_get}
 use Rattle.std.proofs.lemmas.Bool.{both_ways}
-use Rattle.records.specs.Owned.{owned_part}
+use Rattle.records.specs.Part.{owned_part}
 use Rattle.change_records.specs.Next.{IsNext}
 use Rattle.change_records.proofs.Merge.{IsMerged, merged_all, merged_altered, merged_new, merged_old, merged_same}
 use Rattle.change_records.proofs.changes.pair.Goals as goal

@@ -3,8 +3,8 @@ use Rattle.std.specs.Prelude.{Option}
 use Rattle.std.proofs.lemmas.Result.{err_from_is_err_and}
 use Rattle.verdict.specs.declared.finding.Finding.{Finding}
 use Rattle.plain_check.specs.Opened.{known}
-use Rattle.commit_judge.proofs.CLooks.{looks_told}
-use Rattle.commit_judge.proofs.CReady.{IsFoundIn, found_told, halted_memory, halted_open, halted_tables, kept_both, ready_told}
+use Rattle.commit_judge.proofs.starts.Looks.{looks_told}
+use Rattle.commit_judge.proofs.starts.Ready.{IsFoundIn, found_told, halted_memory, halted_open, halted_tables, kept_both, ready_told}
 use Rattle.commit_judge.proofs.build.index_of.Goals as goal
 
 pub returns-in_err-volume-clause-told : goal.returns-in_err-volume-clause-told

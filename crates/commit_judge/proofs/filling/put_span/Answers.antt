@@ -1,5 +1,5 @@
 use Rattle.std.proofs.Common.{sym, ◌∙◌}
-use Rattle.commit_judge.proofs.CFilling.{none_counted, span_counted}
+use Rattle.commit_judge.proofs.starts.Filling.{none_counted, span_counted}
 use Rattle.commit_judge.proofs.filling.put_span.Goals as goal
 
 pub returns-in-Some-clause-looks : goal.returns-in-Some-clause-looks

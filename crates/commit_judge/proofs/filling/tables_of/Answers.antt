@@ -2,7 +2,7 @@ use Rattle.std.proofs.lemmas.Result.{err_from_is_err_and}
 use Rattle.live_maker.specs.Opened.{held_in}
 use Rattle.plain_check.specs.Opened.{known}
 use Rattle.commit_judge.specs.Filling.{filled_in}
-use Rattle.commit_judge.proofs.CTables.{few_told, halted_reading, left_as, read_told, tables_told}
+use Rattle.commit_judge.proofs.starts.Tables.{few_told, halted_reading, left_as, read_told, tables_told}
 use Rattle.commit_judge.proofs.filling.tables_of.Goals as goal
 
 pub returns-in_err-read_all-clause-gives : goal.returns-in_err-read_all-clause-gives

@@ -1,4 +1,4 @@
-use Rattle.commit_judge.proofs.EFresh.{fresh_bytes, fresh_super}
+use Rattle.commit_judge.proofs.plans.Fresh.{fresh_bytes, fresh_super}
 use Rattle.commit_judge.proofs.fresh.fresh_of.Goals as goal
 
 pub returns-in-Ok : goal.returns-in-Ok

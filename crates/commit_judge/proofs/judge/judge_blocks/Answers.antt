@@ -1,7 +1,7 @@
 use Rattle.commit_judge.specs.Index.{IndexStands, known}
 use Rattle.commit_judge.specs.Judged.{IsJudgement}
 use Rattle.commit_judge.specs.Plan.{IsPlanOf}
-use Rattle.commit_judge.proofs.JJudge.{looks_of, said_of}
+use Rattle.commit_judge.proofs.judgements.Judge.{looks_of, said_of}
 use Rattle.commit_judge.proofs.judge.judge_blocks.Goals as goal
 
 pub returns-clause-told : goal.returns-clause-told

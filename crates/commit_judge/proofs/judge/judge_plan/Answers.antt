@@ -9,7 +9,7 @@ use Rattle.commit_laws.specs.Commit.{IsKnown}
 use Rattle.commit_judge.specs.Index.{known}
 use Rattle.commit_judge.specs.Judging.{next_of}
 use Rattle.commit_judge.specs.Plan.{commit_in}
-use Rattle.commit_judge.proofs.JJudge.{hot_on, reads_of, same_known}
+use Rattle.commit_judge.proofs.judgements.Judge.{hot_on, reads_of, same_known}
 use Rattle.commit_judge.proofs.judge.judge_plan.Goals as goal
 
 pub returns-in-Some-clause-judged : goal.returns-in-Some-clause-judged

@@ -1,6 +1,6 @@
 use Rattle.std.proofs.Common.{rules}
 use Rattle.commit_judge.specs.Judged.{MovesPlace}
-use Rattle.commit_judge.proofs.JJudge.{given, none_said, refused}
+use Rattle.commit_judge.proofs.judgements.Judge.{given, none_said, refused}
 use Rattle.commit_judge.proofs.judge.judge_within.Goals as goal
 
 pub returns-in-Err-clause-told : goal.returns-in-Err-clause-told

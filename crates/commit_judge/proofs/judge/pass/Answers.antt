@@ -1,7 +1,7 @@
 use Rattle.std.proofs.Common.{◌∙◌}
 use Rattle.commit_judge.specs.Index.{known}
 use Rattle.commit_judge.specs.Plan.{commit_in}
-use Rattle.commit_judge.proofs.JPassed.{pairs_moved, passed}
+use Rattle.commit_judge.proofs.judgements.Passed.{pairs_moved, passed}
 use Rattle.commit_judge.proofs.judge.pass.Goals as goal
 
 pub returns-clause-known : goal.returns-clause-known

@@ -1,5 +1,5 @@
 use Rattle.commit_judge.specs.Index.{IndexStands}
-use Rattle.commit_judge.proofs.JShort.{short}
+use Rattle.commit_judge.proofs.judgements.Short.{short}
 use Rattle.commit_judge.proofs.judge.plan_within.Goals as goal
 
 pub returns-then-end-clause-told : goal.returns-then-end-clause-told

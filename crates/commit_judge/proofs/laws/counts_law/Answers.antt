@@ -1,4 +1,4 @@
-use Rattle.commit_judge.proofs.JCounts.{counts}
+use Rattle.commit_judge.proofs.judgements.Counts.{counts}
 use Rattle.commit_judge.proofs.laws.counts_law.Goals as goal
 
 pub returns : goal.returns

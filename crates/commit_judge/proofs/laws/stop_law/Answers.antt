@@ -1,4 +1,4 @@
-use Rattle.commit_judge.proofs.JStops.{safe}
+use Rattle.commit_judge.proofs.judgements.Stops.{safe}
 use Rattle.commit_judge.proofs.laws.stop_law.Goals as goal
 
 pub returns : goal.returns

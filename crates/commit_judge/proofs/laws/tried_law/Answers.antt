@@ -1,4 +1,4 @@
-use Rattle.commit_judge.proofs.JTried.{tried}
+use Rattle.commit_judge.proofs.judgements.Tried.{tried}
 use Rattle.commit_judge.proofs.laws.tried_law.Goals as goal
 
 pub returns : goal.returns

@@ -1,4 +1,4 @@
-use Rattle.commit_judge.proofs.JWork.{work}
+use Rattle.commit_judge.proofs.judgements.Work.{work}
 use Rattle.commit_judge.proofs.laws.work_law.Goals as goal
 
 pub returns : goal.returns

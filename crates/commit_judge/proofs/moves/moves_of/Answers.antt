@@ -7,7 +7,7 @@ use Rattle.commit_laws.specs.Steps.{change_records, step_posts}
 use Rattle.commit_judge.specs.Index.{known}
 use Rattle.commit_judge.specs.Moves.{HaveNames, NameSpans, context_after}
 use Rattle.commit_judge.specs.Plan.{commit_in}
-use Rattle.commit_judge.proofs.JMoves.{counted_by, few_by, inside_by, only_by, posts_by, spans_by, spans_moved}
+use Rattle.commit_judge.proofs.judgements.Moves.{counted_by, few_by, inside_by, only_by, posts_by, spans_by, spans_moved}
 use Rattle.commit_judge.proofs.moves.moves_of.Goals as goal
 
 pub returns-clause-moves : goal.returns-clause-moves

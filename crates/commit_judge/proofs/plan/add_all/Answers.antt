@@ -1,4 +1,4 @@
-use Rattle.commit_judge.proofs.EPlan.{added_all, added_more}
+use Rattle.commit_judge.proofs.plans.Plan.{added_all, added_more}
 use Rattle.commit_judge.proofs.plan.add_all.Goals as goal
 
 pub loop-new-preserved : goal.loop-new-preserved

@@ -1,5 +1,5 @@
 use Rattle.std.proofs.Common.{◌∙◌}
-use Rattle.commit_judge.proofs.EPlan.{few_planned, planned, super_found, tree_found}
+use Rattle.commit_judge.proofs.plans.Plan.{few_planned, planned, super_found, tree_found}
 use Rattle.commit_judge.proofs.plan.plan_of.Goals as goal
 
 pub returns-in_err-fresh-clause-told : goal.returns-in_err-fresh-clause-told

@@ -1,5 +1,5 @@
 use Rattle.commit_judge.specs.Index.{known}
-use Rattle.commit_judge.proofs.EPlan.{affected_by}
+use Rattle.commit_judge.proofs.plans.Plan.{affected_by}
 use Rattle.commit_judge.proofs.plan.refs_in.Goals as goal
 
 pub returns-clause-value : goal.returns-clause-value

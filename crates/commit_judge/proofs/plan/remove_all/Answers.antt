@@ -1,4 +1,4 @@
-use Rattle.commit_judge.proofs.EPlan.{removed_all, removed_more}
+use Rattle.commit_judge.proofs.plans.Plan.{removed_all, removed_more}
 use Rattle.commit_judge.proofs.plan.remove_all.Goals as goal
 
 pub loop-old-preserved : goal.loop-old-preserved

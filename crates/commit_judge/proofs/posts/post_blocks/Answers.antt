@@ -1,7 +1,7 @@
 use Rattle.std.proofs.Common.{◌++◌, ap, sym, ◌∙◌}
 use Rattle.records.specs.Contents.{super_record}
 use Rattle.commit_laws.specs.Steps.{posts_of}
-use Rattle.commit_judge.proofs.APosts.{blocks_more, posts_one}
+use Rattle.commit_judge.proofs.starts.Posts.{blocks_more, posts_one}
 use Rattle.commit_judge.proofs.posts.post_blocks.Goals as goal
 
 pub loop-block-init : goal.loop-block-init

@@ -2,7 +2,7 @@ use Rattle.std.proofs.Common.{ap, ◌∙◌}
 use Rattle.std.proofs.lemmas.List.{take_all}
 use Rattle.commit_laws.specs.Paired.{came_items}
 use Rattle.commit_laws.specs.Steps.{all_posts, change_records}
-use Rattle.commit_judge.proofs.APosts.{came_more, came_none, step_is}
+use Rattle.commit_judge.proofs.starts.Posts.{came_more, came_none, step_is}
 use Rattle.commit_judge.proofs.posts.post_came.Goals as goal
 
 pub loop-change-init : goal.loop-change-init

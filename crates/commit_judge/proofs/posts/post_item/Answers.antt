@@ -1,7 +1,7 @@
 use Rattle.std.proofs.Common.{ap}
 use Rattle.std.specs.Option.{option_copied}
 use Rattle.records.specs.Part.{part_of}
-use Rattle.commit_judge.proofs.APosts.{item_none, item_some}
+use Rattle.commit_judge.proofs.starts.Posts.{item_none, item_some}
 use Rattle.commit_judge.proofs.posts.post_item.Goals as goal
 
 pub returns-in-Some : goal.returns-in-Some

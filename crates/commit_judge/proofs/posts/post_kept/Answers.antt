@@ -1,4 +1,4 @@
-use Rattle.commit_judge.proofs.APosts.{kept_more}
+use Rattle.commit_judge.proofs.starts.Posts.{kept_more}
 use Rattle.commit_judge.proofs.posts.post_kept.Goals as goal
 
 pub loop-at-preserved : goal.loop-at-preserved

@@ -1,5 +1,5 @@
 use Rattle.std.proofs.Common.{◌+◌, subst, sym}
-use Rattle.commit_judge.proofs.ERoots.{AreKept, kept_less, kept_more}
+use Rattle.commit_judge.proofs.plans.Roots.{AreKept, kept_less, kept_more}
 use Rattle.commit_judge.proofs.roots.ascending.Goals as goal
 use Rattle.commit_judge.proofs.roots.ascending.Goals.{then-stands_behind+in_ok-put, else-stands_behind}
 

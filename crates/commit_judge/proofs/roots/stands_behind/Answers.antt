@@ -1,5 +1,5 @@
 use Rattle.std.proofs.Common.{sym}
-use Rattle.commit_judge.proofs.ERoots.{behind_last, behind_none}
+use Rattle.commit_judge.proofs.plans.Roots.{behind_last, behind_none}
 use Rattle.commit_judge.proofs.roots.stands_behind.Goals as goal
 
 pub returns-in-Some : goal.returns-in-Some

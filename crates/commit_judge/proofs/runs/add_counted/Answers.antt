@@ -2,7 +2,7 @@ use Rattle.std.proofs.Common.{◌≡◌, ◌&&◌, ◌||◌, true, subst, take_a
 use Rattle.span_index.specs.Sectors.{counts, has_sector, is_inside}
 use Rattle.commit_laws.specs.Sectors.{CountedInside}
 use Rattle.commit_judge.specs.Moves.{any_counted}
-use Rattle.commit_judge.proofs.BRuns.{counted_more, few_more, only_more, runs_more, stay_more}
+use Rattle.commit_judge.proofs.span_tables.Runs.{counted_more, few_more, only_more, runs_more, stay_more}
 use Rattle.commit_judge.proofs.runs.add_counted.Goals as goal
 
 pub loop-span-preserved : goal.loop-span-preserved

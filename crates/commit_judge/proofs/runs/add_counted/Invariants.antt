@@ -4,7 +4,7 @@ use Rattle.span_index.specs.Sectors.{IsRun, has_sector}
 use Rattle.commit_laws.specs.Sectors.{CountedInside}
 use Rattle.commit_laws.specs.Sound.{IsWhole}
 use Rattle.commit_judge.specs.Moves.{any_counted}
-use Rattle.commit_judge.proofs.BRuns.{AddOnly, StayInside}
+use Rattle.commit_judge.proofs.span_tables.Runs.{AddOnly, StayInside}
 use Rattle.commit_judge.proofs.runs.add_counted.Given as goal
 
 -- the runs of the spans so far that count are added

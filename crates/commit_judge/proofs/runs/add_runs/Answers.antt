@@ -3,7 +3,7 @@ use Rattle.std.specs.List.{list_any}
 use Rattle.span_index.specs.Sectors.{has_sector, is_inside}
 use Rattle.span_index.specs.declared.span.Span.{Span}
 use Rattle.commit_laws.specs.Sectors.{AreInside}
-use Rattle.commit_judge.proofs.BRuns.{few_more, inside_more, only_more, runs_more, stay_more}
+use Rattle.commit_judge.proofs.span_tables.Runs.{few_more, inside_more, only_more, runs_more, stay_more}
 use Rattle.commit_judge.proofs.runs.add_runs.Goals as goal
 
 pub loop-span-preserved : goal.loop-span-preserved

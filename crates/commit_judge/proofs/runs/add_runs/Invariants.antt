@@ -4,7 +4,7 @@ use Rattle.span_index.specs.Sectors.{IsRun, has_sector}
 use Rattle.span_index.specs.declared.span.Span.{Span}
 use Rattle.commit_laws.specs.Sectors.{AreInside}
 use Rattle.commit_laws.specs.Sound.{IsWhole}
-use Rattle.commit_judge.proofs.BRuns.{AddOnly, StayInside}
+use Rattle.commit_judge.proofs.span_tables.Runs.{AddOnly, StayInside}
 use Rattle.commit_judge.proofs.runs.add_runs.Given as goal
 
 -- the runs of the spans so far are added

@@ -1,4 +1,4 @@
-use Rattle.commit_judge.proofs.BRuns.{merged_apart, merged_first, merged_joined}
+use Rattle.commit_judge.proofs.span_tables.Runs.{merged_apart, merged_first, merged_joined}
 use Rattle.commit_judge.proofs.runs.merged.Goals as goal
 
 pub loop-run-init : goal.loop-run-init

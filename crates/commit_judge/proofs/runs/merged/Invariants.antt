@@ -1,4 +1,4 @@
-use Rattle.commit_judge.proofs.BRuns.{AreMerged}
+use Rattle.commit_judge.proofs.span_tables.Runs.{AreMerged}
 use Rattle.commit_judge.proofs.runs.merged.Given as goal
 
 -- the runs so far are merged

@@ -2,7 +2,7 @@ use Rattle.std.proofs.Common.{length, subst, sym}
 use Rattle.std.specs.List.{All}
 use Rattle.std.proofs.lemmas.List.Sorted.{All-permutation}
 use Rattle.span_index.specs.Sectors.{IsRun}
-use Rattle.commit_judge.proofs.BRuns.{counted_stays, few_runs, merged_counted, merged_only, merged_spans}
+use Rattle.commit_judge.proofs.span_tables.Runs.{counted_stays, few_runs, merged_counted, merged_only, merged_spans}
 use Rattle.commit_judge.proofs.runs.runs_of.Goals as goal
 
 pub merged-requires-clause-runs : goal.merged-requires-clause-runs

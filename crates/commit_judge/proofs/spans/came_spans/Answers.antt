@@ -1,6 +1,6 @@
 use Rattle.std.specs.Prelude.{option_map}
 use Rattle.commit_laws.specs.Paired.{came_of}
-use Rattle.commit_judge.proofs.BItems.{came_done, spans_more}
+use Rattle.commit_judge.proofs.span_tables.Items.{came_done, spans_more}
 use Rattle.commit_judge.proofs.spans.came_spans.Goals as goal
 
 pub loop-change-preserved : goal.loop-change-preserved

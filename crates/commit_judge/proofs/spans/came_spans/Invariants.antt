@@ -1,5 +1,5 @@
 use Rattle.commit_laws.specs.Paired.{came_of}
-use Rattle.commit_judge.proofs.BItems.{AreSpansOf}
+use Rattle.commit_judge.proofs.span_tables.Items.{AreSpansOf}
 use Rattle.commit_judge.proofs.spans.came_spans.Given as goal
 
 -- the spans of the items that the changes so far name are found

@@ -1,8 +1,8 @@
 use Rattle.std.proofs.Common.{subst, sym, take_all, arith}
 use Rattle.std.specs.List.{Contains}
 use Rattle.span_index.specs.Table.{times_of}
-use Rattle.commit_judge.proofs.BFound.{found_more, named_more, stand_more}
-use Rattle.commit_judge.proofs.BRuns.{few_more}
+use Rattle.commit_judge.proofs.span_tables.Found.{found_more, named_more, stand_more}
+use Rattle.commit_judge.proofs.span_tables.Runs.{few_more}
 use Rattle.commit_judge.proofs.spans.found_spans.Goals as goal
 
 pub loop-at-preserved : goal.loop-at-preserved

@@ -1,6 +1,6 @@
 use Rattle.std.proofs.Common.{◌+◌, ◌≤◌, length, take}
 use Rattle.span_index.specs.Table.{times_of}
-use Rattle.commit_judge.proofs.BFound.{AllStand, AreFoundSpans, AreNamedSpans}
+use Rattle.commit_judge.proofs.span_tables.Found.{AllStand, AreFoundSpans, AreNamedSpans}
 use Rattle.commit_judge.proofs.spans.found_spans.Given as goal
 
 -- what the names so far name is found, with a look each, and all that is found stands

@@ -1,6 +1,6 @@
 use Rattle.std.specs.Prelude.{option_map}
 use Rattle.commit_laws.specs.Paired.{gone_of}
-use Rattle.commit_judge.proofs.BItems.{gone_done, spans_more}
+use Rattle.commit_judge.proofs.span_tables.Items.{gone_done, spans_more}
 use Rattle.commit_judge.proofs.spans.gone_spans.Goals as goal
 
 pub loop-change-preserved : goal.loop-change-preserved

@@ -1,6 +1,6 @@
 use Rattle.std.proofs.Common.{sym, ◌∙◌}
 use Rattle.span_index.specs.Table.{times_of}
-use Rattle.commit_judge.proofs.BFound.{owned_found, owned_parts}
+use Rattle.commit_judge.proofs.span_tables.Found.{owned_found, owned_parts}
 use Rattle.commit_judge.proofs.spans.owned_span.Goals as goal
 use Rattle.commit_judge.proofs.spans.owned_span.Goals.{else-span-first-via-then-span-first+else-span-sectors, else-span-first-via-else-span-first}
 

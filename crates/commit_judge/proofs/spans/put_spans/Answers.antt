@@ -1,6 +1,6 @@
 use Rattle.std.proofs.Common.{arith}
 use Rattle.span_index.specs.Table.{times_of}
-use Rattle.commit_judge.proofs.BTables.{put_more, put_none}
+use Rattle.commit_judge.proofs.span_tables.Tables.{put_more, put_none}
 use Rattle.commit_judge.proofs.spans.put_spans.Goals as goal
 
 pub loop-span-init : goal.loop-span-init

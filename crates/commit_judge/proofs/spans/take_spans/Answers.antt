@@ -1,6 +1,6 @@
 use Rattle.std.proofs.Common.{arith}
 use Rattle.span_index.specs.Table.{times_of}
-use Rattle.commit_judge.proofs.BTables.{take_more, take_none}
+use Rattle.commit_judge.proofs.span_tables.Tables.{take_more, take_none}
 use Rattle.commit_judge.proofs.spans.take_spans.Goals as goal
 
 pub loop-span-init : goal.loop-span-init

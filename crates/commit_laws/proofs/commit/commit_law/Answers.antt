@@ -1,4 +1,4 @@
-use Rattle.commit_laws.proofs.WCommit.{commit}
+use Rattle.commit_laws.proofs.whole_commits.Commit.{commit}
 use Rattle.commit_laws.proofs.commit.commit_law.Goals as goal
 
 pub returns : goal.returns

@@ -1,6 +1,6 @@
-use Rattle.commit_laws.proofs.GFlags.{flags_kept}
-use Rattle.commit_laws.proofs.PAll.{all_change}
-use Rattle.commit_laws.proofs.PPaired.{paired}
+use Rattle.commit_laws.proofs.next_index.Flags.{flags_kept}
+use Rattle.commit_laws.proofs.named_items.All.{all_change}
+use Rattle.commit_laws.proofs.named_items.Paired.{paired}
 use Rattle.commit_laws.proofs.Records.{hold_same}
 use Rattle.commit_laws.proofs.flags.flags_law.Goals as goal
 

@@ -1,4 +1,4 @@
-use Rattle.commit_laws.proofs.GHot.{hot}
+use Rattle.commit_laws.proofs.next_index.Hot.{hot}
 use Rattle.commit_laws.proofs.flags.hot_law.Goals as goal
 
 pub returns : goal.returns

@@ -1,6 +1,6 @@
 use Rattle.live_maker.specs.Tables.{with_pairs, without_pairs}
 use Rattle.commit_laws.specs.Tables.{TableMovedLaw}
-use Rattle.commit_laws.proofs.GTable.{table_moved}
+use Rattle.commit_laws.proofs.next_index.Table.{table_moved}
 use Rattle.commit_laws.proofs.flags.table_moved_law.Goals as goal
 
 moved : TableMovedLaw

@@ -1,4 +1,4 @@
-use Rattle.commit_laws.proofs.PPaired.{paired}
+use Rattle.commit_laws.proofs.named_items.Paired.{paired}
 use Rattle.commit_laws.proofs.paired.paired_law.Goals as goal
 
 pub returns : goal.returns

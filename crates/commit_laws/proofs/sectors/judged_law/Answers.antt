@@ -1,4 +1,4 @@
-use Rattle.commit_laws.proofs.EJudged.{judged}
+use Rattle.commit_laws.proofs.at_sectors.Judged.{judged}
 use Rattle.commit_laws.proofs.sectors.judged_law.Goals as goal
 
 pub returns : goal.returns

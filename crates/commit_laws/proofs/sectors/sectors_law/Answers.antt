@@ -1,4 +1,4 @@
-use Rattle.commit_laws.proofs.ESectors.{sectors}
+use Rattle.commit_laws.proofs.at_sectors.Posted.{sectors}
 use Rattle.commit_laws.proofs.sectors.sectors_law.Goals as goal
 
 pub returns : goal.returns

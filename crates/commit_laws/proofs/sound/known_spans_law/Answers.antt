@@ -1,4 +1,4 @@
-use Rattle.commit_laws.proofs.XWhole.{known_spans}
+use Rattle.commit_laws.proofs.sound_spans.Whole.{known_spans}
 use Rattle.commit_laws.proofs.sound.known_spans_law.Goals as goal
 
 pub returns : goal.returns

@@ -1,4 +1,4 @@
-use Rattle.commit_laws.proofs.XSound.{sound}
+use Rattle.commit_laws.proofs.sound_spans.Sound.{sound}
 use Rattle.commit_laws.proofs.sound.sound_law.Goals as goal
 
 pub returns : goal.returns

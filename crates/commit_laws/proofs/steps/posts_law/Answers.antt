@@ -1,4 +1,4 @@
-use Rattle.commit_laws.proofs.SSteps.{posts}
+use Rattle.commit_laws.proofs.steps_between.Steps.{posts}
 use Rattle.commit_laws.proofs.steps.posts_law.Goals as goal
 
 pub returns : goal.returns

@@ -1,4 +1,4 @@
-use Rattle.commit_laws.proofs.VStops.{stopped}
+use Rattle.commit_laws.proofs.other_images.Stops.{stopped}
 use Rattle.commit_laws.proofs.stops.stop_law.Goals as goal
 
 pub returns : goal.returns

@@ -1,4 +1,5 @@
-use Rattle.extent_items.proofs.Behind.{extent_kept, all_behind}
+use Rattle.verdict.proofs.Lists.{all_behind}
+use Rattle.extent_items.proofs.Behind.{extent_kept}
 use Rattle.extent_items.proofs.extent.read_extent.Goals as goal
 
 pub returns : goal.returns

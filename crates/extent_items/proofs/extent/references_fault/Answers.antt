@@ -1,6 +1,7 @@
 use Rattle.std.proofs.Common.{◌+◌, ◌∙◌, refl, arith}
 use Rattle.std.proofs.lemmas.Grind.{common_steps}
-use Rattle.extent_items.proofs.Behind.{rows_found, rows_kept, all_behind}
+use Rattle.verdict.proofs.Lists.{all_behind}
+use Rattle.extent_items.proofs.Behind.{rows_found, rows_kept}
 use Rattle.extent_items.proofs.extent.references_fault.Goals as goal
 
 pub returns-in-Some : goal.returns-in-Some

@@ -1,12 +1,4 @@
-use Rattle.std.proofs.Common.{rules}
-use Rattle.accounts.proofs.Behind.{posts_cut, posts_more}
 use Rattle.extent_rules.proofs.rows.post_reference.Goals as goal
 
-pub returns-in_err-put : goal.returns-in_err-put
-returns-in_err-put g c =
-    posts_cut g.met.P.Poster.passes _ (rw c.from-count.ensures at (rw c.extent.ensures at (rw c.to.ensures at c.put.ensures))) (search rules) c.from_residual.ensures.0
-
 pub returns : goal.returns
-returns g c =
-    posts_more g.met.P.Poster.passes (rw c.from-count.ensures at (rw c.extent.ensures at (rw c.to.ensures at c.put.ensures))) (search rules)
-    (rw c.from-count.ensures at (rw c.reference_account-account.ensures at (rw c.to-2.ensures at c.put-2.ensures)))
+returns g c = rw (← c.user_of-user.ensures c.args.address) (rw c.from.ensures at c.put_reference.ensures)

@@ -2,14 +2,10 @@ use Rattle.std.proofs.Common.{rules}
 use Rattle.accounts.proofs.Behind.{posts_cut, posts_more}
 use Rattle.inode_rules.proofs.rows.post_entry.Goals as goal
 
-pub returns-in_err-add : goal.returns-in_err-add
-returns-in_err-add g c =
-    posts_cut g.met.P.Poster.passes _ c.add.ensures (search rules) c.from_residual.ensures.0
-
-pub returns-in_err-add-2 : goal.returns-in_err-add-2
-returns-in_err-add-2 g c =
-    posts_more g.met.P.Poster.passes c.add.ensures (search rules) (posts_cut g.met.P.Poster.passes _ c.add-2.ensures (search rules) c.from_residual-in_err-add-2.ensures.0)
+pub returns-in_err-post_own_entry : goal.returns-in_err-post_own_entry
+returns-in_err-post_own_entry g c =
+    posts_cut g.met.P.Poster.passes _ c.post_own_entry.ensures (search rules) c.from_residual.ensures.0
 
 pub returns : goal.returns
 returns g c =
-    posts_more g.met.P.Poster.passes c.add.ensures (search rules) (posts_more g.met.P.Poster.passes c.add-2.ensures (search rules) c.post_target.ensures)
+    posts_more g.met.P.Poster.passes c.post_own_entry.ensures (search rules) c.post_target.ensures

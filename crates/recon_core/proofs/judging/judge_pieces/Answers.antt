@@ -1,6 +1,6 @@
 use Rattle.std.proofs.Common.{◌≡◌, IfSome, Some, ◌∙◌, rules, subst}
 use Rattle.std.specs.Option.{IsSomeAnd}
-use Rattle.recon_disk.proofs.Sending.{if_err}
+use Rattle.verdict.proofs.Answers.{on_err as if_err}
 use Rattle.write_cache.specs.Cache.{overlaid}
 use Rattle.recon_core.specs.Order.{HasSentOut}
 use Rattle.commit_judge.specs.Index.{IndexStands}

@@ -1,8 +1,9 @@
 use Rattle.std.proofs.Common.{◌≡◌, ◌≤◌, inl, inr, IfSome, IsSomeAnd, option_map, length, refl, sym, ap, ◌∙◌, arith, subst}
 use Rattle.verdict.specs.Image.{written}
 use Rattle.std.proofs.lemmas.Result.{on_err_weaker, on_ok_weaker}
+use Rattle.verdict.proofs.Answers.{on_err as if_err}
 use Rattle.recon_disk.specs.Outside.{HasCause, counted}
-use Rattle.recon_disk.proofs.Sending.{if_err, if_ok}
+use Rattle.recon_disk.proofs.Sending.{if_ok}
 use Rattle.recon_core.specs.Sent.{IsAllOrPart, IsPlaceOf}
 use Rattle.recon_core.proofs.Told.{left_all, left_but_place, left_part, made_too, none_at, place_fails, stops_through, told_commit, told_settled}
 use Rattle.recon_core.proofs.Ordered.{settled_out, committed_out, flush_fails, last_flush_fails, out_in_part, place_write_fails}

@@ -1,10 +1,11 @@
 use Rattle.std.proofs.Common.{◌≡◌, ◌+◌, ◌-◌, min, length, take, drop, ◌∙◌, arith, ap, subst}
 use Rattle.std.proofs.lemmas.List.{length-drop, length-take-le, take_rest}
 use Rattle.std.proofs.lemmas.Result.{on_err_weaker, on_ok_weaker}
+use Rattle.verdict.proofs.Answers.{on_err as if_err}
 use Rattle.recon_disk.specs.Outside.{HasCause}
 use Rattle.recon_core.specs.Sent.{IsOutIn, StaysButForPiece, sent_piece}
 use Rattle.recon_core.proofs.Told.{front_fails, piece_sent, rest_fails}
-use Rattle.recon_disk.proofs.Sending.{if_err, sends_err}
+use Rattle.recon_disk.proofs.Sending.{sends_err}
 use Rattle.recon_core.proofs.Ordered.{front_in_part, piece_out, rest_in_part}
 use Rattle.recon_disk.specs.Stops.{LiesIn}
 use Rattle.recon_disk.proofs.Stopping.{written_then, written_wider}

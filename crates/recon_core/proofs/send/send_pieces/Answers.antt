@@ -1,11 +1,12 @@
 use Rattle.std.proofs.Common.{◌+◌, ◌≤◌, length, refl, sym, ◌∙◌, arith, subst}
+use Rattle.verdict.proofs.Answers.{on_err as if_err}
 use Rattle.recon_disk.specs.Outside.{counted}
 use Rattle.write_cache.specs.Cache.{overlaid}
 use Rattle.write_cache.specs.Lent.{piece_lent, pieces_left}
 use Rattle.recon_core.specs.Stops.{IsPartlySent}
 use Rattle.recon_core.specs.Sent.{IsOut, IsOutIn, with_place_of}
 use Rattle.recon_core.proofs.Told.{IsSending, begin_sending, more_sent, piece_fails, piece_inside, piece_waits, sent_whole}
-use Rattle.recon_disk.proofs.Sending.{if_err, sends_err}
+use Rattle.recon_disk.proofs.Sending.{sends_err}
 use Rattle.recon_core.proofs.Ordered.{RunsLeft, runs_in_part, runs_begin, runs_more, runs_end}
 use Rattle.recon_disk.proofs.Stopping.{written_none, written_then, written_wider}
 use Rattle.recon_core.proofs.Moments.{out_wider}

@@ -1,10 +1,11 @@
 use Rattle.std.proofs.Common.{◌≡◌, ◌+◌, ◌-◌, ◌≤◌, inl, inr, length, take, drop, refl, sym, ◌∙◌, arith, ap, subst}
 use Rattle.std.proofs.lemmas.List.{length-take-le, length-drop}
+use Rattle.verdict.proofs.Answers.{on_err as if_err}
 use Rattle.verdict.specs.Image.{written}
 use Rattle.recon_disk.specs.Outside.{counted}
 use Rattle.recon_disk.specs.Calls.{run_calls}
 use Rattle.recon_disk.specs.Sending.{StaysOutside}
-use Rattle.recon_disk.proofs.Sending.{if_err, told_none, told_more, run_fails, sends_err}
+use Rattle.recon_disk.proofs.Sending.{told_none, told_more, run_fails, sends_err}
 use Rattle.recon_disk.proofs.Sending.{part_sent, run_begins, run_more, run_ends}
 use Rattle.recon_disk.specs.Stops.{HasWritten, LiesIn}
 use Rattle.recon_disk.proofs.Stopping.{lies_in, some_of, written_none, written_one, size_of, written_same, written_then}

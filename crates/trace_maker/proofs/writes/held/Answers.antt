@@ -1,6 +1,7 @@
 use Rattle.std.proofs.Common.{arith}
+use Rattle.trace_reader.proofs.Filling.{are_bytes}
 use Rattle.trace_reader.specs.Trace.{IsBytes}
-use Rattle.trace_maker.proofs.Gathering.{are_bytes, if_made}
+use Rattle.trace_maker.proofs.Gathering.{if_made}
 use Rattle.trace_maker.proofs.writes.held.Goals as goal
 
 pub returns-clause-lawful : goal.returns-clause-lawful

@@ -1,5 +1,5 @@
 use Rattle.std.proofs.Common.{Bool, refl, rules}
-use Rattle.records.specs.declared.owned.ItemAt.{ItemAt}
+use Rattle.records.specs.declared.rec.ItemAt.{ItemAt}
 use Rattle.tree_change.specs.Change.{item_before}
 use Rattle.tree_change.specs.Gathered.{located_item}
 use Rattle.tree_change.proofs.Merges.{item_test, item_total, sorted_for, sorted_in, sorted_of}

@@ -2,9 +2,9 @@ use Rattle.std.proofs.Common.{ℕ, ◌==◌, ap, ◌∙◌}
 use Rattle.std.specs.BTreeSet.{contains}
 use Rattle.std.specs.Ordering.{nat_cmp}
 use Rattle.verdict.specs.declared.place.Chunk.{Chunk}
-use Rattle.records.specs.Owned.{owned_part}
+use Rattle.records.specs.Part.{owned_part}
 use Rattle.records.specs.Part.{Located}
-use Rattle.records.specs.declared.owned.ItemAt.{ItemAt}
+use Rattle.records.specs.declared.rec.ItemAt.{ItemAt}
 use Rattle.shared_trees.specs.MergedLaw.{chunk_in}
 use Rattle.tree_change.specs.Gathered.{located_item}
 use Rattle.tree_change.proofs.Merges.{has_more}

@@ -1,4 +1,5 @@
-use Rattle.volume_items.proofs.Rows.{row_at_stripes, row_kept, all_behind}
+use Rattle.verdict.proofs.Lists.{all_behind}
+use Rattle.volume_items.proofs.Rows.{row_at_stripes, row_kept}
 use Rattle.volume_items.proofs.chunk.read_chunk.Goals as goal
 
 pub returns-in-Some-stripes_fault-clause-row : goal.returns-in-Some-stripes_fault-clause-row

@@ -1,4 +1,5 @@
-use Rattle.change_records.proofs.MadeLaws.{altered, on_ok}
+use Rattle.verdict.proofs.Answers.{ok_follows as on_ok}
+use Rattle.change_records.proofs.MadeLaws.{altered}
 use Rattle.change_records.proofs.kept.Made.apply.Goals as goal
 
 pub returns-in_ok-take-in-Altered : goal.returns-in_ok-take-in-Altered

@@ -3,10 +3,10 @@ use Rattle.change_records.specs.Made.{flag_by, has_name}
 use Rattle.change_records.proofs.MadeLaws.{name_put}
 use Rattle.change_records.proofs.kept.Made.name.Goals as goal
 
-pub returns-in-Ok-clause-names : goal.returns-in-Ok-clause-names
+pub returns-clause-names : goal.returns-clause-names
 unfolding has_name
-returns-in-Ok-clause-names c at = name_put _ _ _ at c.in-Ok.ensures.updates
+returns-clause-names c at = name_put _ _ _ at c.in_ok-insert.ensures.updates
 
-pub returns-in-Ok-clause-flags : goal.returns-in-Ok-clause-flags
+pub returns-clause-flags : goal.returns-clause-flags
 unfolding flag_by
-returns-in-Ok-clause-flags c t i f = refl
+returns-clause-flags c t i f = refl

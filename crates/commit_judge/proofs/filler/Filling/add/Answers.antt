@@ -6,7 +6,7 @@ use Rattle.span_index.specs.Table.{times_of}
 use Rattle.touched_accounts.specs.Looks.{HaveLooks}
 use Rattle.commit_judge.specs.Filling.{filled_in}
 use Rattle.commit_judge.specs.Flags.{free_in}
-use Rattle.commit_judge.proofs.CFilling.{looks_later, one_filled}
+use Rattle.commit_judge.proofs.starts.Filling.{looks_later, one_filled}
 use Rattle.commit_judge.proofs.filler.Filling.add.Goals as goal
 
 pub returns : goal.returns

@@ -1,6 +1,6 @@
 use Rattle.ledger_index.specs.Ledger.{sums_of}
 use Rattle.span_index.specs.Table.{times_of}
-use Rattle.commit_judge.proofs.CFilling.{none_filled}
+use Rattle.commit_judge.proofs.starts.Filling.{none_filled}
 use Rattle.commit_judge.proofs.filler.Filling.new.Goals as goal
 
 pub returns : goal.returns

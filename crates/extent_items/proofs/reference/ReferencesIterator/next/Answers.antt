@@ -1,6 +1,7 @@
 use Rattle.std.proofs.Common.{◌-◌, ◌<◌, length, take, drop}
+use Rattle.verdict.proofs.Lists.{all_behind}
 use Rattle.extent_items.specs.References.{references_of}
-use Rattle.extent_items.proofs.Behind.{references_next, references_fewer, all_behind}
+use Rattle.extent_items.proofs.Behind.{references_next, references_fewer}
 use Rattle.extent_items.proofs.reference.ReferencesIterator.next.Goals as goal
 
 pub returns-clause-steps : goal.returns-clause-steps

@@ -1,12 +1,13 @@
 use Rattle.std.proofs.Common.{◌≡◌, false, length, reverse, sym, ap, ◌∙◌, arith, [], ◌∷◌, ◌++◌}
 use Rattle.verdict.specs.Image.{range}
 use Rattle.std.proofs.lemmas.Grind.{common_steps}
+use Rattle.verdict.proofs.Answers.{on_err as if_err}
 use Rattle.recon_disk.specs.declared.stop.Record.TheVariants.{Wrote, Missed}
 use Rattle.recon_disk.specs.Outside.{IsPartlyWritten}
 use Rattle.recon_disk.specs.Memory.{bytes_in}
 use Rattle.recon_disk.specs.Stops.{unflushed, with_write}
 use Rattle.recon_disk.specs.Stopping.{moments_from, moments_of, is_full}
-use Rattle.recon_disk.proofs.Sending.{if_ok, if_err}
+use Rattle.recon_disk.proofs.Sending.{if_ok}
 use Rattle.recon_disk.proofs.Undoing.{partly_both, nothing_changed, moments_wrote, moments_missed, part_range, taken, cut_back, where_room}
 use Rattle.recon_disk.proofs.stop.StopDiskDisk.write.Goals as goal
 

@@ -1,6 +1,7 @@
+use Rattle.verdict.proofs.Answers.{ok_follows as on_ok}
 use Rattle.live_index.specs.Table.{pairs_of}
 use Rattle.shared_trees.specs.Under.{under_of}
-use Rattle.shared_trees.proofs.Listed.{add_some, on_ok}
+use Rattle.shared_trees.proofs.Listed.{add_some}
 use Rattle.shared_trees.proofs.starts.Starts.add.Goals as goal
 
 pub returns-in-Some-clause-ok : goal.returns-in-Some-clause-ok

@@ -1,6 +1,7 @@
 use Rattle.std.proofs.Common.{◌-◌, ◌<◌, length, take, drop}
+use Rattle.verdict.proofs.Lists.{all_behind}
 use Rattle.volume_items.specs.ChunkRow.{stripes_of}
-use Rattle.volume_items.proofs.Rows.{stripes_step, all_behind, stripes_fewer}
+use Rattle.volume_items.proofs.Rows.{stripes_step, stripes_fewer}
 use Rattle.volume_items.proofs.chunk.StripesIterator.next.Goals as goal
 
 pub returns-clause-steps : goal.returns-clause-steps

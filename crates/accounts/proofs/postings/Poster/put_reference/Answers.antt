@@ -1,0 +1,12 @@
+use Rattle.std.proofs.Common.{rules}
+use Rattle.accounts.proofs.Behind.{posts_cut, posts_more}
+use Rattle.accounts.proofs.postings.Poster.put_reference.Goals as goal
+
+pub returns-in_err-put : goal.returns-in_err-put
+returns-in_err-put g c =
+    posts_cut g.met.Self.Poster.passes _ (rw c.extent.ensures at (rw c.to.ensures at c.put.ensures)) (search rules) c.from_residual.ensures.0
+
+pub returns : goal.returns
+returns g c =
+    posts_more g.met.Self.Poster.passes (rw c.extent.ensures at (rw c.to.ensures at c.put.ensures)) (search rules)
+    (rw c.account-account.ensures at (rw c.to-2.ensures at c.put-2.ensures))

@@ -1,0 +1,66 @@
+-- A shared pair is not hot, so that all hot ones are among the pairs that are not shared.
+use Rattle.std.proofs.Common.{◌≡◌, ℕ, ◌==◌, Bool, true, false, not, ◌&&◌, ◌||◌, List, [], ◌∷◌, length, cond, refl, ap, sym, subst, ◌∙◌}
+use Rattle.std.proofs.lemmas.Bool.{and_parts, eqb-true, or_parts}
+use Rattle.std.proofs.lemmas.List.Sorted.{sum_by-IsPermutation}
+use Rattle.std.proofs.lemmas.List.Sums.{length-filter}
+use Rattle.std.specs.List.{filter, list_any}
+use Rattle.commit_laws.proofs.Alike.{shared_is}
+use Rattle.verdict.specs.OnDisk.{key_same}
+use Rattle.live_index.specs.declared.live.Live.{Live}
+use Rattle.records.specs.Seen.{Seen}
+use Rattle.records.specs.Seen.Seen.{BlockSeen, ItemSeen, PointerSeen}
+use Rattle.shared_trees.specs.LivePairs.{Walked, live_in, live_of, records_in}
+use Rattle.shared_trees.specs.Shared.{are_alike, are_read_alike, at_or_below, is_block_where, is_shared, is_shared_by, stands_untouched, unshared_in}
+use Rattle.shared_trees.specs.SharedLaw.{touches_old}
+use Rattle.touched_blocks.specs.Touched.{Written, stays_in_place, touches_block}
+use Rattle.commit_laws.specs.Flags.{HotLaw, is_hot}
+
+-- alike pairs are of one tree and address
+pub alike_place : (a b : Live) → are_alike a b ≡ true → (a.tree ≡ b.tree) × (a.address ≡ b.address)
+alike_place a b is =
+    let place = and_parts (a.tree == b.tree && a.address == b.address)
+    (a.level == b.level && (a.generation == b.generation && key_same a.first b.first)) is in
+    let both = and_parts (a.tree == b.tree) (a.address == b.address) place.0 in
+    (eqb-true a.tree b.tree both.0, eqb-true a.address b.address both.1)
+
+-- what is known of a shared pair
+pub record IsShared (old new : Walked) (written : Written) (end : ℕ) (live : Live) : Type 0 where
+  pub alike : are_read_alike old.sup new.sup ≡ true
+  pub stays : stays_in_place old.chunks new.chunks old.sup.nodesize end live.address ≡ true
+  pub stands : stands_untouched (touches_old old written end) old.seen live ≡ true
+  pub there : list_any (are_alike live) (live_in new.seen) ≡ true
+  pub free : touches_block written old.chunks old.sup.nodesize end live.address ≡ false
+
+not_hot : (old new : Walked) (written : Written) (end : ℕ) (live : Live) → is_shared old new written end live ≡ true
+    → is_hot old new written end live ≡ false
+unfolding is_hot
+not_hot old new written end live is =
+    let s = shared_is old new written end live is in
+    by (touches_block written old.chunks old.sup.nodesize end live.address)
+    (stays_in_place old.chunks new.chunks old.sup.nodesize end live.address) s.free s.stays
+  where
+    by : (a b : Bool) → a ≡ false → b ≡ true → (a || not b) ≡ false
+    by true b x y = absurd (cc)
+    by false true x y = refl
+    by false false x y = absurd (cc)
+
+-- what passes a test, of those that do not pass one which none of these passes
+left_filter : {X : Type 0} (p q : X → Bool) → ((x : X) → q x ≡ true → p x ≡ false) → (xs : List X)
+    → filter p (filter (λ x. not (q x)) xs) ≡ filter p xs
+left_filter p q none [] = refl
+left_filter p q none (x ∷ xs) = by (q x) refl (left_filter p q none xs)
+  where
+    by : (b : Bool) → q x ≡ b → filter p (filter (λ x. not (q x)) xs) ≡ filter p xs
+        → filter p (filter (λ x. not (q x)) (x ∷ xs)) ≡ filter p (x ∷ xs)
+    by true is rest = rw (is, none x is) rest
+    by false is rest = rw is (ap (λ ys. cond (p x) (x ∷ ys) ys) rest)
+
+pub hot : HotLaw
+hot old new written end change is =
+    let p = is_hot old new written end in
+    let lives = live_in old.seen in
+    let left = unshared_in old new written end old in
+    sym (length-filter p lives)
+    ∙ (ap length (sym (left_filter p (is_shared old new written end) (not_hot old new written end) lives))
+    ∙ (length-filter p left
+    ∙ sym (sum_by-IsPermutation (λ live. cond (p live) 1 0) left change.old_blocks.items is.old_blocks)))

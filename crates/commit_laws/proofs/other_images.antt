@@ -1,0 +1,3 @@
+-- Images that keep what one holds.
+pub mod Frame
+pub mod Stops

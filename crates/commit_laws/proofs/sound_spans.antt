@@ -1,0 +1,4 @@
+-- What is sound in an accepted image, and stays so.
+pub mod Ascend
+pub mod Sound
+pub mod Whole
