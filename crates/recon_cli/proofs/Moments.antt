@@ -78,7 +78,7 @@ pub turn_adds : {L : Type 0} (checker : Checker L) (s : MachineState) (e : Event
     → TurnStopsIn s e old now
 turn_adds checker s e refusal None now is same stops safe = tt
 turn_adds checker s e (Some stop) (Some before) now is same stops safe = λ flushed.
-record { added = []; moments = same; stops = tt; safe = λ generation n passed. tt }
+    record { added = []; moments = same; stops = tt; safe = λ generation n passed. tt }
 turn_adds checker s e None (Some before) now is same stops safe = λ flushed.
     let leaves : LeavesAfter (IsStopImage s e) before now = stops is flushed in
     record {
