@@ -6,8 +6,8 @@ use Rattle.std.specs.FinMap.{FinMap}
 use Rattle.verdict.specs.declared.finding.Finding.{Finding}
 use Rattle.write_cache.specs.Cache.{overlaid}
 use Rattle.live_index.specs.declared.live.Live.{Live}
-use Rattle.shared_trees.specs.LivePairs.{Walked, live_in, walked}
-use Rattle.shared_trees.specs.Shared.{unshared}
+use Rattle.tree_laws.specs.LivePairs.{Walked, live_in, walked}
+use Rattle.tree_laws.specs.Shared.{unshared}
 use Rattle.touched_blocks.specs.Touched.{Written, stays_in_place, touches_block, written_in}
 
 -- a count over the walks of two images, none where one of them has a finding

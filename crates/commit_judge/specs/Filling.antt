@@ -24,7 +24,7 @@ use Rattle.records.specs.Context.{has_sum_free, sum_free_inode}
 use Rattle.records.specs.FullCheck.{full_check}
 use Rattle.records.specs.Part.{Located}
 use Rattle.records.specs.Seen.{Seen}
-use Rattle.shared_trees.specs.LivePairs.{live_in, table_of}
+use Rattle.tree_laws.specs.LivePairs.{live_in, table_of}
 use Rattle.span_index.specs.Sectors.{IsFirstBad, is_bad, times_of_span}
 use Rattle.span_index.specs.Spans.{Table, no_spans, with_span}
 use Rattle.span_index.specs.Table.{times_of}

@@ -2,7 +2,7 @@
 use Rattle.std.specs.Prelude.{◌≡◌, ℕ, ◌+◌, ◌*◌, ◌≤◌, List, length}
 use Rattle.verdict.specs.declared.finding.Verdict.TheVariants.{Accept, Found}
 use Rattle.records.specs.FullCheck.{full_check}
-use Rattle.shared_trees.specs.LivePairs.{Walked, live_in, walked}
+use Rattle.tree_laws.specs.LivePairs.{Walked, live_in, walked}
 use Rattle.std.specs.Prelude.{Ok}
 use Rattle.lookup_bounds.specs.Work.{starting_work}
 use Rattle.commit_judge.specs.Index.{IndexStands}

@@ -12,7 +12,7 @@ use Rattle.change_records.specs.Homes.{StandApart}
 use Rattle.change_records.specs.Looks.{AreHoused, HaveStops, most_looks, spans_of}
 use Rattle.change_records.specs.Spans.{AreItemsOf}
 use Rattle.change_records.specs.SumFree.{flags_after}
-use Rattle.shared_trees.specs.LivePairs.{Walked, walked}
+use Rattle.tree_laws.specs.LivePairs.{Walked, walked}
 use Rattle.tree_change.specs.FewLooks.{few_looks}
 use Rattle.tree_change.specs.LooksLaw.{entries_of}
 use Rattle.tree_change.specs.OneTree.{side_of}

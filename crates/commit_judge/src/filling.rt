@@ -15,7 +15,7 @@ ghost use Rattle.ledger_index.specs.Ledger.{entries_of, sums_of};
 ghost use Rattle.live_index.specs.Table.{pairs_of};
 ghost use Rattle.live_maker.specs.Opened.{finished, held_in};
 ghost use Rattle.records.specs.Context.{sum_free_inode};
-ghost use Rattle.shared_trees.specs.LivePairs.{table_of};
+ghost use Rattle.tree_laws.specs.LivePairs.{table_of};
 ghost use Rattle.span_index.specs.Table.{times_of};
 ghost use Rattle.touched_accounts.specs.Looks.{HaveLooks, counted_times};
 ghost use Rattle.account_tally.specs.Sums.{or_free};

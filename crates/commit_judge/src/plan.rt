@@ -3,7 +3,7 @@
 ghost use Rattle.std.specs.Prelude.{◌≡◌, [], ◌∷◌, ◌++◌, IfOk, IfSome, OnOk};
 ghost use Rattle.recon_disk.specs.Keeping.{Kept};
 ghost use Rattle.block_source.specs.Gives.{is_disk_halt};
-ghost use Rattle.shared_trees.specs.Shared.{are_read_alike};
+ghost use Rattle.tree_laws.specs.Shared.{are_read_alike};
 ghost use Rattle.super_reader.specs.declared.Super.{Super as ASuper};
 ghost use Rattle.change_records.specs.Changes.{Ascend};
 ghost use Rattle.commit_laws.specs.Commit.{AreTheAffected};

@@ -20,18 +20,18 @@ use Rattle.records.specs.Seen.{Seen}
 use Rattle.records.specs.Seen.Seen.{BlockSeen, ItemSeen, PointerSeen}
 use Rattle.records.specs.Walk.{entry_records, leaf_records, pointer_records}
 use Rattle.touched_blocks.specs.Touched.{Written, stays_in_place, touches_block, written_in}
-use Rattle.shared_trees.specs.LivePairs.{Walked, live_in, live_of, records_in}
-use Rattle.shared_trees.specs.MergedLaw.{items}
-use Rattle.shared_trees.specs.Shared.{are_alike, are_read_alike, at_or_below, is_block_where, is_shared, is_shared_by, stands_untouched}
-use Rattle.shared_trees.specs.Skips.{own_of}
-use Rattle.shared_trees.proofs.Accepted.{IsAs}
-use Rattle.shared_trees.proofs.Climbing.{copied, ok_same as ok_bytes}
-use Rattle.shared_trees.proofs.Images.{stored_alike}
-use Rattle.shared_trees.proofs.KeptImage.{nodesize_same}
-use Rattle.shared_trees.proofs.Lives.{ok_same}
-use Rattle.shared_trees.proofs.Merged.{read_of, entries_alike, pointers_alike}
-use Rattle.shared_trees.proofs.OldTells.{HasSame, has_same}
-use Rattle.shared_trees.proofs.Trails.{Visit}
+use Rattle.tree_laws.specs.LivePairs.{Walked, live_in, live_of, records_in}
+use Rattle.tree_laws.specs.MergedLaw.{items}
+use Rattle.tree_laws.specs.Shared.{are_alike, are_read_alike, at_or_below, is_block_where, is_shared, is_shared_by, stands_untouched}
+use Rattle.tree_laws.specs.Skips.{own_of}
+use Rattle.tree_laws.proofs.Accepted.{IsAs}
+use Rattle.tree_laws.proofs.Climbing.{copied, ok_same as ok_bytes}
+use Rattle.tree_laws.proofs.Images.{stored_alike}
+use Rattle.tree_laws.proofs.KeptImage.{nodesize_same}
+use Rattle.tree_laws.proofs.Lives.{ok_same}
+use Rattle.tree_laws.proofs.Merged.{read_of, entries_alike, pointers_alike}
+use Rattle.tree_laws.proofs.OldTells.{HasSame, has_same}
+use Rattle.tree_laws.proofs.Trails.{Visit}
 use Rattle.commit_laws.specs.Same.{live_record}
 use Rattle.commit_laws.proofs.Found.{Owns, items_at, pair_at, seen_at, stored_of}
 

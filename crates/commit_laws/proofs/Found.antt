@@ -19,19 +19,19 @@ use Rattle.records.specs.Seen.{Seen, accounted}
 use Rattle.records.specs.Seen.Seen.{BlockSeen, ItemSeen, PointerSeen}
 use Rattle.records.specs.Walk.{each, entry_records, just, leaf_record, leaf_records, pointer_records, walk_of}
 use Rattle.records.specs.WalkLaw.{visited}
-use Rattle.shared_trees.specs.Keeping.{live_at}
-use Rattle.shared_trees.specs.LivePairs.{Walked, live_in, walked}
-use Rattle.shared_trees.specs.MergedLaw.{items}
-use Rattle.shared_trees.specs.Skips.{own_of}
-use Rattle.shared_trees.specs.TableLaw.{AreApart, Tree, trees_in}
-use Rattle.shared_trees.specs.Unshared.{item_seen}
-use Rattle.shared_trees.proofs.Forest.{all_lives, lives_all, lives_of, then_ok, walks}
-use Rattle.shared_trees.proofs.KeptImage.{IsOfImage, of_image}
-use Rattle.shared_trees.proofs.Lives.{NoBlocks, entries_none}
-use Rattle.shared_trees.proofs.Merged.{read_of, walks_of}
-use Rattle.shared_trees.proofs.Trails.{Matches, Visit, all_own, all_own_append}
-use Rattle.shared_trees.proofs.Treed.{has_trees, steps_of, trees_walk}
-use Rattle.shared_trees.proofs.Within.{one_own}
+use Rattle.tree_laws.specs.Keeping.{live_at}
+use Rattle.tree_laws.specs.LivePairs.{Walked, live_in, walked}
+use Rattle.tree_laws.specs.MergedLaw.{items}
+use Rattle.tree_laws.specs.Skips.{own_of}
+use Rattle.tree_laws.specs.TableLaw.{AreApart, Tree, trees_in}
+use Rattle.tree_laws.specs.Unshared.{item_seen}
+use Rattle.tree_laws.proofs.Forest.{all_lives, lives_all, lives_of, then_ok, walks}
+use Rattle.tree_laws.proofs.KeptImage.{IsOfImage, of_image}
+use Rattle.tree_laws.proofs.Lives.{NoBlocks, entries_none}
+use Rattle.tree_laws.proofs.Merged.{read_of, walks_of}
+use Rattle.tree_laws.proofs.Trails.{Matches, Visit, all_own, all_own_append}
+use Rattle.tree_laws.proofs.Treed.{has_trees, steps_of, trees_walk}
+use Rattle.tree_laws.proofs.Within.{one_own}
 use Rattle.commit_laws.specs.Same.{live_record}
 
 -- these items stand in the block of a tree at an address

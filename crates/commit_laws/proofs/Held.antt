@@ -1,7 +1,7 @@
 -- What an image holds is what its walks come to.
 use Rattle.std.proofs.Common.{refl}
 use Rattle.records.specs.Contents.{Contents, contents}
-use Rattle.shared_trees.proofs.Treed.{steps_of}
+use Rattle.tree_laws.proofs.Treed.{steps_of}
 use Rattle.commit_laws.specs.Same.{HeldLaw, records_of}
 
 pub holds : HeldLaw

@@ -15,13 +15,13 @@ use Rattle.records.specs.Contents.{super_record}
 use Rattle.records.specs.Part.{Located}
 use Rattle.records.specs.Seen.{accounted}
 use Rattle.touched_blocks.specs.Touched.{written_in}
-use Rattle.shared_trees.specs.LivePairs.{Walked, live_in, walked}
-use Rattle.shared_trees.specs.MergedLaw.{items}
-use Rattle.shared_trees.specs.Shared.{are_alike, is_shared}
-use Rattle.shared_trees.specs.Unshared.{items_in}
-use Rattle.shared_trees.specs.SharedLaw.{stays_between, touches_old}
-use Rattle.shared_trees.proofs.OldTells.{shared_alike}
-use Rattle.shared_trees.proofs.Trails.{Visit}
+use Rattle.tree_laws.specs.LivePairs.{Walked, live_in, walked}
+use Rattle.tree_laws.specs.MergedLaw.{items}
+use Rattle.tree_laws.specs.Shared.{are_alike, is_shared}
+use Rattle.tree_laws.specs.Unshared.{items_in}
+use Rattle.tree_laws.specs.SharedLaw.{stays_between, touches_old}
+use Rattle.tree_laws.proofs.OldTells.{shared_alike}
+use Rattle.tree_laws.proofs.Trails.{Visit}
 use Rattle.tree_change.proofs.Apart.{either_pair, pairs_apart}
 use Rattle.tree_change.proofs.Split.{items_filter, stands_in}
 use Rattle.commit_laws.specs.Same.{HoldSame, RecordsLaw, live_record, records_at, records_of}

@@ -9,7 +9,7 @@ use Rattle.live_index.specs.declared.live.Live.{Live}
 use Rattle.records.specs.Part.{Located}
 use Rattle.tree_change.proofs.Apart.{either_pair}
 use Rattle.tree_change.proofs.Split.{stands_in}
-use Rattle.shared_trees.proofs.OldBlocks.{hits}
+use Rattle.tree_laws.proofs.OldBlocks.{hits}
 use Rattle.commit_laws.specs.Same.{live_record}
 use Rattle.commit_laws.proofs.Elements.{Among, Distinct}
 

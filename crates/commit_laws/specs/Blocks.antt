@@ -8,7 +8,7 @@ use Rattle.change_records.specs.declared.item_ref.ItemRef.{ItemRef}
 use Rattle.live_index.specs.Pairs.{Pairs}
 use Rattle.records.specs.FullCheck.{full_check}
 use Rattle.records.specs.Part.{Located}
-use Rattle.shared_trees.specs.LivePairs.{Walked, live_in, table_of, walked}
+use Rattle.tree_laws.specs.LivePairs.{Walked, live_in, table_of, walked}
 use Rattle.commit_laws.specs.Items.{items_of}
 
 -- an item has its tree and its key for its name, and no other name

@@ -22,7 +22,7 @@ use Rattle.live_maker.specs.Tables.{with_pairs, without_pairs}
 use Rattle.records.specs.Contents.{superblock_in}
 use Rattle.records.specs.FullCheck.{full_check}
 use Rattle.records.specs.Part.{Located}
-use Rattle.shared_trees.specs.Shared.{are_read_alike}
+use Rattle.tree_laws.specs.Shared.{are_read_alike}
 use Rattle.span_index.specs.Sectors.{IsFirstBad, is_bad, times_of_span}
 use Rattle.span_index.specs.Spans.{Table}
 use Rattle.span_index.specs.declared.span.Run.{Run}

@@ -8,8 +8,8 @@ use Rattle.change_records.specs.declared.changes.ItemChange.{ItemChange}
 use Rattle.live_index.specs.declared.live.Live.{Live}
 use Rattle.records.specs.Contents.{root_items_in}
 use Rattle.records.specs.Context.{has_sum_free}
-use Rattle.shared_trees.specs.LivePairs.{Walked, live_in, walked}
-use Rattle.shared_trees.specs.Shared.{are_read_alike}
+use Rattle.tree_laws.specs.LivePairs.{Walked, live_in, walked}
+use Rattle.tree_laws.specs.Shared.{are_read_alike}
 use Rattle.touched_blocks.specs.Touched.{Written, stays_in_place, touches_block, written_in}
 use Rattle.tree_change.specs.Change.{IsChange}
 use Rattle.tree_change.specs.Gathered.{located_item}

@@ -5,7 +5,7 @@ use Rattle.verdict.specs.Image.{range}
 use Rattle.verdict.specs.declared.place.Place.{Place}
 use Rattle.verdict.specs.declared.place.Place.TheVariants.{Nowhere, One, Two}
 use Rattle.records.specs.FullCheck.{full_check}
-use Rattle.shared_trees.specs.LivePairs.{walked}
+use Rattle.tree_laws.specs.LivePairs.{walked}
 use Rattle.commit_laws.specs.Commit.{IsKnown, Known}
 
 -- two images have the same n bytes from an offset on

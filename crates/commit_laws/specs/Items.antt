@@ -3,8 +3,8 @@ use Rattle.std.specs.Prelude.{◌≡◌, ℕ, List, Ok}
 use Rattle.std.specs.List.{All, AllPairs, filter_map}
 use Rattle.change_records.specs.Spans.{IsLawfulIn, StandApart}
 use Rattle.records.specs.Part.{FitsPlace, IsLawful, Located}
-use Rattle.shared_trees.specs.LivePairs.{Walked, walked}
-use Rattle.shared_trees.specs.Unshared.{item_seen}
+use Rattle.tree_laws.specs.LivePairs.{Walked, walked}
+use Rattle.tree_laws.specs.Unshared.{item_seen}
 
 -- the items among the records of an image, in the order of its walks
 abbrev pub items_of : Walked → List Located

@@ -11,9 +11,9 @@ use Rattle.records.specs.Contents.{Contents, contents, root_items_in, super_reco
 use Rattle.records.specs.Part.{Located}
 use Rattle.records.specs.Part.Part.{BlockPart}
 use Rattle.records.specs.Seen.{accounted}
-use Rattle.shared_trees.specs.LivePairs.{Walked, walked}
-use Rattle.shared_trees.specs.Shared.{unshared_in}
-use Rattle.shared_trees.specs.Unshared.{items_in}
+use Rattle.tree_laws.specs.LivePairs.{Walked, walked}
+use Rattle.tree_laws.specs.Shared.{unshared_in}
+use Rattle.tree_laws.specs.Unshared.{items_in}
 use Rattle.touched_blocks.specs.Touched.{written_in}
 
 -- Two lists of records have the same ones, but for those that are gone from the first and those that came in the second.

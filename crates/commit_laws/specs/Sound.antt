@@ -7,7 +7,7 @@ use Rattle.accounts.specs.declared.account.Account.{Account}
 use Rattle.change_records.specs.Search.{AreAlone, AreLawful}
 use Rattle.chunk_map.specs.Roots.{KeysAscend}
 use Rattle.records.specs.Contents.{root_items_in}
-use Rattle.shared_trees.specs.LivePairs.{Walked, walked}
+use Rattle.tree_laws.specs.LivePairs.{Walked, walked}
 use Rattle.span_index.specs.Sectors.{times_of_span}
 use Rattle.span_index.specs.Spans.{end_of}
 use Rattle.span_index.specs.declared.span.Span.{Span}

@@ -19,8 +19,8 @@ use Rattle.records.specs.InodePostings.{inode_postings}
 use Rattle.records.specs.Part.{Located}
 use Rattle.records.specs.Postings.{postings_of}
 use Rattle.records.specs.SpacePostings.{rest_postings}
-use Rattle.shared_trees.specs.LivePairs.{Walked, walked}
-use Rattle.shared_trees.specs.Shared.{are_read_alike}
+use Rattle.tree_laws.specs.LivePairs.{Walked, walked}
+use Rattle.tree_laws.specs.Shared.{are_read_alike}
 use Rattle.span_index.specs.declared.span.Span.{Span}
 use Rattle.super_reader.specs.declared.Super.{Super}
 use Rattle.touched_accounts.specs.Sums.{PostTheSame}

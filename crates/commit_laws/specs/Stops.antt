@@ -2,7 +2,7 @@
 use Rattle.std.specs.Prelude.{◌≡◌, ℕ, false, List, length, slice_index, Ok}
 use Rattle.verdict.specs.Image.{range}
 use Rattle.records.specs.FullCheck.{full_check}
-use Rattle.shared_trees.specs.LivePairs.{Walked, live_in, walked}
+use Rattle.tree_laws.specs.LivePairs.{Walked, live_in, walked}
 use Rattle.touched_blocks.specs.Touched.{Written}
 use Rattle.commit_laws.specs.Commit.{IsKnown, Known}
 use Rattle.commit_laws.specs.Flags.{hot_of}

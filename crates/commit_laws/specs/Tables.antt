@@ -4,7 +4,7 @@ use Rattle.std.specs.Ordering.{nat_cmp}
 use Rattle.std.specs.FinMap.{FinMap}
 use Rattle.live_index.specs.Pairs.{Pairs}
 use Rattle.live_maker.specs.Tables.{with_pairs, without_pairs}
-use Rattle.shared_trees.specs.LivePairs.{Walked, live_in, table_of, walked}
+use Rattle.tree_laws.specs.LivePairs.{Walked, live_in, table_of, walked}
 use Rattle.touched_blocks.specs.Touched.{written_in}
 use Rattle.tree_change.specs.Change.{IsChange}
 use Rattle.tree_change.specs.declared.change.Change.{Change}

@@ -2,10 +2,14 @@
 
 ghost use Rattle.std.specs.Prelude.{◌≡◌, ◌==◌, [], ◌∷◌, flat_map, if◌then◌else◌};
 ghost use Rattle.accounts.specs.Kinds as kinds;
+ghost use Rattle.accounts.specs.declared.sum.TheConstants.{LINK_ENTRIES, SUBVOLUME_ENTRIES};
 ghost use Rattle.fs_items.specs.Lent.{dir_in, entry_fields, inode_ref_in, name_fields};
 ghost use Rattle.records.specs.DirPostings.{dir_entry_postings, entry_posting, indexed_postings, is_root_name, link_postings, names_postings};
 ghost use Rattle.records.specs.Post.{to};
 
+use accounts::sum::{
+    ENTRIES_BY_HASH, ENTRIES_BY_INDEX, LINK_ENTRIES, LINK_NAMES, SUBVOLUME_ENTRIES,
+};
 use accounts::{Account, NameAccount, Poster, Posting};
 use fs_items::{DirEntry, DirItem, InodeRef, NameAt};
 use recon_crc::name_hash;
@@ -84,7 +88,7 @@ pub fn post_link<P: Poster>(
         index: name.index,
         name: name.name,
     };
-    into.put_name(alloc, &link, 1, 1)
+    into.put_name(alloc, &link, LINK_NAMES, 1)
 }
 
 // The entries of a directory.
@@ -117,13 +121,13 @@ pub fn post_entry<P: Poster>(
         (dir_entry_postings tree key (entry_fields entry.now)) }
 {
     if key.kind == DIR_ITEM {
-        post_name(alloc, tree, key.objectid, 0, entry, into)
+        post_name(alloc, tree, key.objectid, ENTRIES_BY_HASH, entry, into)
     } else {
         post_indexed(alloc, tree, key, entry, into)
     }
 }
 
-// The name of an entry of a directory, to the sum of those by their hash, 0, or by their index, 1.
+// The name of an entry of a directory, to the sum of those by their hash or by their index.
 fn post_name<P: Poster>(
     alloc: Global,
     tree: u64,
@@ -157,7 +161,7 @@ fn post_indexed<P: Poster>(
     ensures { P.Leaves into.old into.new result
         (indexed_postings tree key.objectid key.offset (entry_fields entry.now)) }
 {
-    post_name(alloc, tree, key.objectid, 1, entry, into)?;
+    post_name(alloc, tree, key.objectid, ENTRIES_BY_INDEX, entry, into)?;
     post_target(alloc, tree, key, entry, into)
 }
 
@@ -172,9 +176,10 @@ fn post_target<P: Poster>(
     ensures { let at = entry.now.location in let name = entry.now.name.now in
         P.Leaves into.old into.new result
         (if at.kind == INODE_ITEM then
-        to (kinds.link tree at.objectid key.objectid key.offset name) 0 1 ∷ []
+        to (kinds.link tree at.objectid key.objectid key.offset name) LINK_ENTRIES 1 ∷ []
         else (if at.kind == ROOT_ITEM then
-        to (kinds.subvolume_entry tree at.objectid key.objectid key.offset name) 1 1 ∷ []
+        to (kinds.subvolume_entry tree at.objectid key.objectid key.offset name)
+        SUBVOLUME_ENTRIES 1 ∷ []
         else [])) }
 {
     let (dir, index, target) = (key.objectid, key.offset, entry.location.objectid);
@@ -187,11 +192,11 @@ fn post_target<P: Poster>(
                 index,
                 name: entry.name,
             };
-            into.put_name(alloc, &link, 0, 1)
+            into.put_name(alloc, &link, LINK_ENTRIES, 1)
         }
         ROOT_ITEM => {
             let account = Account::subvolume_entry(alloc, tree, target, dir, index, entry.name)?;
-            add(account, 1, 1, into)
+            add(account, SUBVOLUME_ENTRIES, 1, into)
         }
         _ => Ok(()),
     }

@@ -2,11 +2,15 @@
 
 ghost use Rattle.std.specs.Prelude.{◌≡◌, [], ◌∷◌};
 ghost use Rattle.accounts.specs.Kinds as kinds;
+ghost use Rattle.accounts.specs.declared.sum.TheConstants.{FROM_PARENT, ROOT_REFS_FOUND, SUBVOLUME_REFS};
 ghost use Rattle.records.specs.DirPostings.{root_link_postings, root_postings};
 ghost use Rattle.records.specs.Post.{to};
 ghost use Rattle.volume_items.specs.RootLinkItems.{link_fields_in};
 
 use crate::entries::add;
+use accounts::sum::{
+    FROM_CHILD, FROM_PARENT, ROOT_REFS_FOUND, ROOT_REFS_SAID, SUBVOLUME_REFS,
+};
 use accounts::{Account, Poster};
 use std::alloc::Global;
 use verdict::kinds::ROOT_REF;
@@ -21,7 +25,7 @@ pub fn post_root<P: Poster>(alloc: Global, item: &RootItem, into: &mut P) -> Res
     if !is_free_id(id) {
         return Ok(());
     }
-    add(Account::subvolume(alloc, id), 0, u64::from(item.refs), into)
+    add(Account::subvolume(alloc, id), ROOT_REFS_SAID, u64::from(item.refs), into)
 }
 
 /// Posts the name of a subvolume, from one of its two sides: the key has the parent and then the child, or the
@@ -37,7 +41,7 @@ pub fn post_root_link<P: Poster>(
     if item.key.kind == ROOT_REF {
         post_root_ref(alloc, objectid, offset, item, into)
     } else {
-        post_pair(alloc, offset, objectid, 1, item, into)
+        post_pair(alloc, offset, objectid, FROM_CHILD, item, into)
     }
 }
 
@@ -51,12 +55,14 @@ fn post_root_ref<P: Poster>(
 ) -> Result<(), NoMemory>
     ensures { let link = item.now in
         P.Leaves into.old into.new result
-        (to (kinds.subvolume_entry parent child link.dirid link.sequence link.name.now) 0 1
-        ∷ to (kinds.subvolume_pair parent child link.dirid link.sequence link.name.now) 0 1
-        ∷ to (kinds.subvolume child) 1 1 ∷ []) }
+        (to (kinds.subvolume_entry parent child link.dirid link.sequence link.name.now)
+        SUBVOLUME_REFS 1
+        ∷ to (kinds.subvolume_pair parent child link.dirid link.sequence link.name.now)
+        FROM_PARENT 1
+        ∷ to (kinds.subvolume child) ROOT_REFS_FOUND 1 ∷ []) }
 {
     post_entry(alloc, parent, child, item, into)?;
-    post_pair(alloc, parent, child, 0, item, into)?;
+    post_pair(alloc, parent, child, FROM_PARENT, item, into)?;
     post_child(alloc, child, into)
 }
 
@@ -70,14 +76,15 @@ fn post_entry<P: Poster>(
 ) -> Result<(), NoMemory>
     ensures { let link = item.now in
         P.Leaves into.old into.new result
-        (to (kinds.subvolume_entry parent child link.dirid link.sequence link.name.now) 0 1 ∷ []) }
+        (to (kinds.subvolume_entry parent child link.dirid link.sequence link.name.now)
+        SUBVOLUME_REFS 1 ∷ []) }
 {
     let (dir, index) = (item.dirid, item.sequence);
     let account = Account::subvolume_entry(alloc, parent, child, dir, index, item.name)?;
-    add(account, 0, 1, into)
+    add(account, SUBVOLUME_REFS, 1, into)
 }
 
-// The name as both sides have it, to the sum of the parent, 0, or of the child, 1.
+// The name as both sides have it, to the sum of the parent or of the child.
 fn post_pair<P: Poster>(
     alloc: Global,
     parent: u64,
@@ -98,7 +105,7 @@ fn post_pair<P: Poster>(
 
 // A subvolume is named once more.
 fn post_child<P: Poster>(alloc: Global, child: u64, into: &mut P) -> Result<(), NoMemory>
-    ensures { P.Leaves into.old into.new result (to (kinds.subvolume child) 1 1 ∷ []) }
+    ensures { P.Leaves into.old into.new result (to (kinds.subvolume child) ROOT_REFS_FOUND 1 ∷ []) }
 {
-    add(Account::subvolume(alloc, child), 1, 1, into)
+    add(Account::subvolume(alloc, child), ROOT_REFS_FOUND, 1, into)
 }

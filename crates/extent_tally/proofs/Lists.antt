@@ -1,7 +1,7 @@
 -- Lists of classes that gain amounts, and what is left to take.
 use Rattle.std.proofs.Common.{◌≡◌, ℕ, ◌+◌, ◌-◌, ◌<◌, ◌≤◌, zero, suc, ◌==◌, ◌&&◌, Bool, List, [], ◌∷◌, ◌++◌, length, get_or, ap, sym, ◌∙◌, subst, arith}
 use Rattle.std.specs.List.{sum_by}
-use Rattle.std.specs.Prelude.{nat_lt, Result, Ok, Err, IfOk, OnOk}
+use Rattle.std.specs.Prelude.{nat_lt, Option, Some, None, Result, Ok, Err, IfOk, IfSome, OnOk}
 use Rattle.std.proofs.Math.ListN.{set}
 use Rattle.std.proofs.Math.Path.{fun_ext}
 use Rattle.std.proofs.lemmas.List.Sums.{sum_by-append, sum_by-cons, sum_by-set}
@@ -15,7 +15,7 @@ use Rattle.accounts.specs.Sums.{added, is_same, total_of}
 use Rattle.accounts.specs.Tally.{Sums, kept, no_sums}
 use Rattle.accounts.proofs.Apart.{adds_beside, adds_exactly, adds_listed, adds_nothing, adds_then, more_alike}
 use Rattle.accounts.proofs.Kept.{total_joined}
-use Rattle.records.specs.Post.{to}
+use Rattle.accounts.specs.Lent.{to}
 use Rattle.extent_tally.specs.declared.class.ExtentClass.{ExtentClass}
 use Rattle.extent_tally.specs.Gains.{IsMore, new_class}
 use Rattle.extent_tally.specs.Held.{class_sums, sums_of, user}
@@ -105,37 +105,14 @@ push_adds es key refs start class before after later is adds =
     (λ a n. (let j = sum_by-append (λ c. class_sums c a n) es (class ∷ []) in let e : sums_of (es ++ class ∷ []) a n ≡ class_sums class a n + sums_of es a n = omega (arith, j) in e))
     (adds_beside no_sums (class_sums class) (sums_of es) before after (item_head key refs ++ later) all)
 
--- ---- what is left to take
-
-pub record AddsLeft (start now : Sums) (before between left all : List Posting) : Type 0 where
-  pub alike : (a : Account) → kept a.kind (λ n. (now a n + total_of between a n) + total_of left a n) ≡ kept a.kind (λ n. (start a n + total_of before a n) + total_of all a n)
-
-pub left_all : (start : Sums) (before left all : List Posting) → left ≡ all → AddsLeft start start before before left all
-left_all start before left all is = record { alike = λ a. ap (λ l. kept a.kind (λ n. (start a n + total_of before a n) + total_of l a n)) is }
-
-pub left_rest : (start now next : Sums) (before between after left row rest all : List Posting) → AddsLeft start now before between left all → left ≡ row ++ rest
-    → AddsUp now next between after row → AddsLeft start next before after rest all
-left_rest start now next before between after left row rest all here is adds = record {
-  alike = λ a.
-      more_alike a.kind (λ n. next a n + total_of after a n) (λ n. (now a n + total_of between a n) + total_of row a n) (total_of rest a) (adds a)
-      ∙ ap (kept a.kind) (fun_ext (λ n. (let
-      j = ap (λ l. total_of l a n) is ∙ total_joined row rest a n in let
-      e : ((now a n + total_of between a n) + total_of row a n) + total_of rest a n ≡ (now a n + total_of between a n) + total_of left a n = omega (arith, j) in e)))
-      ∙ here.alike a;
-}
-
-pub left_none : (start now : Sums) (before after left all : List Posting) → AddsLeft start now before after left all → left ≡ [] → AddsUp start now before after all
-unfolding total_of
-left_none start now before after left all here is = λ a.
-    ap (kept a.kind) (fun_ext (λ n. (let
-    z = ap (λ l. total_of l a n) is in let
-    e : now a n + total_of after a n ≡ (now a n + total_of after a n) + total_of left a n = omega (arith, z) in e)))
-    ∙ here.alike a
-
 -- what follows from a fact of an answer
 pub if_ok : {T E : Type 0} {A B : T → Type 0} (r : Result T E) → IfOk r A → ((x : T) → A x → B x) → IfOk r B
 if_ok (Ok x) a gives = gives x a
 if_ok (Err e) a gives = tt
+
+pub if_some : {T : Type 0} {A B : T → Type 0} (r : Option T) → IfSome r A → ((x : T) → A x → B x) → IfSome r B
+if_some (Some x) a gives = gives x a
+if_some None a gives = tt
 
 pub on_ok : {T E A B : Type 0} (r : Result T E) → OnOk r A → (A → B) → OnOk r B
 on_ok (Ok x) a gives = gives a

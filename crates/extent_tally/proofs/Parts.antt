@@ -12,12 +12,10 @@ use Rattle.accounts.specs.Tally.{Sums, balances, extent_class, form_class, kept}
 use Rattle.accounts.proofs.Apart.{more_alike}
 use Rattle.accounts.proofs.Kept.{balanced_kept, total_joined}
 use Rattle.accounts.proofs.Same.{same_account}
-use Rattle.extent_items.specs.declared.reference.Reference.{Reference}
-use Rattle.records.specs.ExtentPostings.{reference_account}
-use Rattle.records.specs.Post.{to}
+use Rattle.accounts.specs.Lent.{to}
 use Rattle.extent_tally.specs.declared.class.ExtentClass.{ExtentClass}
 use Rattle.extent_tally.specs.Held.{class_sums, user, user_account}
-use Rattle.extent_tally.specs.Gains.{Gains, IsMore, IsOfUser, may_be, use_postings, with_user}
+use Rattle.extent_tally.specs.Gains.{Gains, IsMore, IsOfUser, use_postings, with_user}
 
 -- ---- postings to one account
 
@@ -350,16 +348,3 @@ gains_as old mid new root ino origin given is more = record {
     alike = λ a. more.sums.alike a ∙ ap (kept a.kind) (fun_ext (λ n. ap (λ k. k + total_of given a n) (is.same a n)));
   };
 }
-
--- ---- a reference to the user
-
-abbrev with_kind : Reference → ℕ → Reference
-with_kind r kind = record { kind = kind; root = r.root; objectid = r.objectid; offset = r.offset; parent = r.parent; count = r.count }
-
-user_case : (s : Bool) (address : ℕ) (r : Reference) → cond s (r.kind == 176) (r.kind == 178) ≡ true
-    → reference_account address r ≡ cond s (block_ref r.root address) (data_ref r.root address r.objectid r.offset)
-user_case true address r is = ap (λ k. reference_account address (with_kind r k)) (eqb-true r.kind 176 is)
-user_case false address r is = ap (λ k. reference_account address (with_kind r k)) (eqb-true r.kind 178 is)
-
-pub reference_user : (sort address : ℕ) (r : Reference) → may_be sort r.kind ≡ true → reference_account address r ≡ user sort address r.root r.objectid r.offset
-reference_user sort address r is = user_case (sort == 169) address r is

@@ -1,13 +1,13 @@
 -- These words serve private functions alone: a class with more amounts, and classes that keep their rules.
 use Rattle.std.specs.Prelude.{◌≡◌, ℕ, ◌+◌, ◌<◌, Bool, ◌==◌, List, [], ◌∷◌, if◌then◌else◌}
 use Rattle.verdict.specs.declared.key.Key.{Key}
-use Rattle.verdict.specs.declared.kinds.TheConstants.{EXTENT_DATA_REF, METADATA_ITEM, TREE_BLOCK_REF}
 use Rattle.accounts.specs.declared.account.Account.{Account}
 use Rattle.accounts.specs.declared.postings.Posting.{Posting}
 use Rattle.accounts.specs.Kinds.{extent_form}
+use Rattle.accounts.specs.declared.sum.TheConstants.{USES, FORM_USES}
 use Rattle.accounts.specs.Sums.{total_of}
 use Rattle.accounts.specs.Tally.{Sums, kept}
-use Rattle.records.specs.Post.{to}
+use Rattle.accounts.specs.Lent.{to}
 use Rattle.extent_tally.specs.declared.class.ExtentClass.{ExtentClass}
 use Rattle.extent_tally.specs.Held.{class_sums, user}
 
@@ -59,11 +59,8 @@ pub record IsOfUser (old new : ExtentClass) (root ino origin : ℕ) : Type 0 whe
 
 -- what a use posts: who uses the extent, and its form
 abbrev pub use_postings : ℕ → ℕ → ℕ → ℕ → ℕ → ℕ → List Posting
-use_postings address sort form root ino origin = to (user sort address root ino origin) 1 1 ∷ to (extent_form address sort form) 1 1 ∷ []
-
--- whether a reference of a kind is to a user of an extent of a sort
-abbrev pub may_be : ℕ → ℕ → Bool
-may_be sort kind = if sort == METADATA_ITEM then kind == TREE_BLOCK_REF else kind == EXTENT_DATA_REF
+use_postings address sort form root ino origin =
+    to (user sort address root ino origin) USES 1 ∷ to (extent_form address sort form) FORM_USES 1 ∷ []
 
 -- a class that keeps the rules: as many references as its item says, and a use for each to its user
 pub record KeepsAll (class : ExtentClass) : Type 0 where

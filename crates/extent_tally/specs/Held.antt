@@ -4,9 +4,11 @@ use Rattle.std.specs.List.{sum_by}
 use Rattle.accounts.specs.declared.account.Account.{Account}
 use Rattle.accounts.specs.declared.postings.Posting.{Posting}
 use Rattle.accounts.specs.Kinds.{block_ref, data_ref, extent, extent_form}
+use Rattle.accounts.specs.declared.kind.TheConstants.{BLOCK_REF, EXTENT_FORM}
+use Rattle.accounts.specs.declared.sum.TheConstants.{REFERENCES, USES, EXTENT_ITEMS, EXTENT_REFS_SAID, EXTENT_REFS_FOUND, FORM_ITEMS, FORM_USES}
 use Rattle.accounts.specs.Sums.{total_of}
 use Rattle.accounts.specs.Tally.{Sums}
-use Rattle.records.specs.Post.{to}
+use Rattle.accounts.specs.Lent.{to}
 use Rattle.verdict.specs.declared.kinds.TheConstants.{METADATA_ITEM}
 use Rattle.extent_tally.specs.declared.class.ExtentClass.{ExtentClass}
 use Rattle.extent_tally.specs.declared.tally.ExtentTally.{ExtentTally}
@@ -21,13 +23,13 @@ user_account class = user class.sort class.address class.root class.ino class.or
 -- the postings that a class comes to: of the extent, of its form, of its user
 abbrev pub class_postings : ExtentClass → List Posting
 class_postings class =
-    to (extent class.address) 0 1
-    ∷ to (extent class.address) 1 (class.linked + class.lacks)
-    ∷ to (extent class.address) 2 class.linked
-    ∷ to (extent_form class.address class.sort class.form) 0 1
-    ∷ to (extent_form class.address class.sort class.form) 1 class.shown
-    ∷ to (user_account class) 0 class.given
-    ∷ to (user_account class) 1 class.used
+    to (extent class.address) EXTENT_ITEMS 1
+    ∷ to (extent class.address) EXTENT_REFS_SAID (class.linked + class.lacks)
+    ∷ to (extent class.address) EXTENT_REFS_FOUND class.linked
+    ∷ to (extent_form class.address class.sort class.form) FORM_ITEMS 1
+    ∷ to (extent_form class.address class.sort class.form) FORM_USES class.shown
+    ∷ to (user_account class) REFERENCES class.given
+    ∷ to (user_account class) USES class.used
     ∷ []
 
 -- the sums that a class comes to
@@ -44,4 +46,4 @@ extents_apart tally = sums_of tally.list.items
 
 -- whether accounts of a kind are kept here: A1 and A2 references, A3 extent, A4 form
 abbrev pub is_of_extents : ℕ → Bool
-is_of_extents kind = nat_le 1 kind && nat_le kind 4
+is_of_extents kind = nat_le BLOCK_REF kind && nat_le kind EXTENT_FORM

@@ -2,14 +2,14 @@
 
 ghost use Rattle.std.specs.Prelude.{◌≡◌, ℕ, ◌+◌, ◌∷◌, [], ◌<◌, ◌≤◌, true, IfSome};
 ghost use Rattle.accounts.specs.Kinds as kinds;
-ghost use Rattle.records.specs.Post.{to};
-ghost use Rattle.records.specs.ExtentPostings.{reference_account};
-ghost use Rattle.extent_tally.specs.Held.{class_sums};
-ghost use Rattle.extent_tally.specs.Gains.{may_be, Gains, IsOfUser, KeepsAll, new_class, use_postings};
+ghost use Rattle.accounts.specs.Lent.{to, user_account};
+ghost use Rattle.accounts.specs.declared.sum.TheConstants.{EXTENT_REFS_FOUND, REFERENCES};
+ghost use Rattle.extent_tally.specs.Held.{class_sums, user};
+ghost use Rattle.extent_tally.specs.Gains.{Gains, IsOfUser, KeepsAll, new_class, use_postings};
 
-use extent_items::Reference;
+use accounts::User;
 use verdict::Key;
-use verdict::kinds::{EXTENT_DATA_REF, METADATA_ITEM, TREE_BLOCK_REF};
+use verdict::kinds::METADATA_ITEM;
 
 /// An extent whose item was taken once: what its rules look at, its form, and one user, which is
 /// the tree of a tree block, or else an inode of a tree.
@@ -63,9 +63,9 @@ impl ExtentClass {
     }
 
     // The class with references more, or `None` where the item does not say so many.
-    pub(crate) fn listed(self, count: u32) -> Option<ExtentClass>
+    pub(crate) fn listed(self, count: u64) -> Option<ExtentClass>
         ensures { IfSome result (λ more.
-            Gains self more (to (kinds.extent self.address) 2 count ∷ [])) }
+            Gains self more (to (kinds.extent self.address) EXTENT_REFS_FOUND count ∷ [])) }
     {
         let Ok(count) = u16::try_from(count) else {
             return None;
@@ -79,16 +79,13 @@ impl ExtentClass {
         })
     }
 
-    // The class with a reference to its user, or `None` where it is to another, or too many are.
-    pub(crate) fn given(self, reference: &Reference) -> Option<ExtentClass>
+    // The class with references to its user, or `None` where they are to another, or too many are.
+    pub(crate) fn given(self, who: Who, count: u64) -> Option<ExtentClass>
         ensures { IfSome result (λ more. Gains self more
-            (to (reference_account self.address reference.now) 0 reference.now.count ∷ [])) }
+            (to (user self.sort self.address who.root who.ino who.origin) REFERENCES count ∷ [])) }
     {
-        if !self.may_be(reference.kind) {
-            return None;
-        }
-        let class = self.of_user(reference.root, reference.objectid, reference.offset)?;
-        let Ok(count) = u16::try_from(reference.count) else {
+        let class = self.of_user(who)?;
+        let Ok(count) = u16::try_from(count) else {
             return None;
         };
         let given = sum_of(class.given, count)?;
@@ -102,21 +99,14 @@ impl ExtentClass {
 
     // The class with a use by its user, who says the form, or `None` where it has another form or
     // another user, or too many uses are.
-    pub(crate) fn used(
-        self,
-        sort: u8,
-        form: u64,
-        root: u64,
-        ino: u64,
-        origin: u64,
-    ) -> Option<ExtentClass>
-        ensures { IfSome result (λ more.
-            Gains self more (use_postings self.address sort form root ino origin)) }
+    pub(crate) fn used(self, sort: u8, form: u64, who: Who) -> Option<ExtentClass>
+        ensures { IfSome result (λ more. Gains self more
+            (use_postings self.address sort form who.root who.ino who.origin)) }
     {
         if self.sort != sort || self.form != form {
             return None;
         }
-        let class = self.of_user(root, ino, origin)?;
+        let class = self.of_user(who)?;
         let used = sum_of(class.used, 1)?;
         let both = class.given.min(used);
         Some(ExtentClass {
@@ -127,32 +117,21 @@ impl ExtentClass {
         })
     }
 
-    // Whether a reference of a kind is to a user of this extent.
-    fn may_be(&self, kind: u8) -> bool
-        ensures { result ≡ may_be self.now.sort kind }
-    {
-        if self.sort == METADATA_ITEM {
-            kind == TREE_BLOCK_REF
-        } else {
-            kind == EXTENT_DATA_REF
-        }
-    }
-
     // The class with a user, or `None` where it has another.
-    fn of_user(self, root: u64, ino: u64, origin: u64) -> Option<ExtentClass>
-        ensures { IfSome result (λ class. IsOfUser self class root ino origin) }
+    fn of_user(self, who: Who) -> Option<ExtentClass>
+        ensures { IfSome result (λ class. IsOfUser self class who.root who.ino who.origin) }
     {
-        let Ok(root) = u32::try_from(root) else {
+        let Ok(root) = u32::try_from(who.root) else {
             return None;
         };
-        if self.root == root && self.ino == ino && self.origin == origin {
+        if self.root == root && self.ino == who.ino && self.origin == who.origin {
             return Some(self);
         }
         if self.given == 0 && self.used == 0 {
             return Some(ExtentClass {
                 root,
-                ino,
-                origin,
+                ino: who.ino,
+                origin: who.origin,
                 ..self
             });
         }
@@ -164,6 +143,58 @@ impl ExtentClass {
         ensures { result ≡ true → KeepsAll self.now }
     {
         self.linked != 0 && self.lacks == 0 && self.given == self.used
+    }
+}
+
+/// A user as a class keeps it: a tree, or an inode of a tree.
+#[derive(Clone, Copy, Debug)]
+pub(crate) struct Who {
+    // The id of the tree.
+    pub root: u64,
+    // The number of the inode, of file data.
+    pub ino: u64,
+    // The byte of the file where the extent would begin, of file data.
+    pub origin: u64,
+}
+
+impl Who {
+    // The user of an extent whose item is of a kind, or `None` where no class of such an extent has it.
+    pub(crate) fn of(sort: u8, one: &User) -> Option<Who>
+        ensures { IfSome result (λ who. (address : ℕ) →
+            user_account address one.now ≡ user sort address who.root who.ino who.origin) }
+    {
+        match *one {
+            User::Tree { root } => Who::of_tree(sort, root),
+            User::File { root, ino, origin } => Who::of_file(sort, root, ino, origin),
+            _ => None,
+        }
+    }
+
+    // A tree, to a tree block.
+    fn of_tree(sort: u8, root: u64) -> Option<Who>
+        ensures { IfSome result (λ who. (address : ℕ) →
+            kinds.block_ref root address ≡ user sort address who.root who.ino who.origin) }
+    {
+        if sort != METADATA_ITEM {
+            return None;
+        }
+        Some(Who {
+            root,
+            ino: 0,
+            origin: 0,
+        })
+    }
+
+    // An inode of a tree, to file data.
+    fn of_file(sort: u8, root: u64, ino: u64, origin: u64) -> Option<Who>
+        ensures { IfSome result (λ who. (address : ℕ) →
+            kinds.data_ref root address ino origin
+            ≡ user sort address who.root who.ino who.origin) }
+    {
+        if sort == METADATA_ITEM {
+            return None;
+        }
+        Some(Who { root, ino, origin })
     }
 }
 

@@ -1,30 +1,25 @@
 //! The sums of all extents.
 
-ghost use Rattle.std.specs.Prelude.{◌≡◌, ◌+◌, ◌∷◌, [], ℕ, ◌≤◌, length, OnOk, IfOk, true, false, flat_map};
-ghost use Rattle.extent_items.specs.ExtentItems.{extent_fields_in};
+ghost use Rattle.std.specs.Prelude.{◌≡◌, ◌+◌, ◌∷◌, [], ℕ, ◌≤◌, length, OnOk, IfOk, IfSome, true, false};
 ghost use Rattle.accounts.specs.declared.account.Account.{Account as AAccount};
 ghost use Rattle.accounts.specs.Kinds as kinds;
 ghost use Rattle.accounts.specs.Apart.{AddsUp, IsSettled};
 ghost use Rattle.accounts.specs.Broken.{is_broken};
 ghost use Rattle.accounts.specs.Tally.{sums_in, with_postings};
-ghost use Rattle.records.specs.Post.{to};
-ghost use Rattle.records.specs.Part.{part_of};
-ghost use Rattle.records.specs.ExtentPostings.{extent_item_postings, extent_postings, range_postings, reference_account, reference_postings};
+ghost use Rattle.accounts.specs.Lent as lent;
+ghost use Rattle.accounts.specs.Lent.{extent_triple, reference_pair, to, use_pair};
+ghost use Rattle.accounts.specs.declared.sum.TheConstants.{EXTENT_REFS_FOUND, REFERENCES};
 ghost use Rattle.extent_tally.specs.Held.{class_postings, class_sums, extents_apart, is_of_extents, sums_of, user_account};
-ghost use Rattle.extent_tally.specs.Gains.{AreApart, IsMore, use_postings};
+ghost use Rattle.extent_tally.specs.Gains.{AreApart, Gains, IsMore};
 
-use crate::class::ExtentClass;
-use accounts::{Account, Posting, Postings, Tally};
-use extent_items::{ExtentItem, Reference};
-use extent_rules::{post_block, post_extent, post_range, post_reference, reference_account};
-use fs_items::FileExtent;
-use records::Rec;
+use crate::class::{ExtentClass, Who};
+use accounts::sum::{
+    EXTENT_ITEMS, EXTENT_REFS_FOUND, EXTENT_REFS_SAID, FORM_ITEMS, FORM_USES, REFERENCES, USES,
+};
+use accounts::{Account, Poster, Posting, Postings, Tally, User};
 use std::alloc::Global;
-use verdict::NoMemory;
-use verdict::kinds::{EXTENT_ITEM, METADATA_ITEM};
-
-/// The type of a range of a file whose data stands in its item.
-const INLINE: u8 = 0;
+use verdict::kinds::METADATA_ITEM;
+use verdict::{Key, NoMemory};
 
 /// How many classes are near to one. A few kilobytes hold them.
 const NEAR: usize = 64;
@@ -54,21 +49,66 @@ impl ExtentTally {
         }
     }
 
-    /// Adds what a record of a tree, by the tree's id, says of extents and of who refers to them.
-    /// What has no compact form is put behind the postings. Out of memory any part of it may be
-    /// added.
-    #[tactic(auto, unfolding(records::specs::ExtentPostings::extent_postings))]
-    pub fn take(&mut self, tree: u64, part: &Rec<'_>, into: &mut Postings) -> Result<(), NoMemory>
+    /// Adds that there is an extent, by the key of its item, and how many references to it the item says. What has no
+    /// compact form is put behind the postings. Out of memory any part of it may be added.
+    pub fn put_extent(&mut self, key: Key, refs: u64, into: &mut Postings) -> Result<(), NoMemory>
         ensures { OnOk result (AddsUp (extents_apart self.old) (extents_apart self.new)
-            into.old into.new (extent_postings tree (part_of part.now))) }
+            into.old into.new (extent_triple key refs)) }
     {
-        match part {
-            Rec::Block { address, level } => self.take_block(tree, *address, *level, into),
-            Rec::ExtentItem(item) => self.take_extent(item, into),
-            Rec::KeyedRef(item) => self.take_reference(item.key.objectid, &item.reference, into),
-            Rec::FileExtent(range) => self.take_range(tree, range, into),
-            _ => Ok(()),
+        if !is_behind(&self.list, key.objectid) {
+            return into.put_extent(self.alloc, key, refs);
         }
+        let Some(class) = ExtentClass::of(key, refs) else {
+            return into.put_extent(self.alloc, key, refs);
+        };
+        match self.list.push(class) {
+            Ok(()) => Ok(()),
+            Err(_) => Err(NoMemory),
+        }
+    }
+
+    /// Adds so many references to the extent at a logical address. What has no compact form is put behind the postings.
+    /// Out of memory any part of it may be added.
+    pub fn put_reference(
+        &mut self,
+        address: u64,
+        user: &User,
+        count: u64,
+        into: &mut Postings,
+    ) -> Result<(), NoMemory>
+        ensures { OnOk result (AddsUp (extents_apart self.old) (extents_apart self.new)
+            into.old into.new (reference_pair address user.now count)) }
+    {
+        let place = place_of(&self.list, self.list.len().saturating_sub(1), address);
+        if place >= self.list.len() {
+            return into.put_reference(self.alloc, address, user, count);
+        }
+        let class = self.list[place];
+        if class.address != address {
+            return into.put_reference(self.alloc, address, user, count);
+        }
+        let more = refer(self.alloc, class, user, count, into)?;
+        self.list[place] = more;
+        Ok(())
+    }
+
+    /// Adds a use of the extent at a logical address by one who says the kind of its item and its form. What has no
+    /// compact form is put behind the postings. Out of memory any part of it may be added.
+    pub fn put_use(
+        &mut self,
+        address: u64,
+        user: &User,
+        kind: u8,
+        form: u64,
+        into: &mut Postings,
+    ) -> Result<(), NoMemory>
+        ensures { OnOk result (AddsUp (extents_apart self.old) (extents_apart self.new)
+            into.old into.new (use_pair address user.now kind form)) }
+    {
+        if self.show(address, user, kind, form) {
+            return Ok(());
+        }
+        into.put_use(self.alloc, address, user, kind, form)
     }
 
     /// Moves all to a tally, but for what breaks no rule and is alone. Nothing may be added behind
@@ -81,105 +121,17 @@ impl ExtentTally {
         settle(self.alloc, &self.list, rest)
     }
 
-    // A block of a tree.
-    fn take_block(
-        &mut self,
-        tree: u64,
-        address: u64,
-        level: u8,
-        into: &mut Postings,
-    ) -> Result<(), NoMemory>
-        ensures { OnOk result (AddsUp (extents_apart self.old) (extents_apart self.new)
-            into.old into.new
-            (to (kinds.block_ref tree address) 1 1
-            ∷ to (kinds.extent_form address 169 level) 1 1 ∷ [])) }
-    {
-        if self.show(address, METADATA_ITEM, u64::from(level), tree, 0, 0) {
-            return Ok(());
-        }
-        post_block(self.alloc, tree, address, level, into)
-    }
-
-    // A range of a file.
-    fn take_range(
-        &mut self,
-        tree: u64,
-        range: &FileExtent,
-        into: &mut Postings,
-    ) -> Result<(), NoMemory>
-        ensures { OnOk result (AddsUp (extents_apart self.old) (extents_apart self.new)
-            into.old into.new (range_postings tree range.now)) }
-    {
-        if range.sort == INLINE {
-            return Ok(());
-        }
-        if range.extent == 0 {
-            return Ok(());
-        }
-        let origin = range.key.offset.wrapping_sub(range.offset);
-        let ino = range.key.objectid;
-        if self.show(
-            range.extent,
-            EXTENT_ITEM,
-            range.extent_length,
-            tree,
-            ino,
-            origin,
-        ) {
-            return Ok(());
-        }
-        post_range(self.alloc, tree, range, into)
-    }
-
-    // An extent, and the references in its item.
-    fn take_extent(&mut self, item: &ExtentItem<'_>, into: &mut Postings) -> Result<(), NoMemory>
-        ensures { OnOk result (AddsUp (extents_apart self.old) (extents_apart self.new)
-            into.old into.new (extent_item_postings (extent_fields_in item.now))) }
-    {
-        if !is_behind(&self.list, item.key.objectid) {
-            return post_extent(self.alloc, item, into);
-        }
-        let Some(class) = ExtentClass::of(item.key, item.refs) else {
-            return post_extent(self.alloc, item, into);
-        };
-        let class = refer_all(self.alloc, class, item, into)?;
-        match self.list.push(class) {
-            Ok(()) => Ok(()),
-            Err(_) => Err(NoMemory),
-        }
-    }
-
-    // A reference to the extent at a logical address, with an item of its own.
-    fn take_reference(
-        &mut self,
-        address: u64,
-        reference: &Reference,
-        into: &mut Postings,
-    ) -> Result<(), NoMemory>
-        ensures { OnOk result (AddsUp (extents_apart self.old) (extents_apart self.new)
-            into.old into.new (reference_postings address reference.now)) }
-    {
-        let place = place_of(&self.list, self.list.len().saturating_sub(1), address);
-        if place >= self.list.len() {
-            return post_reference(self.alloc, address, reference, into);
-        }
-        let class = self.list[place];
-        if class.address != address {
-            return post_reference(self.alloc, address, reference, into);
-        }
-        let more = refer(self.alloc, class, reference, into)?;
-        self.list[place] = more;
-        Ok(())
-    }
-
     // Adds a use of the extent at a logical address, by one who says its form, or leaves all and
     // gives `false`.
-    fn show(&mut self, address: u64, sort: u8, form: u64, root: u64, ino: u64, origin: u64) -> bool
+    fn show(&mut self, address: u64, user: &User, kind: u8, form: u64) -> bool
         ensures yes { result ≡ true →
             IsMore (extents_apart self.old) (extents_apart self.new)
-            (use_postings address sort form root ino origin) }
+            (use_pair address user.now kind form) }
         ensures no { result ≡ false → extents_apart self.new ≡ extents_apart self.old }
     {
+        let Some(who) = Who::of(kind, user) else {
+            return false;
+        };
         let place = place_of(&self.list, self.last, address);
         if place >= self.list.len() {
             return false;
@@ -188,7 +140,7 @@ impl ExtentTally {
         if class.address != address {
             return false;
         }
-        let Some(more) = class.used(sort, form, root, ino, origin) else {
+        let Some(more) = class.used(kind, form, who) else {
             return false;
         };
         self.list[place] = more;
@@ -241,38 +193,20 @@ fn first_from(list: &[ExtentClass], from: usize, to: usize, address: u64) -> usi
     low
 }
 
-// The class of an extent with the references in its item. What it does not have is put behind the
-// postings.
-fn refer_all(
-    alloc: Global,
-    class: ExtentClass,
-    item: &ExtentItem<'_>,
-    into: &mut Postings,
-) -> Result<ExtentClass, NoMemory>
-    ensures { IfOk result (λ more. AddsUp (class_sums class) (class_sums more)
-        into.old into.new
-        (flat_map (reference_postings class.address) (extent_fields_in item.now).references)) }
-{
-    let mut more = class;
-    for reference in item.references() {
-        more = refer(alloc, more, &reference, into)?;
-    }
-    Ok(more)
-}
-
-// The class of an extent with a reference. What it does not have is put behind the postings.
+// The class of an extent with so many references. What it does not have is put behind the postings.
 fn refer(
     alloc: Global,
     class: ExtentClass,
-    reference: &Reference,
+    user: &User,
+    count: u64,
     into: &mut Postings,
 ) -> Result<ExtentClass, NoMemory>
     ensures address { IfOk result (λ more. more.address ≡ class.address) }
     ensures sums { IfOk result (λ more. AddsUp (class_sums class) (class_sums more)
-        into.old into.new (reference_postings class.address reference.now)) }
+        into.old into.new (reference_pair class.address user.now count)) }
 {
-    let listed = list_reference(alloc, class, reference.count, into)?;
-    give_reference(alloc, listed, reference, into)
+    let listed = list_reference(alloc, class, count, into)?;
+    give_reference(alloc, listed, user, count, into)
 }
 
 // The class of an extent with references more, which are put behind the postings where its item
@@ -280,40 +214,49 @@ fn refer(
 fn list_reference(
     alloc: Global,
     class: ExtentClass,
-    count: u32,
+    count: u64,
     into: &mut Postings,
 ) -> Result<ExtentClass, NoMemory>
     ensures address { IfOk result (λ more. more.address ≡ class.address) }
     ensures sums { IfOk result (λ more. AddsUp (class_sums class) (class_sums more)
-        into.old into.new (to (kinds.extent class.address) 2 count ∷ [])) }
+        into.old into.new (to (kinds.extent class.address) EXTENT_REFS_FOUND count ∷ [])) }
 {
     if let Some(more) = class.listed(count) {
         return Ok(more);
     }
     let extent = Account::extent(alloc, class.address);
-    into.push(Posting::to(extent, 2, u64::from(count)))?;
+    into.push(Posting::to(extent, EXTENT_REFS_FOUND, count))?;
     Ok(class)
 }
 
-// The class of an extent with a reference to its user, which is put behind the postings where it is
-// to another.
+// The class of an extent with references to its user, which are put behind the postings where they
+// are to another.
 fn give_reference(
     alloc: Global,
     class: ExtentClass,
-    reference: &Reference,
+    user: &User,
+    count: u64,
     into: &mut Postings,
 ) -> Result<ExtentClass, NoMemory>
     ensures address { IfOk result (λ more. more.address ≡ class.address) }
     ensures sums { IfOk result (λ more. AddsUp (class_sums class) (class_sums more)
-        into.old into.new
-        (to (reference_account class.address reference.now) 0 reference.now.count ∷ [])) }
+        into.old into.new (to (lent.user_account class.address user.now) REFERENCES count ∷ [])) }
 {
-    if let Some(more) = class.given(reference) {
+    if let Some(more) = given(class, user, count) {
         return Ok(more);
     }
-    let user = reference_account(alloc, class.address, reference);
-    into.push(Posting::to(user, 0, u64::from(reference.count)))?;
+    let account = user.account(alloc, class.address);
+    into.push(Posting::to(account, REFERENCES, count))?;
     Ok(class)
+}
+
+// The class of an extent with references to its user, or `None` where they are to another.
+fn given(class: ExtentClass, user: &User, count: u64) -> Option<ExtentClass>
+    ensures { IfSome result (λ more. Gains class more
+        (to (lent.user_account class.address user.now) REFERENCES count ∷ [])) }
+{
+    let who = Who::of(class.sort, user)?;
+    class.given(who, count)
 }
 
 // Posts the classes of the extents that may break a rule, or that are not alone.
@@ -371,25 +314,25 @@ fn post(alloc: Global, rest: &mut Tally, class: &ExtentClass) -> Result<(), NoMe
     let address = class.address;
     let linked = u64::from(class.linked);
     postings.push_all([
-        Posting::to(Account::extent(alloc, address), 0, 1),
+        Posting::to(Account::extent(alloc, address), EXTENT_ITEMS, 1),
         Posting::to(
             Account::extent(alloc, address),
-            1,
+            EXTENT_REFS_SAID,
             linked + u64::from(class.lacks),
         ),
-        Posting::to(Account::extent(alloc, address), 2, linked),
+        Posting::to(Account::extent(alloc, address), EXTENT_REFS_FOUND, linked),
         Posting::to(
             Account::extent_form(alloc, address, class.sort, class.form),
-            0,
+            FORM_ITEMS,
             1,
         ),
         Posting::to(
             Account::extent_form(alloc, address, class.sort, class.form),
-            1,
+            FORM_USES,
             u64::from(class.shown),
         ),
-        Posting::to(user_of(alloc, class), 0, u64::from(class.given)),
-        Posting::to(user_of(alloc, class), 1, u64::from(class.used)),
+        Posting::to(user_of(alloc, class), REFERENCES, u64::from(class.given)),
+        Posting::to(user_of(alloc, class), USES, u64::from(class.used)),
     ])?;
     rest.add_all(&mut postings)
 }

@@ -7,6 +7,8 @@ use Rattle.std.specs.BTreeMap.{get}
 use Rattle.accounts.specs.declared.account.Account.{Account}
 use Rattle.accounts.specs.declared.postings.Posting.{Posting}
 use Rattle.accounts.specs.Kinds.{inode, inode_type}
+use Rattle.accounts.specs.declared.kind.TheConstants.{INODE, INODE_TYPE}
+use Rattle.accounts.specs.declared.sum.TheConstants.{INODE_ITEMS, INODE_OTHERS, INODE_LINKS, INODE_NAMES, INODE_ORPHANS, DIR_SIZE, DIR_NAMES, FILE_BYTES, FILE_RANGES, TYPE_ENTRIES, TYPE_ITEMS}
 use Rattle.accounts.specs.Sums.{total_of}
 use Rattle.accounts.specs.Tally.{Sums}
 use Rattle.inode_tally.specs.declared.class.Gathered.{Gathered}
@@ -25,17 +27,17 @@ sum_of more n = if nat_lt n 5 then slice_index more.counts n else slice_index mo
 -- amounts to an inode and to one of its types, as postings
 abbrev pub gathered_postings : ℕ → ℕ → Gathered → List Posting
 gathered_postings tree ino more =
-    to (inode tree ino) 0 (sum_of more 0)
-    ∷ to (inode tree ino) 1 (sum_of more 1)
-    ∷ to (inode tree ino) 2 (sum_of more 2)
-    ∷ to (inode tree ino) 3 (sum_of more 3)
-    ∷ to (inode tree ino) 4 (sum_of more 4)
-    ∷ to (inode tree ino) 5 (sum_of more 5)
-    ∷ to (inode tree ino) 6 (sum_of more 6)
-    ∷ to (inode tree ino) 7 (sum_of more 7)
-    ∷ to (inode tree ino) 8 (sum_of more 8)
-    ∷ to (inode_type tree ino more.sort) 0 more.entries
-    ∷ to (inode_type tree ino more.sort) 1 more.typed
+    to (inode tree ino) INODE_ITEMS (sum_of more INODE_ITEMS)
+    ∷ to (inode tree ino) INODE_OTHERS (sum_of more INODE_OTHERS)
+    ∷ to (inode tree ino) INODE_LINKS (sum_of more INODE_LINKS)
+    ∷ to (inode tree ino) INODE_NAMES (sum_of more INODE_NAMES)
+    ∷ to (inode tree ino) INODE_ORPHANS (sum_of more INODE_ORPHANS)
+    ∷ to (inode tree ino) DIR_SIZE (sum_of more DIR_SIZE)
+    ∷ to (inode tree ino) DIR_NAMES (sum_of more DIR_NAMES)
+    ∷ to (inode tree ino) FILE_BYTES (sum_of more FILE_BYTES)
+    ∷ to (inode tree ino) FILE_RANGES (sum_of more FILE_RANGES)
+    ∷ to (inode_type tree ino more.sort) TYPE_ENTRIES more.entries
+    ∷ to (inode_type tree ino more.sort) TYPE_ITEMS more.typed
     ∷ []
 
 -- no amount
@@ -92,4 +94,4 @@ inodes_apart tally account field = class_sums (get inode_cmp tally.classes) acco
 
 -- whether accounts of a kind are of inodes or of their types
 abbrev pub is_of_inodes : ℕ → Bool
-is_of_inodes kind = kind == 9 || kind == 10
+is_of_inodes kind = kind == INODE || kind == INODE_TYPE

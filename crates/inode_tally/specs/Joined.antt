@@ -5,6 +5,7 @@ use Rattle.accounts.specs.declared.account.Account.{Account}
 use Rattle.accounts.specs.declared.postings.Posting.{Posting}
 use Rattle.accounts.specs.declared.tally.Tally.{Tally}
 use Rattle.accounts.specs.Broken.{gives}
+use Rattle.accounts.specs.declared.sum.TheConstants.{INODE_OTHERS}
 use Rattle.accounts.specs.Sums.{total_of}
 use Rattle.accounts.specs.Tally.{Sums, inode_class, kept, sums_in, with_amount}
 use Rattle.inode_tally.specs.declared.class.Gathered.{Gathered}
@@ -40,7 +41,7 @@ Adds old new given =
 
 -- so many entries more lead to an inode, and say a type
 pub record IsTargeted (old : Gathered) (sort count : ℕ) (new : Gathered) : Type 0 where
-  pub sums : (n : ℕ) → sum_of new n ≡ with_amount (sum_of old) 1 count n
+  pub sums : (n : ℕ) → sum_of new n ≡ with_amount (sum_of old) INODE_OTHERS count n
   pub types : (new.sort ≡ sort) × (new.entries ≡ old.entries + count) × (new.typed ≡ old.typed)
 
 -- a tally has of other accounts than those of inodes what it had

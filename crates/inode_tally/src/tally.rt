@@ -7,11 +7,15 @@ ghost use Rattle.accounts.specs.Kinds as kinds;
 ghost use Rattle.accounts.specs.declared.account.Account.{Account as AAccount};
 ghost use Rattle.accounts.specs.Broken.{is_broken};
 ghost use Rattle.accounts.specs.Sums.{total_of};
+ghost use Rattle.accounts.specs.declared.sum.TheConstants.{INODE_OTHERS, TYPE_ENTRIES, TYPE_ITEMS};
 ghost use Rattle.accounts.specs.Tally.{sums_in, with_postings};
 ghost use Rattle.inode_tally.specs.Held.{class_postings, class_sums, gathered_postings, inode_cmp, inodes_apart, is_of_inodes, own_sums, owns_sums, to};
 ghost use Rattle.inode_tally.specs.Joined.{Adds, Joins, LeavesOthers};
 
 use crate::class::{Gathered, InodeClass};
+use accounts::sum::{
+    DIR_NAMES, DIR_SIZE, FILE_BYTES, FILE_RANGES, INODE_ITEMS, INODE_LINKS, INODE_NAMES, INODE_ORPHANS, INODE_OTHERS, TYPE_ENTRIES, TYPE_ITEMS,
+};
 use accounts::{Account, Posting, Postings, Tally};
 use std::alloc::Global;
 use std::collections::BTreeMap;
@@ -85,8 +89,8 @@ impl InodeTally {
     ) -> Result<(), NoMemory>
         ensures { OnOk result (AddsUp (inodes_apart self.old) (inodes_apart self.new)
             into.old into.new
-            (to (kinds.inode tree ino) 1 count
-            ∷ to (kinds.inode_type tree ino sort) 0 count ∷ [])) }
+            (to (kinds.inode tree ino) INODE_OTHERS count
+            ∷ to (kinds.inode_type tree ino sort) TYPE_ENTRIES count ∷ [])) }
     {
         if raise_targets(&mut self.owns, tree, ino, sort, count) {
             return Ok(());
@@ -104,7 +108,7 @@ impl InodeTally {
         into: &mut Postings,
     ) -> Result<(), NoMemory>
         ensures { OnOk result (AddsUp (inodes_apart self.old) (inodes_apart self.new)
-            into.old into.new (to (kinds.inode_type tree ino sort) 1 1 ∷ [])) }
+            into.old into.new (to (kinds.inode_type tree ino sort) TYPE_ITEMS 1 ∷ [])) }
     {
         if raise_type(&mut self.owns, tree, ino, sort) {
             return Ok(());
@@ -156,8 +160,8 @@ impl InodeTally {
     ) -> Result<(), NoMemory>
         ensures { OnOk result (AddsUp (inodes_apart self.old) (inodes_apart self.new)
             into.old into.new
-            (to (kinds.inode tree ino) 1 count
-            ∷ to (kinds.inode_type tree ino sort) 0 count ∷ [])) }
+            (to (kinds.inode tree ino) INODE_OTHERS count
+            ∷ to (kinds.inode_type tree ino sort) TYPE_ENTRIES count ∷ [])) }
     {
         self.begin(Own::targets(tree, ino, sort, count), into)
     }
@@ -189,8 +193,8 @@ impl Own {
     // So many entries that lead to an inode and say its type.
     fn targets(tree: u64, ino: u64, sort: u8, count: u8) -> Own
         ensures { (account : AAccount) (n : ℕ) → own_sums result account n ≡ total_of
-            (to (kinds.inode tree ino) 1 count
-            ∷ to (kinds.inode_type tree ino sort) 0 count ∷ []) account n }
+            (to (kinds.inode tree ino) INODE_OTHERS count
+            ∷ to (kinds.inode_type tree ino sort) TYPE_ENTRIES count ∷ []) account n }
     {
         let sums = Gathered {
             bytes: [0, 0, 0, 0],
@@ -205,7 +209,7 @@ impl Own {
     // An item that says the type of an inode.
     fn typed(tree: u64, ino: u64, sort: u8) -> Own
         ensures { (account : AAccount) (n : ℕ) → own_sums result account n
-            ≡ total_of (to (kinds.inode_type tree ino sort) 1 1 ∷ []) account n }
+            ≡ total_of (to (kinds.inode_type tree ino sort) TYPE_ITEMS 1 ∷ []) account n }
     {
         let sums = Gathered {
             bytes: [0, 0, 0, 0],
@@ -234,8 +238,8 @@ impl Own {
     // gives `false`.
     fn raise_targets(&mut self, tree: u64, ino: u64, sort: u8, count: u8) -> bool
         ensures raised { result ≡ true → Adds (own_sums self.old) (own_sums self.new)
-            (to (kinds.inode tree ino) 1 count
-            ∷ to (kinds.inode_type tree ino sort) 0 count ∷ []) }
+            (to (kinds.inode tree ino) INODE_OTHERS count
+            ∷ to (kinds.inode_type tree ino sort) TYPE_ENTRIES count ∷ []) }
         ensures stays { result ≡ false → self.new ≡ self.old }
     {
         if self.tree != tree || self.ino != ino || !self.sums.takes_type(sort) {
@@ -247,7 +251,7 @@ impl Own {
     // Adds an item that says the type of an inode, where it is this one and of this type, or stays and gives `false`.
     fn raise_type(&mut self, tree: u64, ino: u64, sort: u8) -> bool
         ensures raised { result ≡ true → Adds (own_sums self.old) (own_sums self.new)
-            (to (kinds.inode_type tree ino sort) 1 1 ∷ []) }
+            (to (kinds.inode_type tree ino sort) TYPE_ITEMS 1 ∷ []) }
         ensures stays { result ≡ false → self.new ≡ self.old }
     {
         if self.tree != tree || self.ino != ino || !self.sums.takes_type(sort) {
@@ -280,7 +284,7 @@ fn raise(owns: &mut Vec<Own>, tree: u64, ino: u64, field: usize, amount: u64) ->
 // stays and gives `false`.
 fn raise_targets(owns: &mut Vec<Own>, tree: u64, ino: u64, sort: u8, count: u8) -> bool
     ensures raised { result ≡ true → Adds (owns_sums owns.old.items) (owns_sums owns.new.items)
-        (to (kinds.inode tree ino) 1 count ∷ to (kinds.inode_type tree ino sort) 0 count ∷ []) }
+        (to (kinds.inode tree ino) INODE_OTHERS count ∷ to (kinds.inode_type tree ino sort) TYPE_ENTRIES count ∷ []) }
     ensures stays { result ≡ false → owns.new.items ≡ owns.old.items }
 {
     let at = place(tree, ino);
@@ -294,7 +298,7 @@ fn raise_targets(owns: &mut Vec<Own>, tree: u64, ino: u64, sort: u8, count: u8) 
 // `false`.
 fn raise_type(owns: &mut Vec<Own>, tree: u64, ino: u64, sort: u8) -> bool
     ensures raised { result ≡ true → Adds (owns_sums owns.old.items) (owns_sums owns.new.items)
-        (to (kinds.inode_type tree ino sort) 1 1 ∷ []) }
+        (to (kinds.inode_type tree ino sort) TYPE_ITEMS 1 ∷ []) }
     ensures stays { result ≡ false → owns.new.items ≡ owns.old.items }
 {
     let at = place(tree, ino);
@@ -413,23 +417,23 @@ fn post(
     let f = &more.counts;
     let g = &more.bytes;
     into.push_all([
-        Posting::to(Account::inode(alloc, tree, ino), 0, u64::from(f[0])),
-        Posting::to(Account::inode(alloc, tree, ino), 1, u64::from(f[1])),
-        Posting::to(Account::inode(alloc, tree, ino), 2, u64::from(f[2])),
-        Posting::to(Account::inode(alloc, tree, ino), 3, u64::from(f[3])),
-        Posting::to(Account::inode(alloc, tree, ino), 4, u64::from(f[4])),
-        Posting::to(Account::inode(alloc, tree, ino), 5, g[0]),
-        Posting::to(Account::inode(alloc, tree, ino), 6, g[1]),
-        Posting::to(Account::inode(alloc, tree, ino), 7, g[2]),
-        Posting::to(Account::inode(alloc, tree, ino), 8, g[3]),
+        Posting::to(Account::inode(alloc, tree, ino), INODE_ITEMS, u64::from(f[0])),
+        Posting::to(Account::inode(alloc, tree, ino), INODE_OTHERS, u64::from(f[1])),
+        Posting::to(Account::inode(alloc, tree, ino), INODE_LINKS, u64::from(f[2])),
+        Posting::to(Account::inode(alloc, tree, ino), INODE_NAMES, u64::from(f[3])),
+        Posting::to(Account::inode(alloc, tree, ino), INODE_ORPHANS, u64::from(f[4])),
+        Posting::to(Account::inode(alloc, tree, ino), DIR_SIZE, g[0]),
+        Posting::to(Account::inode(alloc, tree, ino), DIR_NAMES, g[1]),
+        Posting::to(Account::inode(alloc, tree, ino), FILE_BYTES, g[2]),
+        Posting::to(Account::inode(alloc, tree, ino), FILE_RANGES, g[3]),
         Posting::to(
             Account::inode_type(alloc, tree, ino, more.sort),
-            0,
+            TYPE_ENTRIES,
             u64::from(more.entries),
         ),
         Posting::to(
             Account::inode_type(alloc, tree, ino, more.sort),
-            1,
+            TYPE_ITEMS,
             u64::from(more.typed),
         ),
     ])

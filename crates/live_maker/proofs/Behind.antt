@@ -3,7 +3,7 @@ use Rattle.std.proofs.Common.{◌≡◌, Bool, true, false, List, [], ◌∷◌,
 use Rattle.std.proofs.lemmas.Bool.Decides.{nat_tests}
 use Rattle.verdict.specs.Rules.{no_key}
 use Rattle.live_index.specs.declared.live.Live.{Live}
-use Rattle.shared_trees.specs.LivePairs.{greater_key}
+use Rattle.tree_laws.specs.LivePairs.{greater_key}
 use Rattle.live_maker.specs.Opened.{closes, last_below, raised}
 use Rattle.live_maker.specs.Closing.{left_of}
 use Rattle.live_maker.proofs.Greater.{greater_assoc, greater_swap, none_greater}

@@ -6,7 +6,7 @@ use Rattle.verdict.specs.Rules.{no_key}
 use Rattle.verdict.specs.declared.key.Key.{Key}
 use Rattle.live_index.specs.Pairs.{Pairs, with_pair}
 use Rattle.live_index.specs.declared.live.Live.{Live}
-use Rattle.shared_trees.specs.LivePairs.{greater_key, table_of}
+use Rattle.tree_laws.specs.LivePairs.{greater_key, table_of}
 use Rattle.live_maker.specs.Opened.{closes, finished, last_below, raised, with_key}
 use Rattle.live_maker.specs.Closing.{left_of}
 use Rattle.live_maker.proofs.Behind.{Alike, alike_more, below_closed, below_more, left_closed, left_more}

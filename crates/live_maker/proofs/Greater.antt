@@ -1,11 +1,11 @@
 -- The greater of two keys: in which order several are taken together does not matter.
 use Rattle.std.proofs.Common.{◌≡◌, ℕ, Bool, true, false, refl, ap, ◌∙◌, arith}
 use Rattle.std.proofs.lemmas.Grind.{common_steps}
-use Rattle.shared_trees.proofs.Bounds.{below_self}
+use Rattle.tree_laws.proofs.Bounds.{below_self}
 use Rattle.verdict.specs.OnDisk.{key_below}
 use Rattle.verdict.specs.Rules.{no_key}
 use Rattle.verdict.specs.declared.key.Key.{Key}
-use Rattle.shared_trees.specs.LivePairs.{greater_key}
+use Rattle.tree_laws.specs.LivePairs.{greater_key}
 
 -- the order of keys is strict and total
 below_trans : (a b c : Key) → key_below a b ≡ true → key_below b c ≡ true → key_below a c ≡ true

@@ -6,7 +6,7 @@ use Rattle.live_index.specs.declared.live.Live.{Live}
 use Rattle.records.specs.Seen.{Seen}
 use Rattle.records.specs.Seen.Seen.{BlockSeen, PointerSeen, ItemSeen}
 use Rattle.records.specs.declared.rec.WalkedBlock.{WalkedBlock}
-use Rattle.shared_trees.specs.LivePairs.{greater_key, is_beside, last_key, live_in, live_of, records_in}
+use Rattle.tree_laws.specs.LivePairs.{greater_key, is_beside, last_key, live_in, live_of, records_in}
 use Rattle.live_maker.specs.Opened.{closes, finished, last_below, no_lives, opened, raised, with_key, with_record, LivesMade}
 use Rattle.live_maker.proofs.Behind.{below_closed, below_more}
 use Rattle.live_maker.proofs.Greater.{greater_assoc, greater_comm, greater_none, none_greater}

@@ -8,7 +8,7 @@ use Rattle.live_index.specs.declared.live.Live.{Live}
 use Rattle.records.specs.Seen.{Seen}
 use Rattle.records.specs.Seen.Seen.{BlockSeen, ItemSeen}
 use Rattle.records.specs.declared.rec.WalkedBlock.{WalkedBlock}
-use Rattle.shared_trees.specs.LivePairs.{first_or_greatest, greater_key, live_in}
+use Rattle.tree_laws.specs.LivePairs.{first_or_greatest, greater_key, live_in}
 use Rattle.live_maker.specs.declared.lives.Lives.{Lives}
 
 -- the pair of a block that has had no item

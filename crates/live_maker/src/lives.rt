@@ -2,7 +2,7 @@
 
 ghost use Rattle.std.specs.Prelude.{◌≡◌, ◌+◌, ◌≤◌, length, reverse, IfOk};
 ghost use Rattle.live_index.specs.Table.{pairs_of};
-ghost use Rattle.shared_trees.specs.LivePairs.{first_or_greatest, greater_key, table_of};
+ghost use Rattle.tree_laws.specs.LivePairs.{first_or_greatest, greater_key, table_of};
 ghost use Rattle.live_maker.specs.Opened.{closes, finished, held_in, last_below, no_lives, opened, raised, LivesMade};
 ghost use Rattle.live_maker.specs.Closing.{left_of};
 

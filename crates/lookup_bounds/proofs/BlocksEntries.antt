@@ -17,13 +17,13 @@ use Rattle.records.specs.Item.{item_record}
 use Rattle.records.specs.Part.{Located}
 use Rattle.records.specs.Seen.{Seen}
 use Rattle.records.specs.Walk.{each, entry_records, just, leaf_record, leaf_records, pointer_records}
-use Rattle.shared_trees.specs.LivePairs.{Walked, live_in, walked}
-use Rattle.shared_trees.specs.MergedLaw.{items}
-use Rattle.shared_trees.specs.Unshared.{items_in}
-use Rattle.shared_trees.specs.VisitsLaw.{entries_at, entries_in}
-use Rattle.shared_trees.proofs.Merged.{read_of}
-use Rattle.shared_trees.proofs.Trails.{Visit}
-use Rattle.shared_trees.proofs.Within.{one_own}
+use Rattle.tree_laws.specs.LivePairs.{Walked, live_in, walked}
+use Rattle.tree_laws.specs.MergedLaw.{items}
+use Rattle.tree_laws.specs.Unshared.{items_in}
+use Rattle.tree_laws.specs.VisitsLaw.{entries_at, entries_in}
+use Rattle.tree_laws.proofs.Merged.{read_of}
+use Rattle.tree_laws.proofs.Trails.{Visit}
+use Rattle.tree_laws.proofs.Within.{one_own}
 use Rattle.tree_change.specs.LooksLaw.{entries_of}
 use Rattle.tree_change.specs.OneTree.{side_of}
 use Rattle.commit_laws.proofs.Found.{Owns, found_of, items_at, pair_at, stored_of}

@@ -6,9 +6,9 @@ use Rattle.std.proofs.lemmas.List.Sorted.{length_permutation}
 use Rattle.commit_laws.proofs.next_index.Flags.{ascend_items}
 use Rattle.live_index.specs.declared.live.Live.{Live}
 use Rattle.records.specs.declared.rec.ItemAt.{ItemAt}
-use Rattle.shared_trees.specs.LivePairs.{Walked, walked}
-use Rattle.shared_trees.specs.Shared.{are_read_alike, is_shared}
-use Rattle.shared_trees.specs.Unshared.{items_in}
+use Rattle.tree_laws.specs.LivePairs.{Walked, walked}
+use Rattle.tree_laws.specs.Shared.{are_read_alike, is_shared}
+use Rattle.tree_laws.specs.Unshared.{items_in}
 use Rattle.touched_blocks.specs.Touched.{written_in}
 use Rattle.tree_change.specs.Change.{IsChange}
 use Rattle.tree_change.specs.Gathered.{located_item}

@@ -15,11 +15,11 @@ use Rattle.node_reader.specs.declared.expect.Expect.{Expect}
 use Rattle.records.specs.Contents.{chunk_records, chunk_tree_root}
 use Rattle.records.specs.Seen.{Seen}
 use Rattle.records.specs.Walk.{walk_in, walk_of}
-use Rattle.shared_trees.specs.LivePairs.{Walked, walked}
-use Rattle.shared_trees.specs.MergedLaw.{begins_before, chunks_seen}
-use Rattle.shared_trees.proofs.MergedLists.{map_seen}
-use Rattle.shared_trees.proofs.Premises.{chunks_apart}
-use Rattle.shared_trees.proofs.Treed.{chunk_tree, steps_of}
+use Rattle.tree_laws.specs.LivePairs.{Walked, walked}
+use Rattle.tree_laws.specs.MergedLaw.{begins_before, chunks_seen}
+use Rattle.tree_laws.proofs.MergedLists.{map_seen}
+use Rattle.tree_laws.proofs.Premises.{chunks_apart}
+use Rattle.tree_laws.proofs.Treed.{chunk_tree, steps_of}
 use Rattle.tree_change.proofs.Free.{chunks_ascend}
 use Rattle.tree_change.proofs.Olds.{same_ok}
 use Rattle.change_records.specs.Homes.{StandApart}

@@ -26,8 +26,8 @@ use Rattle.records.specs.Postings.{all_postings, postings_of}
 use Rattle.records.specs.Seen.{Seen, accounted}
 use Rattle.records.specs.Seen.Seen.{BlockSeen, ItemSeen, PointerSeen}
 use Rattle.records.specs.SpacePostings.{extent_length, is_data, place_postings, space_postings}
-use Rattle.shared_trees.specs.LivePairs.{Walked}
-use Rattle.shared_trees.specs.Unshared.{item_seen}
+use Rattle.tree_laws.specs.LivePairs.{Walked}
+use Rattle.tree_laws.specs.Unshared.{item_seen}
 use Rattle.commit_laws.specs.Items.{items_of}
 use Rattle.commit_laws.specs.Same.{records_of}
 use Rattle.commit_laws.proofs.Elements.{Among}

@@ -10,7 +10,7 @@ use Rattle.verdict.specs.Chunks.{holds_range, home}
 use Rattle.verdict.specs.declared.place.Chunk.{Chunk}
 use Rattle.accounts.specs.Context.{home_in}
 use Rattle.accounts.specs.declared.context.Home.{Home}
-use Rattle.shared_trees.specs.MergedLaw.{begins_before}
+use Rattle.tree_laws.specs.MergedLaw.{begins_before}
 use Rattle.touched_blocks.specs.Moves.{AreApart, LieApart}
 use Rattle.change_records.specs.Homes.{StandApart, is_kept, is_like}
 use Rattle.change_records.proofs.HomeLaws.{IsHolder, home_some, nowhere, one_holder}

@@ -27,7 +27,7 @@ use Rattle.records.specs.Part.{AreSectors, IsLawful, Located, Part}
 use Rattle.records.specs.Part.Part.{ExtentPart, FileExtentPart, SumsPart}
 use Rattle.records.specs.Post.{to}
 use Rattle.records.specs.Postings.{all_postings, postings_of}
-use Rattle.shared_trees.specs.LivePairs.{Walked}
+use Rattle.tree_laws.specs.LivePairs.{Walked}
 use Rattle.change_records.specs.Homes.{StandApart, is_kept}
 use Rattle.change_records.specs.Looks.{IsHoused, LiesInExtent, home_of_span, is_empty_shown, is_gone, is_of_extent, is_reached}
 use Rattle.change_records.specs.Spans.{IsLawfulExtent, IsLawfulIn, IsLawfulRange, extent_bytes, extent_span, is_written, shown_span, span_in}

@@ -11,7 +11,7 @@ use Rattle.span_index.specs.declared.span.Span.{Span}
 use Rattle.change_records.specs.Homes.{StandApart}
 use Rattle.change_records.specs.Looks.{AreHoused, IsHoused, home_of_span, is_empty_shown, is_gone, is_of_extent, is_reached}
 use Rattle.change_records.specs.Spans.{AreItemsOf}
-use Rattle.shared_trees.specs.LivePairs.{Walked}
+use Rattle.tree_laws.specs.LivePairs.{Walked}
 use Rattle.accounts.specs.declared.postings.Posting.{Posting}
 use Rattle.records.specs.SpacePostings.{is_to_sector}
 use Rattle.span_index.specs.Sectors.{has_sector, times_of_span}

@@ -5,7 +5,7 @@ use Rattle.accounts.specs.Least.{is_broken_by}
 use Rattle.accounts.specs.declared.account.Account.{Account}
 use Rattle.records.specs.Context.{context_of, has_sum_free}
 use Rattle.records.specs.Postings.{account_fault, all_postings}
-use Rattle.shared_trees.specs.LivePairs.{Walked, live_in, table_of, walked}
+use Rattle.tree_laws.specs.LivePairs.{Walked, live_in, table_of, walked}
 use Rattle.span_index.specs.Sectors.{times_of_span}
 use Rattle.volume_items.specs.declared.root.RootItem.{RootItem}
 use Rattle.commit_laws.specs.Commit.{IsKnown, Known, context_by}
@@ -13,7 +13,8 @@ use Rattle.commit_laws.specs.Same.{HeldLaw, records_of}
 use Rattle.commit_laws.specs.Steps.{spans_of}
 use Rattle.commit_laws.proofs.whole_commits.Commit.{known_same}
 use Rattle.commit_laws.proofs.whole_commits.Step.{known_at}
-use Rattle.commit_laws.proofs.whole_commits.Commit.{full_of, no_fault, none_broken, same_fault}
+use Rattle.commit_laws.proofs.accepted.Blocks.{no_fault, none_broken}
+use Rattle.commit_laws.proofs.whole_commits.Commit.{full_of, same_fault}
 use Rattle.lookup_bounds.specs.Work.{context_in}
 
 -- What is known of an image is what its walks come to, and no account of it is broken.

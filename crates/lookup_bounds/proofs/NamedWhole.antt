@@ -30,11 +30,11 @@ use Rattle.change_records.specs.declared.item_ref.ItemRef.{ItemRef}
 use Rattle.change_records.proofs.ItemLaws.{item_of, stands_of}
 use Rattle.change_records.proofs.Merge.{contains_none, from_one}
 use Rattle.change_records.proofs.PostingLaws.{item_plain}
-use Rattle.shared_trees.specs.LivePairs.{Walked, walked}
-use Rattle.shared_trees.specs.Shared.{are_read_alike}
-use Rattle.shared_trees.specs.Unshared.{items_in}
-use Rattle.shared_trees.proofs.KeptImage.{nodesize_same}
-use Rattle.shared_trees.proofs.Treed.{steps_of}
+use Rattle.tree_laws.specs.LivePairs.{Walked, walked}
+use Rattle.tree_laws.specs.Shared.{are_read_alike}
+use Rattle.tree_laws.specs.Unshared.{items_in}
+use Rattle.tree_laws.proofs.KeptImage.{nodesize_same}
+use Rattle.tree_laws.proofs.Treed.{steps_of}
 use Rattle.touched_blocks.specs.Touched.{written_in}
 use Rattle.tree_change.specs.Change.{IsChange}
 use Rattle.tree_change.specs.Gathered.{located_item}

@@ -22,8 +22,8 @@ use Rattle.records.specs.Postings.{all_postings, postings_of}
 use Rattle.records.specs.Seen.{Seen}
 use Rattle.records.specs.Seen.Seen.{BlockSeen, ItemSeen, PointerSeen}
 use Rattle.records.specs.SpacePostings.{is_to_sector, space_postings}
-use Rattle.shared_trees.specs.LivePairs.{Walked}
-use Rattle.shared_trees.specs.Unshared.{item_seen, items_in}
+use Rattle.tree_laws.specs.LivePairs.{Walked}
+use Rattle.tree_laws.specs.Unshared.{item_seen, items_in}
 use Rattle.super_reader.specs.declared.Super.{Super}
 use Rattle.commit_laws.specs.Items.{items_of}
 use Rattle.commit_laws.specs.Kept.{placed_postings}

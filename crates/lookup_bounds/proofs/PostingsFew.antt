@@ -26,11 +26,11 @@ use Rattle.records.specs.Context.{has_sum_free}
 use Rattle.records.specs.Part.{Located}
 use Rattle.records.specs.Postings.{all_postings, postings_of}
 use Rattle.records.specs.SpacePostings.{rest_postings}
-use Rattle.shared_trees.specs.LivePairs.{Walked, live_in, table_of, walked}
-use Rattle.shared_trees.specs.Shared.{are_read_alike}
-use Rattle.shared_trees.specs.Unshared.{items_in}
-use Rattle.shared_trees.proofs.KeptImage.{nodesize_same}
-use Rattle.shared_trees.proofs.Treed.{steps_of}
+use Rattle.tree_laws.specs.LivePairs.{Walked, live_in, table_of, walked}
+use Rattle.tree_laws.specs.Shared.{are_read_alike}
+use Rattle.tree_laws.specs.Unshared.{items_in}
+use Rattle.tree_laws.proofs.KeptImage.{nodesize_same}
+use Rattle.tree_laws.proofs.Treed.{steps_of}
 use Rattle.touched_blocks.specs.Touched.{written_in}
 use Rattle.tree_change.specs.Change.{IsChange}
 use Rattle.tree_change.specs.Gathered.{located_item}

@@ -7,8 +7,8 @@ use Rattle.std.proofs.lemmas.List.Sorted.{Contains-permutation, IsPermutation-sy
 use Rattle.change_records.specs.declared.item_ref.ItemRef.{ItemRef}
 use Rattle.live_index.specs.declared.live.Live.{Live}
 use Rattle.records.specs.Part.{Located}
-use Rattle.shared_trees.specs.LivePairs.{Walked}
-use Rattle.shared_trees.specs.Unshared.{items_in}
+use Rattle.tree_laws.specs.LivePairs.{Walked}
+use Rattle.tree_laws.specs.Unshared.{items_in}
 use Rattle.commit_laws.specs.Items.{items_of}
 use Rattle.commit_laws.specs.Paired.{ArePaired, anywhere, name_of}
 use Rattle.commit_laws.proofs.steps_between.Records.{HoldApart}

@@ -3,7 +3,7 @@ use Rattle.std.specs.Prelude.{◌≡◌, ℕ, ◌+◌, ◌≤◌, List, length}
 use Rattle.std.specs.Ordering.{nat_cmp}
 use Rattle.std.specs.FinMap.{FinMap}
 use Rattle.write_cache.specs.Cache.{overlaid}
-use Rattle.shared_trees.specs.LivePairs.{Walked}
+use Rattle.tree_laws.specs.LivePairs.{Walked}
 use Rattle.tree_change.specs.LooksLaw.{entries_of}
 use Rattle.tree_change.specs.OneTree.{side_of}
 use Rattle.commit_laws.specs.Commit.{Commit, Known, came_by, gone_by}

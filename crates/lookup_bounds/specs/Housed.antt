@@ -7,7 +7,7 @@ use Rattle.span_index.specs.declared.span.Span.{Span}
 use Rattle.change_records.specs.Homes.{StandApart}
 use Rattle.change_records.specs.Looks.{AreHoused, HaveStops, is_reached}
 use Rattle.change_records.specs.Spans.{AreItemsOf}
-use Rattle.shared_trees.specs.LivePairs.{Walked}
+use Rattle.tree_laws.specs.LivePairs.{Walked}
 use Rattle.commit_laws.specs.Commit.{Commit, Known}
 use Rattle.commit_laws.specs.Items.{items_of}
 use Rattle.lookup_bounds.specs.Postings.{IsPassage}

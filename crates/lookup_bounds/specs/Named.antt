@@ -9,7 +9,7 @@ use Rattle.span_index.specs.declared.span.Span.{Span}
 use Rattle.records.specs.SpacePostings.{is_to_sector}
 use Rattle.change_records.specs.Search.{SpanNames}
 use Rattle.change_records.specs.declared.item_ref.ItemRef.{ItemRef}
-use Rattle.shared_trees.specs.LivePairs.{Walked}
+use Rattle.tree_laws.specs.LivePairs.{Walked}
 use Rattle.commit_laws.specs.Commit.{Commit, Known, came_by, context_by, gone_by}
 use Rattle.commit_laws.specs.Steps.{spans_of}
 use Rattle.lookup_bounds.specs.Postings.{IsPassage}

@@ -3,7 +3,7 @@ use Rattle.std.specs.Prelude.{◌≡◌, ℕ, ◌+◌, ◌*◌, ◌≤◌, List,
 use Rattle.std.specs.Ordering.{nat_cmp}
 use Rattle.std.specs.FinMap.{FinMap}
 use Rattle.write_cache.specs.Cache.{overlaid}
-use Rattle.shared_trees.specs.LivePairs.{Walked, walked}
+use Rattle.tree_laws.specs.LivePairs.{Walked, walked}
 use Rattle.commit_laws.specs.Commit.{Commit, IsCommit, IsKnown, IsMoved, Known, came_by, context_by, gone_by}
 use Rattle.commit_laws.specs.Steps.{step_posts}
 use Rattle.tree_change.specs.Accepted.{unshared_old}

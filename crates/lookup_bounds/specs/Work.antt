@@ -19,8 +19,8 @@ use Rattle.change_records.specs.Affected.{context_with}
 use Rattle.change_records.specs.Looks.{is_turned, spans_of}
 use Rattle.write_cache.specs.Cache.{overlaid}
 use Rattle.touched_blocks.specs.Touched.{written_in}
-use Rattle.shared_trees.specs.LivePairs.{Walked, live_in, walked}
-use Rattle.shared_trees.specs.Shared.{unshared_in}
+use Rattle.tree_laws.specs.LivePairs.{Walked, live_in, walked}
+use Rattle.tree_laws.specs.Shared.{unshared_in}
 use Rattle.tree_change.specs.Accepted.{unshared_old}
 use Rattle.tree_change.specs.LooksLaw.{entries_of}
 use Rattle.tree_change.specs.OneTree.{side_of}

@@ -6,6 +6,7 @@ use Rattle.recon_crc.specs.Checksum.{name_hash_of}
 use Rattle.accounts.specs.declared.account.Account.{Account}
 use Rattle.accounts.specs.declared.postings.Posting.{Posting}
 use Rattle.accounts.specs.Kinds.{inode, inode_type, key_by, link, name_entry}
+use Rattle.accounts.specs.declared.sum.TheConstants.{INODE_OTHERS, TYPE_ENTRIES, ENTRIES_BY_HASH, ENTRIES_BY_INDEX, LINK_ENTRIES, LINK_NAMES}
 use Rattle.accounts.specs.Sums.{total_of}
 use Rattle.accounts.specs.Tally.{Sums}
 use Rattle.inode_tally.specs.Held.{inodes_apart}
@@ -31,15 +32,15 @@ link_of slot = link slot.tree slot.ino slot.dir slot.index (name_of slot)
 
 -- so many entries lead to an inode and say its type
 abbrev pub leads : ℕ → ℕ → ℕ → ℕ → List Posting
-leads tree ino sort count = to (inode tree ino) 1 count ∷ to (inode_type tree ino sort) 0 count ∷ []
+leads tree ino sort count = to (inode tree ino) INODE_OTHERS count ∷ to (inode_type tree ino sort) TYPE_ENTRIES count ∷ []
 
 -- the postings that a slot comes to
 unfoldable pub slot_postings : NameSlot → List Posting
 slot_postings slot =
-    to (entry_of slot) 0 slot.hashed
-    ∷ to (entry_of slot) 1 slot.indexed
-    ∷ to (link_of slot) 0 slot.listed
-    ∷ to (link_of slot) 1 slot.linked
+    to (entry_of slot) ENTRIES_BY_HASH slot.hashed
+    ∷ to (entry_of slot) ENTRIES_BY_INDEX slot.indexed
+    ∷ to (link_of slot) LINK_ENTRIES slot.listed
+    ∷ to (link_of slot) LINK_NAMES slot.linked
     ∷ leads slot.tree slot.ino slot.sort slot.led
 
 -- what slots come to

@@ -5,9 +5,13 @@ ghost use Rattle.fs_items.specs.Lent.{entry_fields, name_fields};
 ghost use Rattle.records.specs.DirPostings.{dir_entry_postings, hashed_postings, indexed_postings, link_postings};
 ghost use Rattle.records.specs.InodePostings.{target_postings};
 ghost use Rattle.records.specs.Post.{to};
+ghost use Rattle.accounts.specs.declared.sum.TheConstants.{ENTRIES_BY_HASH, ENTRIES_BY_INDEX, LINK_ENTRIES, LINK_NAMES};
 ghost use Rattle.name_tally.specs.Names.{entry_of, leads, link_of, name_of, slot_postings};
 ghost use Rattle.name_tally.specs.Slots.{Agrees, AreSame, HasSums, IsAt, IsFree, KeepsBut, KeepsUp, led_in, slot_sums};
 
+use accounts::sum::{
+    ENTRIES_BY_HASH, ENTRIES_BY_INDEX, INODE_OTHERS, LINK_ENTRIES, LINK_NAMES, TYPE_ENTRIES,
+};
 use accounts::{Account, Posting, Postings};
 use fs_items::{DirEntry, NameAt};
 use recon_crc::name_hash;
@@ -246,7 +250,7 @@ impl NameSlot {
     // Adds an entry by its hash, or gives `false` where a sum would pass 255.
     fn more_hashed(&mut self) -> bool
         ensures { KeepsUp (slot_sums self.old) (slot_sums self.new)
-            (if result then to (entry_of self.old) 0 1
+            (if result then to (entry_of self.old) ENTRIES_BY_HASH 1
             ∷ leads self.old.tree self.old.ino self.old.sort 1 else []) }
     {
         let Some(led) = self.led.checked_add(1) else {
@@ -264,7 +268,8 @@ impl NameSlot {
     // Adds an entry by its index and the link that it is, or gives `false` where a sum would pass 255.
     fn more_indexed(&mut self) -> bool
         ensures { KeepsUp (slot_sums self.old) (slot_sums self.new)
-            (if result then to (entry_of self.old) 1 1 ∷ to (link_of self.old) 0 1
+            (if result then to (entry_of self.old) ENTRIES_BY_INDEX 1
+            ∷ to (link_of self.old) LINK_ENTRIES 1
             ∷ leads self.old.tree self.old.ino self.old.sort 1 else []) }
     {
         let Some(led) = self.led.checked_add(1) else {
@@ -287,7 +292,7 @@ impl NameSlot {
     // Adds a link of the inode, or gives `false` where the sum would pass 255.
     fn more_linked(&mut self) -> bool
         ensures { KeepsUp (slot_sums self.old) (slot_sums self.new)
-            (if result then to (link_of self.old) 1 1 ∷ [] else []) }
+            (if result then to (link_of self.old) LINK_NAMES 1 ∷ [] else []) }
     {
         let Some((linked, listed)) = more(self.linked, self.listed) else {
             return false;
@@ -340,28 +345,28 @@ pub fn post_slot(alloc: Global, slot: &NameSlot, into: &mut Postings) -> Result<
     into.push_all([
         Posting::to(
             Account::name_entry(alloc, tree, dir, hash, location, name, sort)?,
-            0,
+            ENTRIES_BY_HASH,
             u64::from(slot.hashed),
         ),
         Posting::to(
             Account::name_entry(alloc, tree, dir, hash, location, name, sort)?,
-            1,
+            ENTRIES_BY_INDEX,
             u64::from(slot.indexed),
         ),
         Posting::to(
             Account::link(alloc, tree, ino, dir, slot.index, name)?,
-            0,
+            LINK_ENTRIES,
             u64::from(slot.listed),
         ),
         Posting::to(
             Account::link(alloc, tree, ino, dir, slot.index, name)?,
-            1,
+            LINK_NAMES,
             u64::from(slot.linked),
         ),
-        Posting::to(Account::inode(alloc, tree, ino), 1, u64::from(slot.led)),
+        Posting::to(Account::inode(alloc, tree, ino), INODE_OTHERS, u64::from(slot.led)),
         Posting::to(
             Account::inode_type(alloc, tree, ino, sort),
-            0,
+            TYPE_ENTRIES,
             u64::from(slot.led),
         ),
     ])

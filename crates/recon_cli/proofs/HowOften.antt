@@ -5,7 +5,7 @@ use Rattle.verdict.specs.declared.finding.Finding.{Finding}
 use Rattle.verdict.specs.declared.machine.Event.{Event}
 use Rattle.verdict.specs.declared.machine.Answer.{Answer}
 use Rattle.verdict.specs.declared.machine.Answer.TheVariants.{Held, Fetched, Passed, Rejected}
-use Rattle.shared_trees.specs.LivePairs.{Walked, live_in}
+use Rattle.tree_laws.specs.LivePairs.{Walked, live_in}
 use Rattle.recon_core.specs.declared.checker.Checker.{Checker}
 use Rattle.recon_core.specs.Machine.{MachineState, first_state, machine_step}
 use Rattle.lookup_bounds.specs.Work.{starting_work}

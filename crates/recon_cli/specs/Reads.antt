@@ -1,7 +1,7 @@
 -- How often a replay reads the disk.
 use Rattle.std.specs.Prelude.{ℕ, ◌≡◌, ◌+◌, ◌*◌, ◌≤◌, List, [], ◌∷◌, length, Ok}
 use Rattle.verdict.specs.declared.machine.Event.{Event}
-use Rattle.shared_trees.specs.LivePairs.{Walked, live_in, walked}
+use Rattle.tree_laws.specs.LivePairs.{Walked, live_in, walked}
 use Rattle.recon_core.specs.Machine.{MachineState, first_state, machine_step}
 use Rattle.recon_core.specs.Reads.{reads_of}
 use Rattle.trace_reader.specs.Trace.{Ending, IsTrace}

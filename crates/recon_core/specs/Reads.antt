@@ -3,7 +3,7 @@ use Rattle.std.specs.Prelude.{ℕ, ◌≡◌, ◌+◌, ◌*◌, ◌≤◌, List,
 use Rattle.verdict.specs.declared.finding.Finding.{Finding}
 use Rattle.verdict.specs.declared.machine.Answer.{Answer}
 use Rattle.verdict.specs.declared.machine.Answer.TheVariants.{Held, Fetched, Passed, Rejected}
-use Rattle.shared_trees.specs.LivePairs.{Walked, live_in, walked}
+use Rattle.tree_laws.specs.LivePairs.{Walked, live_in, walked}
 use Rattle.recon_core.specs.declared.checker.Checker.{Checker}
 use Rattle.recon_core.specs.declared.checker.Started.{Started}
 use Rattle.recon_core.specs.declared.checker.Started.TheVariants.{Ready, Refused}

@@ -28,7 +28,7 @@ use Rattle.records.specs.declared.rec.Rec.TheVariants.{RootItem as ARootItem, Ro
 use Rattle.records.specs.declared.rec.RecAt.{RecAt}
 use Rattle.extent_items.specs.References.{references_of}
 use Rattle.records.specs.declared.rec.OwnedRec.{OwnedRec}
-use Rattle.records.specs.declared.rec.OwnedRec.TheVariants.{RootItem, RootLink, DeviceItem, ChunkItem, DevExtent, ExtentItem, KeyedRef, GroupItem, InodeItem, InodeRef, Xattr, Orphan, DirItem, FileExtent, SumRun, Unread, Super, Block}
+use Rattle.records.specs.declared.rec.OwnedRec.TheVariants.{RootItem as OwnRootItem, RootLink as OwnRootLink, DeviceItem as OwnDeviceItem, ChunkItem as OwnChunkItem, DevExtent as OwnDevExtent, ExtentItem as OwnExtentItem, KeyedRef as OwnKeyedRef, GroupItem as OwnGroupItem, InodeItem as OwnInodeItem, InodeRef as OwnInodeRef, Xattr as OwnXattr, Orphan as OwnOrphan, DirItem as OwnDirItem, FileExtent as OwnFileExtent, SumRun as OwnSumRun, Unread as OwnUnread, Super as OwnSuper, Block as OwnBlock}
 
 -- what a record says: one sort for each reader of items; the bytes of an item that stays unread; the bytes_used of the superblock; the
 -- address and the level of a block
@@ -82,24 +82,24 @@ part_of (ABlock address level) = BlockPart address level
 
 -- what a record says that owns its bytes: the same as the lent one
 abbrev pub owned_part : OwnedRec → Part
-owned_part (RootItem item) = RootPart item
-owned_part (RootLink key dirid sequence name) = LinkPart (record { key = key; dirid = dirid; sequence = sequence; name = name })
-owned_part (DeviceItem item) = DevicePart item
-owned_part (ChunkItem key length class stripes) = ChunkPart (record { key = key; length = length; class = class; stripes = stripes_of stripes })
-owned_part (DevExtent item) = DevExtentPart item
-owned_part (ExtentItem key refs generation flags references) = ExtentPart (record { key = key; refs = refs; generation = generation; flags = flags; references = references_of references })
-owned_part (KeyedRef item) = KeyedPart item
-owned_part (GroupItem item) = GroupPart item
-owned_part (InodeItem item) = InodePart item
-owned_part (InodeRef key bytes) = NamesPart (record { key = key; names = names_from key bytes 0 })
-owned_part (Xattr item) = XattrPart item
-owned_part (Orphan item) = OrphanPart item
-owned_part (DirItem key bytes) = EntriesPart (record { key = key; entries = entries_from bytes 0 })
-owned_part (FileExtent item) = FileExtentPart item
-owned_part (SumRun key sums) = SumsPart (record { key = key; sums = sums })
-owned_part (Unread bytes) = UnreadPart bytes
-owned_part (Super bytes_used) = SuperPart bytes_used
-owned_part (Block address level) = BlockPart address level
+owned_part (OwnRootItem item) = RootPart item
+owned_part (OwnRootLink key dirid sequence name) = LinkPart (record { key = key; dirid = dirid; sequence = sequence; name = name })
+owned_part (OwnDeviceItem item) = DevicePart item
+owned_part (OwnChunkItem key length class stripes) = ChunkPart (record { key = key; length = length; class = class; stripes = stripes_of stripes })
+owned_part (OwnDevExtent item) = DevExtentPart item
+owned_part (OwnExtentItem key refs generation flags references) = ExtentPart (record { key = key; refs = refs; generation = generation; flags = flags; references = references_of references })
+owned_part (OwnKeyedRef item) = KeyedPart item
+owned_part (OwnGroupItem item) = GroupPart item
+owned_part (OwnInodeItem item) = InodePart item
+owned_part (OwnInodeRef key bytes) = NamesPart (record { key = key; names = names_from key bytes 0 })
+owned_part (OwnXattr item) = XattrPart item
+owned_part (OwnOrphan item) = OrphanPart item
+owned_part (OwnDirItem key bytes) = EntriesPart (record { key = key; entries = entries_from bytes 0 })
+owned_part (OwnFileExtent item) = FileExtentPart item
+owned_part (OwnSumRun key sums) = SumsPart (record { key = key; sums = sums })
+owned_part (OwnUnread bytes) = UnreadPart bytes
+owned_part (OwnSuper bytes_used) = SuperPart bytes_used
+owned_part (OwnBlock address level) = BlockPart address level
 
 -- a lent record where it stands
 abbrev pub located : RecAt → Located

@@ -1,6 +1,7 @@
 -- Where runs begin and end. It serves to state what private functions keep of runs.
 use Rattle.std.specs.Prelude.{◌≡◌, ℕ, zero, suc, ◌+◌, ◌≤◌, ◌==◌, true, false, Option, Some, None, IsSome, if◌then◌else◌}
 use Rattle.verdict.specs.Items.{is_multiple}
+use Rattle.accounts.specs.declared.sum.TheConstants.{SECTOR_EXTENTS, SECTOR_DATA, SECTOR_SUMS, SECTOR_SHOWN}
 use Rattle.sector_runs.specs.declared.edge.Edge.{Edge}
 use Rattle.sector_runs.specs.declared.edge.Edges.{Edges}
 
@@ -11,10 +12,10 @@ no_edge = record { begins = 0; ends = 0 }
 -- what begins and ends in one sum
 abbrev pub edge_of : Edges → ℕ → Edge
 edge_of edges field =
-    if field == 0 then edges.owned else
-    (if field == 1 then edges.of_data else
-    (if field == 2 then edges.summed else
-    (if field == 3 then edges.shown else no_edge)))
+    if field == SECTOR_EXTENTS then edges.owned else
+    (if field == SECTOR_DATA then edges.of_data else
+    (if field == SECTOR_SUMS then edges.summed else
+    (if field == SECTOR_SHOWN then edges.shown else no_edge)))
 
 -- how many runs begin, and how many end
 abbrev pub begins : ℕ → Edges → ℕ

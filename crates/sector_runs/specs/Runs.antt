@@ -2,6 +2,7 @@
 use Rattle.std.specs.Prelude.{ℕ, ◌+◌, ◌*◌, ◌<◌, ◌^◌, ◌≡◌, true, false, Bool, ◌&&◌, ◌||◌, ◌==◌, nat_le, nat_lt, Option, Some, None, if◌then◌else◌}
 use Rattle.verdict.specs.Items.{is_multiple}
 use Rattle.accounts.specs.Kinds.{sector}
+use Rattle.accounts.specs.declared.sum.TheConstants.{SECTOR_EXTENTS, SECTOR_DATA, SECTOR_SUMS, SECTOR_SHOWN}
 use Rattle.accounts.specs.Broken.{is_broken}
 use Rattle.sector_runs.specs.declared.run.SectorRun.{SectorRun}
 use Rattle.sector_runs.specs.declared.run.SectorUse.{SectorUse}
@@ -17,10 +18,10 @@ has_sector run address = is_multiple address && (nat_le run.first address && nat
 
 -- which sums of a sector a use of it counts in: an extent of file data has it, one of a tree block has it, it has a checksum, a file shows it
 abbrev pub counts_in : SectorUse → ℕ → Bool
-counts_in Data field = field == 0 || field == 1
-counts_in Block field = field == 0
-counts_in Summed field = field == 2
-counts_in Shown field = field == 3
+counts_in Data field = field == SECTOR_EXTENTS || field == SECTOR_DATA
+counts_in Block field = field == SECTOR_EXTENTS
+counts_in Summed field = field == SECTOR_SUMS
+counts_in Shown field = field == SECTOR_SHOWN
 
 -- what a run adds to the sums of a sector
 unfoldable pub amount_of : SectorRun → SectorSums

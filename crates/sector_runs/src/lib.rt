@@ -7,4 +7,4 @@ mod run;
 mod sectors;
 
 pub use kept::Sectors;
-pub use run::{SECTOR, SectorRun, SectorUse};
+pub use run::{SectorRun, SectorUse};

@@ -1,8 +1,5 @@
 //! Runs of sectors.
 
-/// The size of a sector in bytes.
-pub const SECTOR: u64 = 4096;
-
 /// What sectors are used for.
 #[derive(Clone, Copy, Debug, PartialEq, Eq)]
 pub enum SectorUse {

@@ -11,12 +11,13 @@ ghost use Rattle.sector_runs.specs.Runs.{IsFit, IsLeastBroken, no_sectors, with_
 
 use crate::edge::{Edge, Edges};
 use crate::kept::Sectors;
-use crate::run::{SECTOR, SectorRun};
+use crate::run::SectorRun;
+use accounts::sum::{SECTOR_DATA, SECTOR_EXTENTS, SECTOR_SHOWN, SECTOR_SUMS};
 use accounts::{Totals, sector_keeps};
 use std::alloc::Global;
 use std::collections::BTreeMap;
 use std::collections::btree_map::Entry;
-use verdict::NoMemory;
+use verdict::{NoMemory, SECTOR};
 
 impl Sectors {
     /// The sums of no runs. They take their memory from this allocator.
@@ -96,10 +97,11 @@ fn pass(totals: &mut Totals, edges: &Edges) -> bool
     ensures most { (field : ℕ) → sum_in totals.new field ≤ sum_in totals.old field + 2 ^ 64 }
     ensures keeps { result ≡ sector_keeps (sum_in totals.new) }
 {
-    totals.f[0] = passed(totals.f[0], edges.owned);
-    totals.f[1] = passed(totals.f[1], edges.of_data);
-    totals.f[2] = passed(totals.f[2], edges.summed);
-    totals.f[3] = passed(totals.f[3], edges.shown);
+    let f = &mut totals.f;
+    f[SECTOR_EXTENTS as usize] = passed(f[SECTOR_EXTENTS as usize], edges.owned);
+    f[SECTOR_DATA as usize] = passed(f[SECTOR_DATA as usize], edges.of_data);
+    f[SECTOR_SUMS as usize] = passed(f[SECTOR_SUMS as usize], edges.summed);
+    f[SECTOR_SHOWN as usize] = passed(f[SECTOR_SHOWN as usize], edges.shown);
     sector_keeps(totals)
 }
 

@@ -18,12 +18,12 @@ use Rattle.verdict.proofs.Answers.{ok_follows}
 use Rattle.verdict.proofs.Lists.{all_map}
 use Rattle.verdict.proofs.Numbers.{itself}
 use Rattle.shared_trees.specs.declared.starts.Listed.{Listed}
-use Rattle.shared_trees.specs.declared.starts.Start.{Start}
-use Rattle.shared_trees.specs.Keeping.{Marks, Under}
-use Rattle.shared_trees.specs.Listed.{AreChildren, AreListedBy, Ascend, IsChild, is_at, is_before}
-use Rattle.shared_trees.proofs.Ordering.{before_trans, same_place}
+use Rattle.tree_laws.specs.declared.told.Start.{Start}
+use Rattle.tree_laws.specs.Keeping.{Marks, Under}
+use Rattle.tree_laws.specs.Listed.{AreChildren, AreListedBy, Ascend, IsChild, is_at, is_before}
+use Rattle.tree_laws.proofs.Ordering.{before_trans, same_place}
 use Rattle.shared_trees.specs.Under.{no_starts, starts_or}
-use Rattle.shared_trees.specs.Listing.{IsChildAt, rank_of, with_child, with_start}
+use Rattle.tree_laws.specs.Listing.{IsChildAt, rank_of, with_child, with_start}
 
 -- the rank, child by child
 pub rank_here : (start : Start) (starts : List Start) (i : ℕ) (d : Start) → i < length starts → is_before (get_or starts i d) start ≡ false → rank_of start (drop i starts) ≡ 0

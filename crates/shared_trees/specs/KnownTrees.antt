@@ -7,13 +7,13 @@ use Rattle.touched_blocks.specs.Marks.{marked_by}
 use Rattle.touched_blocks.specs.Moves.{move_passes}
 use Rattle.node_reader.specs.declared.expect.Expect.{Expect}
 use Rattle.shared_trees.specs.declared.known.KnownTree.{KnownTree}
-use Rattle.shared_trees.specs.Ending.{Held, Lasts}
-use Rattle.shared_trees.specs.Keeping.{anew_of, kept_of}
-use Rattle.shared_trees.specs.Known.{blocks_met, last_of}
-use Rattle.shared_trees.specs.Meeting.{Met}
-use Rattle.shared_trees.specs.Skips.{Anew, Kept}
+use Rattle.tree_laws.specs.Ending.{Held, Lasts}
+use Rattle.tree_laws.specs.Keeping.{anew_of, kept_of}
+use Rattle.tree_laws.specs.Known.{blocks_met, last_of}
+use Rattle.tree_laws.specs.Meeting.{Met}
+use Rattle.tree_laws.specs.Skips.{Anew, Kept}
 use Rattle.shared_trees.specs.Under.{under_of}
-use Rattle.shared_trees.specs.Visits.{is_found}
+use Rattle.tree_laws.specs.Visits.{is_found}
 
 -- the blocks that are kept: those that the table knows as they are expected, that have no mark and that stand where they stood
 abbrev pub kept_by : {L : Type 0} → KnownTree L → Kept

@@ -6,11 +6,11 @@ use Rattle.live_index.specs.Table.{pairs_of}
 use Rattle.node_reader.specs.declared.expect.Expect.{Expect}
 use Rattle.shared_trees.specs.declared.old.OldTree.{OldTree}
 use Rattle.shared_trees.specs.declared.stops.Stops.{Stops}
-use Rattle.shared_trees.specs.Ending.{Held, Lasts}
-use Rattle.shared_trees.specs.Keeping.{anew_of}
-use Rattle.shared_trees.specs.Meeting.{Met}
-use Rattle.shared_trees.specs.Skips.{Anew, Kept}
-use Rattle.shared_trees.specs.Stopping.{has_address, kept_among}
+use Rattle.tree_laws.specs.Ending.{Held, Lasts}
+use Rattle.tree_laws.specs.Keeping.{anew_of}
+use Rattle.tree_laws.specs.Meeting.{Met}
+use Rattle.tree_laws.specs.Skips.{Anew, Kept}
+use Rattle.tree_laws.specs.Stopping.{has_address, kept_among}
 use Rattle.shared_trees.specs.Under.{under_of}
 
 -- whether a stop has an address

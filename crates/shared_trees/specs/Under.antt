@@ -3,7 +3,7 @@ use Rattle.std.specs.Prelude.{ℕ, List, [], Option, Some, None}
 use Rattle.std.specs.BTreeMap as map
 use Rattle.touched_blocks.specs.Marks.{by_pair, pair_place}
 use Rattle.shared_trees.specs.declared.starts.Listed.{Listed}
-use Rattle.shared_trees.specs.declared.starts.Start.{Start}
+use Rattle.tree_laws.specs.declared.told.Start.{Start}
 use Rattle.shared_trees.specs.declared.starts.Starts.{Starts}
 
 -- no children

@@ -7,11 +7,11 @@ ghost use Rattle.block_source.specs.Counts.{ReadsCopies};
 ghost use Rattle.block_source.specs.Gives.{is_disk_halt};
 ghost use Rattle.block_source.specs.Takes.{ReadsInto};
 ghost use Rattle.node_reader.specs.Layout.{level_of};
-ghost use Rattle.shared_trees.specs.Ending.{Holds, HoldsLast, ends_in, key_or, last_item, with_ended};
-ghost use Rattle.shared_trees.specs.KeepingWalk.{skip_in};
-ghost use Rattle.shared_trees.specs.Meeting.{Meets, met_in};
-ghost use Rattle.shared_trees.specs.Skips.{is_below};
-ghost use Rattle.shared_trees.specs.Visits.{LooksFew, visits_in};
+ghost use Rattle.tree_laws.specs.Ending.{Holds, HoldsLast, ends_in, key_or, last_item, with_ended};
+ghost use Rattle.tree_laws.specs.KeepingWalk.{skip_in};
+ghost use Rattle.tree_laws.specs.Meeting.{Meets, met_in};
+ghost use Rattle.tree_laws.specs.Skips.{is_below};
+ghost use Rattle.tree_laws.specs.Visits.{LooksFew, visits_in};
 
 use crate::keeps::Keeps;
 use block_source::{BlockSource, Halt, child_at, read_block, take_own, walk_into};

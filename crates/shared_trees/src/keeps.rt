@@ -4,31 +4,14 @@ ghost use Rattle.std.specs.Prelude.{◌≡◌, ℕ, Bool, true, ◌+◌, ◌-◌
 ghost use Rattle.std.specs.Borrow.{GName};
 ghost use Rattle.live_index.specs.Pairs.{Pairs};
 ghost use Rattle.node_reader.specs.declared.expect.Expect.{Expect};
-ghost use Rattle.shared_trees.specs.Ending.{Held, Lasts, with_ended};
-ghost use Rattle.shared_trees.specs.Meeting.{Met as HeldMet, with_met};
-ghost use Rattle.shared_trees.specs.Skips.{Anew, Kept};
+ghost use Rattle.tree_laws.specs.Ending.{Held, Lasts, with_ended};
+ghost use Rattle.tree_laws.specs.Meeting.{Met as HeldMet, with_met};
+ghost use Rattle.tree_laws.specs.Skips.{Anew, Kept};
 
 use live_index::Live;
 use node_reader::Expect;
+use tree_laws::{Ended, Met};
 use verdict::{Key, NoMemory};
-
-/// A block that a walk is done with, and the greatest key of an item in it or below it, (0, 0, 0) where there is none.
-#[derive(Clone, Copy, Debug, PartialEq, Eq)]
-pub struct Ended {
-    /// The block as it was expected.
-    pub expect: Expect,
-    /// The greatest key.
-    pub last: Key,
-}
-
-/// A kept block that a walk met, and what a table of live pairs has of it.
-#[derive(Clone, Copy, Debug, PartialEq, Eq)]
-pub struct Met {
-    /// The block as it was expected.
-    pub expect: Expect,
-    /// Its pair in the table.
-    pub live: Option<Live>,
-}
 
 /// What says which blocks a walk keeps without reading them, and to which blocks it goes on below each of them.
 pub trait Keeps {

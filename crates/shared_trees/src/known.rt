@@ -6,17 +6,18 @@ ghost use Rattle.std.proofs.Props.{props};
 ghost use Rattle.live_index.specs.Table.{pairs_of};
 ghost use Rattle.touched_blocks.specs.Marks.{marked_by};
 ghost use Rattle.touched_blocks.specs.Moves.{move_passes};
-ghost use Rattle.shared_trees.specs.Keeping.{anew_of, bound_of, is_first, is_same, last_if_same, or_high, start_of, starts_of};
-ghost use Rattle.shared_trees.specs.Known.{AreMetBy, is_last_walked};
+ghost use Rattle.tree_laws.specs.Keeping.{anew_of, bound_of, is_first, is_same, last_if_same, or_high, start_of, starts_of};
+ghost use Rattle.tree_laws.specs.Known.{AreMetBy, is_last_walked};
 ghost use Rattle.shared_trees.specs.Under.{under_of};
-ghost use Rattle.shared_trees.specs.Visits.{is_found};
+ghost use Rattle.tree_laws.specs.Visits.{is_found};
 
-use crate::keeps::{Ended, Keeps, Met};
-use crate::starts::{Start, Starts};
+use crate::keeps::Keeps;
+use crate::starts::Starts;
 use live_index::{InKeyOrder, Live, LiveIndex};
 use node_reader::Expect;
 use recon_disk::Steps;
 use touched_blocks::{AddressTest, Marks, Move};
+use tree_laws::{Ended, Met, Start};
 use verdict::{Key, NoMemory};
 
 /// What is known of a tree as it was: its live pairs, marks on those that are not kept, which blocks stand at another place now, and the

@@ -1,27 +1,17 @@
-//! What the trees of two images share: live pairs, the walk of a tree that keeps shared blocks, and its laws.
+//! The walk of a tree that keeps the blocks that two images share, and what says which these are.
 #![tactic(auto)]
 
 mod changed;
 mod keeps;
 mod known;
-mod laws;
 mod old;
 mod starts;
 mod stops;
 
 pub use changed::walk_changed;
-pub use keeps::{Ended, Keeps, Met};
+pub use keeps::Keeps;
 pub use known::KnownTree;
-pub use laws::{
-    among_leads_law, array_apart_law, array_kept_law, array_law, array_moves_law,
-    array_shifted_law, array_sound_law, array_walks_law, chunk_tree_law, chunks_merged_law,
-    ends_law, gone_law, keeping_law, kept_law, kept_tree_law, kept_where_law, known_shared_law,
-    last_law, leads_law, listing_law, lists_seen_law, lives_law, map_seen_law, marking_law,
-    marks_law, meeting_law, merged_law, moved_law, moves_law, narrow_law, old_leads_law,
-    old_side_law, read_alike_law, reads_twice_law, roots_merged_law, roots_seen_law, shifted_law,
-    skipping_law, stops_law, stops_rest_law, stored_alike_law, supers_law, table_law, tables_law,
-    tells_law, tree_table_law, trees_law, unshared_law, visits_law, walk_is_own,
-};
 pub use old::OldTree;
-pub use starts::{Start, Starts};
+pub use starts::Starts;
 pub use stops::Stops;
+pub use tree_laws::{Ended, Met, Start};

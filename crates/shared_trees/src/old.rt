@@ -2,8 +2,8 @@
 
 ghost use Rattle.std.specs.Prelude.{◌≡◌, ℕ, ◌+◌, ◌-◌, ◌∷◌, ◌<◌, length, drop, IfOk};
 ghost use Rattle.live_index.specs.Table.{pairs_of};
-ghost use Rattle.shared_trees.specs.Keeping.{anew_of, bound_of, is_same, start_of, starts_of};
-ghost use Rattle.shared_trees.specs.Known.{AreMetBy};
+ghost use Rattle.tree_laws.specs.Keeping.{anew_of, bound_of, is_same, start_of, starts_of};
+ghost use Rattle.tree_laws.specs.Known.{AreMetBy};
 ghost use Rattle.shared_trees.specs.Under.{under_of};
 
 use crate::keeps::Keeps;

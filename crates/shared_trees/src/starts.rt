@@ -3,9 +3,9 @@
 ghost use Rattle.std.specs.Prelude.{◌≡◌, ℕ, ◌+◌, ◌*◌, ◌≤◌, IfOk, OnOk};
 ghost use Rattle.live_index.specs.Table.{pairs_of};
 ghost use Rattle.touched_blocks.specs.Marks.{count_of, marked_by, with_mark};
-ghost use Rattle.shared_trees.specs.Keeping.{Marks as IsMarked};
-ghost use Rattle.shared_trees.specs.Listed.{AreListedBy, is_before, up_to};
-ghost use Rattle.shared_trees.specs.Listing.{IsChildAt, rank_of, with_child, with_start};
+ghost use Rattle.tree_laws.specs.Keeping.{Marks as IsMarked};
+ghost use Rattle.tree_laws.specs.Listed.{AreListedBy, is_before, up_to};
+ghost use Rattle.tree_laws.specs.Listing.{IsChildAt, rank_of, with_child, with_start};
 ghost use Rattle.shared_trees.specs.Under.{no_starts, under_of};
 
 use live_index::LiveIndex;
@@ -14,16 +14,8 @@ use recon_disk::Steps;
 use std::alloc::Global;
 use std::collections::BTreeMap;
 use touched_blocks::{Marks, PairPlace, parent_of};
+use tree_laws::Start;
 use verdict::{Key, NoMemory};
-
-/// A child that is walked below a block that is not read.
-#[derive(Clone, Copy, Debug, PartialEq, Eq)]
-pub struct Start {
-    /// Its pointer in that block.
-    pub pointer: Pointer,
-    /// The key of the next pointer, where one follows.
-    pub next: Option<Key>,
-}
 
 // The children that are walked below one block.
 #[derive(Drop)]

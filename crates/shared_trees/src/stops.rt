@@ -2,12 +2,12 @@
 
 ghost use Rattle.std.specs.Prelude.{◌≡◌, ℕ, IfOk};
 ghost use Rattle.std.specs.List.Sorted.{IsNonDecreasingBy};
-ghost use Rattle.shared_trees.specs.Known.{blocks_met};
-ghost use Rattle.shared_trees.specs.Stopping.{addresses_of, has_address};
-ghost use Rattle.shared_trees.specs.Stops.{is_stop};
+ghost use Rattle.tree_laws.specs.Known.{blocks_met};
+ghost use Rattle.tree_laws.specs.Stopping.{addresses_of, has_address};
+ghost use Rattle.tree_laws.specs.Stops.{is_stop};
 
-use crate::keeps::Met;
 use std::alloc::Global;
+use tree_laws::Met;
 use verdict::NoMemory;
 
 /// The blocks at which the walk of a tree as it was stops: those that the walk of the tree as it is met, in the order of that walk. Their
@@ -24,7 +24,7 @@ pub struct Stops<'m> {
 impl<'m> Stops<'m> {
     ghost use Rattle.std.specs.Prelude.{IfSome, true};
     ghost use Rattle.live_index.specs.Pairs.{Pairs};
-    ghost use Rattle.shared_trees.specs.Known.{AreMetBy};
+    ghost use Rattle.tree_laws.specs.Known.{AreMetBy};
     ghost use Rattle.shared_trees.specs.OldTrees.{is_stopped};
 
     /// The blocks that a walk met. Their addresses take their memory from this allocator.

@@ -29,26 +29,26 @@ use Rattle.touched_blocks.specs.Marks.{AreAmong, Marked, in_lives}
 use Rattle.touched_blocks.specs.Moves.{is_moved}
 use Rattle.touched_blocks.specs.Spots.{at_address}
 use Rattle.touched_blocks.specs.Touched.{stays_in_place, written_in}
-use Rattle.shared_trees.specs.ArrayLaw.{EachByArray, HasArray, IsAsByAll, moves_by}
-use Rattle.shared_trees.specs.Keeping.{IsKnown, OneOf, Stands, comes_to, live_at}
-use Rattle.shared_trees.specs.LivePairs.{Walked, live_in, table_of, walked}
-use Rattle.shared_trees.specs.Shared.{are_alike, are_read_alike, is_shared, is_shared_by, stands_untouched}
-use Rattle.shared_trees.specs.SharedLaw.{HasTrees, MarksTouched, moves_between, touches_old}
-use Rattle.shared_trees.specs.TableLaw.{Tree, trees_in}
-use Rattle.shared_trees.proofs.Accepted.{accepts}
-use Rattle.shared_trees.proofs.ArrayKept.{moves_same}
-use Rattle.shared_trees.proofs.ArrayPlaces.{as_by_all}
-use Rattle.shared_trees.proofs.Forest.{lives_all, tables_stand}
-use Rattle.shared_trees.proofs.KeptImage.{IsOfImage, of_image}
-use Rattle.shared_trees.proofs.MarkedTrees.{marks_image}
-use Rattle.shared_trees.proofs.Picking.{comes_there, each_both, is_at, is_there, one_of, table_some, there_trees}
-use Rattle.shared_trees.proofs.Premises.{chunks_apart}
-use Rattle.shared_trees.proofs.Tables.{Any, any_each}
-use Rattle.shared_trees.proofs.Trails.{trail_below, trail_of}
-use Rattle.shared_trees.proofs.Treed.{chunk_tree, has_trees, nodesize_some, steps_of, trees_walk}
-use Rattle.shared_trees.proofs.Untouching.{free_all, is_free}
-use Rattle.shared_trees.proofs.Visiting.{Visits, comes_from, visits_from}
-use Rattle.shared_trees.proofs.Within.{Below, within}
+use Rattle.tree_laws.specs.ArrayLaw.{EachByArray, HasArray, IsAsByAll, moves_by}
+use Rattle.tree_laws.specs.Keeping.{IsKnown, OneOf, Stands, comes_to, live_at}
+use Rattle.tree_laws.specs.LivePairs.{Walked, live_in, table_of, walked}
+use Rattle.tree_laws.specs.Shared.{are_alike, are_read_alike, is_shared, is_shared_by, stands_untouched}
+use Rattle.tree_laws.specs.SharedLaw.{HasTrees, MarksTouched, moves_between, touches_old}
+use Rattle.tree_laws.specs.TableLaw.{Tree, trees_in}
+use Rattle.tree_laws.proofs.Accepted.{accepts}
+use Rattle.tree_laws.proofs.ArrayKept.{moves_same}
+use Rattle.tree_laws.proofs.ArrayPlaces.{as_by_all}
+use Rattle.tree_laws.proofs.Forest.{lives_all, tables_stand}
+use Rattle.tree_laws.proofs.KeptImage.{IsOfImage, of_image}
+use Rattle.tree_laws.proofs.MarkedTrees.{marks_image}
+use Rattle.tree_laws.proofs.Picking.{comes_there, each_both, is_at, is_there, one_of, table_some, there_trees}
+use Rattle.tree_laws.proofs.Premises.{chunks_apart}
+use Rattle.tree_laws.proofs.Tables.{Any, any_each}
+use Rattle.tree_laws.proofs.Trails.{trail_below, trail_of}
+use Rattle.tree_laws.proofs.Treed.{chunk_tree, has_trees, nodesize_some, steps_of, trees_walk}
+use Rattle.tree_laws.proofs.Untouching.{free_all, is_free}
+use Rattle.tree_laws.proofs.Visiting.{Visits, comes_from, visits_from}
+use Rattle.tree_laws.proofs.Within.{Below, within}
 use Rattle.tree_change.specs.Accepted.{AcceptedLaw, IsWellFormed, AreMarkedTouched, AreUnshared, IsWalked, MovesByArray, unshared_old}
 use Rattle.tree_change.proofs.Copies.{copies_unmet}
 use Rattle.tree_change.proofs.Levels.{trees_low}

@@ -14,10 +14,10 @@ use Rattle.records.specs.Contents.{chunk_map_in, contents}
 use Rattle.touched_blocks.specs.Marks.{marked_by}
 use Rattle.touched_blocks.specs.Touched.{written_in}
 use Rattle.touched_blocks.specs.declared.marks.PairPlace.{PairPlace}
-use Rattle.shared_trees.specs.LivePairs.{Walked, walked}
-use Rattle.shared_trees.specs.Shared.{unshared_in}
-use Rattle.shared_trees.specs.SharedLaw.{HasTrees}
-use Rattle.shared_trees.specs.TableLaw.{trees_in}
+use Rattle.tree_laws.specs.LivePairs.{Walked, walked}
+use Rattle.tree_laws.specs.Shared.{unshared_in}
+use Rattle.tree_laws.specs.SharedLaw.{HasTrees}
+use Rattle.tree_laws.specs.TableLaw.{trees_in}
 use Rattle.tree_change.specs.AllTrees.{AreAllParts, with_parts}
 use Rattle.tree_change.specs.Change.{IsChange, is_before, item_before}
 use Rattle.tree_change.specs.Compared.{FindsRest, FitsCompared, HasNewArray, IsCompared, MakesMap, MakesRest, judged_by}

@@ -32,16 +32,16 @@ use Rattle.touched_blocks.specs.Moves.{AreApart, is_moved}
 use Rattle.touched_blocks.specs.OneTree.{in_tree, of_tree}
 use Rattle.touched_blocks.specs.Spots.{at_address}
 use Rattle.touched_blocks.specs.Touched.{same_place, touches_block, written_in}
-use Rattle.shared_trees.specs.ArrayLaw.{HasArray, IsAsByAll}
-use Rattle.shared_trees.specs.Keeping.{live_at}
-use Rattle.shared_trees.specs.LivePairs.{Walked, live_in, walked}
-use Rattle.shared_trees.specs.Shared.{are_read_alike, is_shared, unshared_in}
-use Rattle.shared_trees.specs.ShiftedLaw.{is_shifted, shifted_in}
-use Rattle.shared_trees.specs.TableLaw.{Tree, trees_in}
-use Rattle.shared_trees.specs.VisitsLaw.{entries_at, entries_in}
-use Rattle.shared_trees.proofs.ArrayPlaces.{as_by_all}
-use Rattle.shared_trees.proofs.Lives.{lives_are}
-use Rattle.shared_trees.proofs.Treed.{Steps, steps_of}
+use Rattle.tree_laws.specs.ArrayLaw.{HasArray, IsAsByAll}
+use Rattle.tree_laws.specs.Keeping.{live_at}
+use Rattle.tree_laws.specs.LivePairs.{Walked, live_in, walked}
+use Rattle.tree_laws.specs.Shared.{are_read_alike, is_shared, unshared_in}
+use Rattle.tree_laws.specs.ShiftedLaw.{is_shifted, shifted_in}
+use Rattle.tree_laws.specs.TableLaw.{Tree, trees_in}
+use Rattle.tree_laws.specs.VisitsLaw.{entries_at, entries_in}
+use Rattle.tree_laws.proofs.ArrayPlaces.{as_by_all}
+use Rattle.tree_laws.proofs.Lives.{lives_are}
+use Rattle.tree_laws.proofs.Treed.{Steps, steps_of}
 use Rattle.tree_change.specs.Accepted.{AreMarkedTouched, AreUnshared, IsWalked, IsWellFormed, unshared_old}
 use Rattle.tree_change.specs.AllLooks.{FewForMap, FewForRest, FewFromOld}
 use Rattle.tree_change.specs.AllTrees.{AreAllParts, IsAll, IsOver, gone_all, named_parts, with_parts}

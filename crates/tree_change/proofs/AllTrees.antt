@@ -17,14 +17,14 @@ use Rattle.records.specs.Contents.{chunk_tree_root, named_root, root_tree_root}
 use Rattle.records.specs.Seen.{Seen}
 use Rattle.records.specs.Walk.{walk_in}
 use Rattle.touched_blocks.specs.Touched.{written_in}
-use Rattle.shared_trees.specs.LivePairs.{Walked, live_in}
-use Rattle.shared_trees.specs.MergedLaw.{items}
-use Rattle.shared_trees.specs.ShiftedLaw.{is_shifted}
-use Rattle.shared_trees.specs.TableLaw.{AreApart, Tree, trees_in}
-use Rattle.shared_trees.specs.Unshared.{items_in}
-use Rattle.shared_trees.proofs.Forest.{walks}
-use Rattle.shared_trees.proofs.Lives.{ok_same}
-use Rattle.shared_trees.proofs.Treed.{chunk_tree, trees_walk}
+use Rattle.tree_laws.specs.LivePairs.{Walked, live_in}
+use Rattle.tree_laws.specs.MergedLaw.{items}
+use Rattle.tree_laws.specs.ShiftedLaw.{is_shifted}
+use Rattle.tree_laws.specs.TableLaw.{AreApart, Tree, trees_in}
+use Rattle.tree_laws.specs.Unshared.{items_in}
+use Rattle.tree_laws.proofs.Forest.{walks}
+use Rattle.tree_laws.proofs.Lives.{ok_same}
+use Rattle.tree_laws.proofs.Treed.{chunk_tree, trees_walk}
 use Rattle.tree_change.specs.AllTrees.{AllTreesLaw, AreAllParts, IsAll, has_id, named_at, root_named, side_by, with_parts}
 use Rattle.tree_change.specs.Change.{is_before, item_before}
 use Rattle.tree_change.specs.Merging.{root_at}

@@ -21,15 +21,15 @@ use Rattle.records.specs.Seen.{Seen}
 use Rattle.records.specs.Walk.{walk_of}
 use Rattle.records.specs.WalkLaw.{visited}
 use Rattle.touched_blocks.specs.Touched.{Written, same_place, touches_block, written_in}
-use Rattle.shared_trees.specs.ArrayLaw.{HasArray, IsAsByAll}
-use Rattle.shared_trees.specs.Keeping.{live_at}
-use Rattle.shared_trees.specs.LivePairs.{Walked, live_in}
-use Rattle.shared_trees.specs.Shared.{are_alike, are_read_alike, is_shared_by, stands_untouched}
-use Rattle.shared_trees.specs.ShiftedLaw.{is_shifted}
-use Rattle.shared_trees.proofs.ArrayPlaces.{as_by_all}
-use Rattle.shared_trees.proofs.Lives.{lives_are}
-use Rattle.shared_trees.proofs.OldTells.{has_same}
-use Rattle.shared_trees.proofs.Picking.{one_of}
+use Rattle.tree_laws.specs.ArrayLaw.{HasArray, IsAsByAll}
+use Rattle.tree_laws.specs.Keeping.{live_at}
+use Rattle.tree_laws.specs.LivePairs.{Walked, live_in}
+use Rattle.tree_laws.specs.Shared.{are_alike, are_read_alike, is_shared_by, stands_untouched}
+use Rattle.tree_laws.specs.ShiftedLaw.{is_shifted}
+use Rattle.tree_laws.proofs.ArrayPlaces.{as_by_all}
+use Rattle.tree_laws.proofs.Lives.{lives_are}
+use Rattle.tree_laws.proofs.OldTells.{has_same}
+use Rattle.tree_laws.proofs.Picking.{one_of}
 use Rattle.tree_change.specs.AllTrees.{side_by}
 use Rattle.tree_change.specs.OneTree.{alone}
 use Rattle.tree_change.specs.Unchanged.{is_unchanged, none_touched, stays_unchanged}

@@ -23,20 +23,20 @@ use Rattle.records.specs.WalkLaw.{visited}
 use Rattle.walk_laws.specs.WalkOrder.{AllAbove, Ascend}
 use Rattle.walk_laws.proofs.Blocks.{block_keys}
 use Rattle.walk_laws.proofs.Keys.{AllBelow, Lie, NoneBelow}
-use Rattle.shared_trees.specs.Keeping.{live_at}
-use Rattle.shared_trees.specs.LivePairs.{live_in}
-use Rattle.shared_trees.specs.Skips.{is_below}
-use Rattle.shared_trees.specs.TableLaw.{AreApart, Tree}
-use Rattle.shared_trees.proofs.Accepted.{Accepts, LowFits, accepts, keys_at, visit_of, walk_accepted}
-use Rattle.shared_trees.proofs.Bounds.{below_through}
-use Rattle.shared_trees.proofs.Forest.{lives_of, of_root, others_after, walks}
-use Rattle.shared_trees.proofs.Lasting.{low_fits}
-use Rattle.shared_trees.proofs.Merged.{walks_of}
-use Rattle.shared_trees.proofs.Mixing.{Before, InOrder, pairs_of}
-use Rattle.shared_trees.proofs.Tables.{Any, Lower, Spans, any_each, copied_same, first_at}
-use Rattle.shared_trees.proofs.Trails.{Matches, Trail, Visit, after, then_trail, trail_and, trail_below, trail_of, trails}
-use Rattle.shared_trees.proofs.Visiting.{Each, Visits, visits_after, visits_from, visits_map, visits_then, visits_then_first, visits_then_later}
-use Rattle.shared_trees.proofs.Within.{node_keys, pointer_keys, rest_of}
+use Rattle.tree_laws.specs.Keeping.{live_at}
+use Rattle.tree_laws.specs.LivePairs.{live_in}
+use Rattle.tree_laws.specs.Skips.{is_below}
+use Rattle.tree_laws.specs.TableLaw.{AreApart, Tree}
+use Rattle.tree_laws.proofs.Accepted.{Accepts, LowFits, accepts, keys_at, visit_of, walk_accepted}
+use Rattle.tree_laws.proofs.Bounds.{below_through}
+use Rattle.tree_laws.proofs.Forest.{lives_of, of_root, others_after, walks}
+use Rattle.tree_laws.proofs.Lasting.{low_fits}
+use Rattle.tree_laws.proofs.Merged.{walks_of}
+use Rattle.tree_laws.proofs.Mixing.{Before, InOrder, pairs_of}
+use Rattle.tree_laws.proofs.Tables.{Any, Lower, Spans, any_each, copied_same, first_at}
+use Rattle.tree_laws.proofs.Trails.{Matches, Trail, Visit, after, then_trail, trail_and, trail_below, trail_of, trails}
+use Rattle.tree_laws.proofs.Visiting.{Each, Visits, visits_after, visits_from, visits_map, visits_then, visits_then_first, visits_then_later}
+use Rattle.tree_laws.proofs.Within.{node_keys, pointer_keys, rest_of}
 use Rattle.tree_change.specs.Change.{is_before}
 use Rattle.tree_change.proofs.Ordered.{order_append, others_of}
 use Rattle.tree_change.proofs.Piece.{live_id}

@@ -10,14 +10,14 @@ use Rattle.verdict.specs.declared.place.Chunk.{Chunk}
 use Rattle.verdict.proofs.Tables.{joined_none}
 use Rattle.volume_items.specs.ChunkOrder.{by_start}
 use Rattle.volume_items.specs.MapRules.{array_rows, rows_by_start, same_chunk}
-use Rattle.shared_trees.specs.ArrayLaw.{HasArray}
-use Rattle.shared_trees.specs.ArrayMoves.{LieApartOrSame}
-use Rattle.shared_trees.specs.LivePairs.{Walked}
-use Rattle.shared_trees.proofs.ArrayApart.{array_apart}
-use Rattle.shared_trees.proofs.ArrayPlaces.{array_is}
-use Rattle.shared_trees.proofs.ArrayTree.{array_has}
-use Rattle.shared_trees.proofs.Picking.{each_both, one_of}
-use Rattle.shared_trees.proofs.Treed.{map_kept, steps_of}
+use Rattle.tree_laws.specs.ArrayLaw.{HasArray}
+use Rattle.tree_laws.specs.ArrayMoves.{LieApartOrSame}
+use Rattle.tree_laws.specs.LivePairs.{Walked}
+use Rattle.tree_laws.proofs.ArrayApart.{array_apart}
+use Rattle.tree_laws.proofs.ArrayPlaces.{array_is}
+use Rattle.tree_laws.proofs.ArrayTree.{array_has}
+use Rattle.tree_laws.proofs.Picking.{each_both, one_of}
+use Rattle.tree_laws.proofs.Treed.{map_kept, steps_of}
 use Rattle.tree_change.proofs.Chunks.{Ends, chunks_end}
 use Rattle.tree_change.proofs.Copies.{HasBytes, chunks_have_bytes}
 

@@ -29,16 +29,16 @@ use Rattle.touched_blocks.specs.declared.moved.Move.{Move}
 use Rattle.touched_blocks.specs.OneTree.{in_tree}
 use Rattle.touched_blocks.specs.Spots.{at_address}
 use Rattle.touched_blocks.specs.Touched.{touches_block, written_in}
-use Rattle.shared_trees.specs.ArrayLaw.{HasArray}
-use Rattle.shared_trees.specs.ArrayMoves.{LieApartOrSame}
-use Rattle.shared_trees.specs.Keeping.{Marks, Under}
-use Rattle.shared_trees.specs.LivePairs.{Walked}
-use Rattle.shared_trees.specs.Listed.{AreListedBy}
-use Rattle.shared_trees.specs.Shared.{are_read_alike}
-use Rattle.shared_trees.specs.TableLaw.{trees_in}
+use Rattle.tree_laws.specs.ArrayLaw.{HasArray}
+use Rattle.tree_laws.specs.ArrayMoves.{LieApartOrSame}
+use Rattle.tree_laws.specs.Keeping.{Marks, Under}
+use Rattle.tree_laws.specs.LivePairs.{Walked}
+use Rattle.tree_laws.specs.Listed.{AreListedBy}
+use Rattle.tree_laws.specs.Shared.{are_read_alike}
+use Rattle.tree_laws.specs.TableLaw.{trees_in}
 use Rattle.tree_change.specs.Compared.{FitsCompared, HasNewArray, IsBased, IsCompared, KeepsBy, MakesMap, TellsMap, judged_by, side_to}
 use Rattle.tree_change.specs.Making.{IsAdded, MakesChunks, TellsChunks, is_side, parts_in, was_side}
-use Rattle.shared_trees.specs.MergedLaw.{begins_before}
+use Rattle.tree_laws.specs.MergedLaw.{begins_before}
 use Rattle.tree_change.specs.Merging.{IsSortedOf, chunks_left}
 use Rattle.tree_change.specs.OneTree.{IsTree, KnowsNothing, KnowsTree, side_of}
 use Rattle.tree_change.specs.Told.{known_by}

@@ -24,15 +24,15 @@ use Rattle.touched_blocks.specs.Spots.{at_address}
 use Rattle.touched_blocks.specs.Touched.{touches_block, written_in}
 use Rattle.touched_blocks.specs.declared.marks.Marks.{Marks}
 use Rattle.touched_blocks.specs.declared.moved.Move.{Move}
-use Rattle.shared_trees.specs.Keeping.{Under}
-use Rattle.shared_trees.specs.Listed.{AreListedBy}
-use Rattle.shared_trees.specs.LivePairs.{Walked, live_in, table_of}
-use Rattle.shared_trees.specs.SharedLaw.{HasTrees}
-use Rattle.shared_trees.specs.TableLaw.{Tree, trees_in}
+use Rattle.tree_laws.specs.Keeping.{Under}
+use Rattle.tree_laws.specs.Listed.{AreListedBy}
+use Rattle.tree_laws.specs.LivePairs.{Walked, live_in, table_of}
+use Rattle.tree_laws.specs.SharedLaw.{HasTrees}
+use Rattle.tree_laws.specs.TableLaw.{Tree, trees_in}
 use Rattle.shared_trees.specs.Under.{under_of}
 use Rattle.shared_trees.specs.declared.starts.Starts.{Starts}
-use Rattle.shared_trees.proofs.Premises.{map_apart}
-use Rattle.shared_trees.proofs.Treed.{map_kept}
+use Rattle.tree_laws.proofs.Premises.{map_apart}
+use Rattle.tree_laws.proofs.Treed.{map_kept}
 use Rattle.tree_change.specs.Firsts.{first_copies}
 use Rattle.tree_change.specs.AllTrees.{IsOver, KnowsTrees, gone_all, named_parts, with_parts}
 use Rattle.tree_change.specs.Compared.{FindsRest, FitsCompared, HasNewMap, IsCompared, KeepsBy, MakesRest, TellsRest, judged_by, side_to}

@@ -14,13 +14,13 @@ use Rattle.touched_blocks.specs.Marks.{Marked, no_mark}
 use Rattle.touched_blocks.specs.Moves.{is_moved}
 use Rattle.touched_blocks.specs.Spots.{at_address}
 use Rattle.touched_blocks.specs.Touched.{Written, stays_in_place, touches_block}
-use Rattle.shared_trees.specs.Keeping.{AreMarked, Marks, Stands, Under, comes_to}
-use Rattle.shared_trees.specs.Listed.{AreListedBy}
-use Rattle.shared_trees.specs.LivePairs.{Walked}
-use Rattle.shared_trees.specs.SharedLaw.{MarksTouched, touches_old}
-use Rattle.shared_trees.specs.TableLaw.{Tree}
-use Rattle.shared_trees.proofs.Listing.{lists}
-use Rattle.shared_trees.proofs.Picking.{each_both}
+use Rattle.tree_laws.specs.Keeping.{AreMarked, Marks, Stands, Under, comes_to}
+use Rattle.tree_laws.specs.Listed.{AreListedBy}
+use Rattle.tree_laws.specs.LivePairs.{Walked}
+use Rattle.tree_laws.specs.SharedLaw.{MarksTouched, touches_old}
+use Rattle.tree_laws.specs.TableLaw.{Tree}
+use Rattle.tree_laws.proofs.Listing.{lists}
+use Rattle.tree_laws.proofs.Picking.{each_both}
 use Rattle.tree_change.specs.Unchanged.{ChangesListed, changes_at, either_mark}
 
 -- a walk comes to an address that passes one of two tests where it comes to one that passes the first or to one that passes the second

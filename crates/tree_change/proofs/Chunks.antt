@@ -42,11 +42,11 @@ use Rattle.records.specs.Part.Part.{ChunkPart, DevExtentPart, DevicePart, Entrie
 use Rattle.records.specs.Part.Part.{LinkPart, NamesPart, OrphanPart, RootPart, SumsPart, UnreadPart, XattrPart}
 use Rattle.records.specs.Seen.{Seen}
 use Rattle.records.specs.Walk.{Records, walk_in}
-use Rattle.shared_trees.specs.LivePairs.{Walked, walked}
-use Rattle.shared_trees.specs.MergedLaw.{IsInOrder, begins_before, chunk_in, chunks_seen, items}
-use Rattle.shared_trees.specs.TableLaw.{Tree}
-use Rattle.shared_trees.proofs.MergedLists.{map_seen, walk_fits}
-use Rattle.shared_trees.proofs.Treed.{chunk_tree, steps_of}
+use Rattle.tree_laws.specs.LivePairs.{Walked, walked}
+use Rattle.tree_laws.specs.MergedLaw.{IsInOrder, begins_before, chunk_in, chunks_seen, items}
+use Rattle.tree_laws.specs.TableLaw.{Tree}
+use Rattle.tree_laws.proofs.MergedLists.{map_seen, walk_fits}
+use Rattle.tree_laws.proofs.Treed.{chunk_tree, steps_of}
 use Rattle.tree_change.specs.Merging.{IsSortedOf, chunks_left}
 use Rattle.tree_change.specs.OneTree.{IsTree, OneTreeLaw, side_of}
 use Rattle.tree_change.specs.Walks.{Known, Parts, Side, tree_parts}

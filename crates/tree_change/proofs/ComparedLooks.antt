@@ -23,7 +23,7 @@ use Rattle.touched_blocks.specs.Moves.{AreApart, is_moved, move_passes}
 use Rattle.touched_blocks.specs.OneTree.{of_tree}
 use Rattle.touched_blocks.specs.declared.marks.Marks.{Marks}
 use Rattle.touched_blocks.specs.declared.moved.Move.{Move}
-use Rattle.shared_trees.specs.Shared.{are_read_alike}
+use Rattle.tree_laws.specs.Shared.{are_read_alike}
 use Rattle.shared_trees.specs.Under.{under_of}
 use Rattle.shared_trees.specs.declared.starts.Starts.{Starts}
 use Rattle.tree_change.specs.Firsts.{first_copies}

@@ -18,10 +18,10 @@ use Rattle.records.specs.Contents.{Contents, all_records, chunk_map_in, chunk_re
 use Rattle.records.specs.Contents.{super_record, superblock_in, tree_records}
 use Rattle.records.specs.Seen.{Seen, accounted}
 use Rattle.records.specs.Walk.{behind}
-use Rattle.shared_trees.specs.LivePairs.{walked}
-use Rattle.shared_trees.specs.MergedLaw.{chunks_seen, roots_seen}
-use Rattle.shared_trees.proofs.MergedLists.{map_seen, roots_are_seen}
-use Rattle.shared_trees.proofs.Treed.{has_trees, steps_of}
+use Rattle.tree_laws.specs.LivePairs.{walked}
+use Rattle.tree_laws.specs.MergedLaw.{chunks_seen, roots_seen}
+use Rattle.tree_laws.proofs.MergedLists.{map_seen, roots_are_seen}
+use Rattle.tree_laws.proofs.Treed.{has_trees, steps_of}
 use Rattle.tree_change.specs.Change.{BasesStand}
 use Rattle.tree_change.specs.Merging.{root_at}
 use Rattle.tree_change.specs.Compared.{IsBased}

@@ -28,11 +28,11 @@ use Rattle.records.specs.Part.{Located, Part}
 use Rattle.records.specs.Part.Part.{ChunkPart, DevicePart}
 use Rattle.records.specs.Walk.{walk_in}
 use Rattle.touched_blocks.specs.Looks.{EndsBefore, NoneMeet, copies_of, copy_at, with_second}
-use Rattle.shared_trees.specs.LivePairs.{Walked, walked}
-use Rattle.shared_trees.specs.MergedLaw.{chunk_in, chunks_seen, items}
-use Rattle.shared_trees.proofs.ArrayTree.{put_each}
-use Rattle.shared_trees.proofs.MergedLists.{map_seen, walk_fits}
-use Rattle.shared_trees.proofs.Treed.{map_kept, steps_of}
+use Rattle.tree_laws.specs.LivePairs.{Walked, walked}
+use Rattle.tree_laws.specs.MergedLaw.{chunk_in, chunks_seen, items}
+use Rattle.tree_laws.proofs.ArrayTree.{put_each}
+use Rattle.tree_laws.proofs.MergedLists.{map_seen, walk_fits}
+use Rattle.tree_laws.proofs.Treed.{map_kept, steps_of}
 use Rattle.tree_change.proofs.Olds.{same_ok}
 
 -- ---- each chunk has bytes

@@ -18,7 +18,7 @@ use Rattle.block_source.specs.Gives.{told}
 use Rattle.block_source.specs.declared.halt.Halt.{Halt}
 use Rattle.block_source.specs.declared.read.BlockSource.{BlockSource}
 use Rattle.touched_blocks.specs.Touched.{written_in}
-use Rattle.shared_trees.specs.LivePairs.{Walked, walked}
+use Rattle.tree_laws.specs.LivePairs.{Walked, walked}
 use Rattle.tree_change.specs.AllLooks.{FewFromOld, LooksFromOld}
 use Rattle.tree_change.specs.Change.{BasesStand, GivesDifference, IsChange, IsDifference, ReadsFew}
 use Rattle.tree_change.specs.Compared.{IsBased, IsCompared}

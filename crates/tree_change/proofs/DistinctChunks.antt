@@ -11,7 +11,7 @@ use Rattle.verdict.specs.Chunks.{holds_range, home, place, place_in}
 use Rattle.verdict.specs.declared.place.Chunk.{Chunk}
 use Rattle.touched_blocks.specs.Moves.{AreApart, LieApart, held_and_moved, is_moved, same_chunk, same_second}
 use Rattle.touched_blocks.specs.Touched.{same_place}
-use Rattle.shared_trees.specs.ArrayMoves.{LieApartOrSame}
+use Rattle.tree_laws.specs.ArrayMoves.{LieApartOrSame}
 use Rattle.tree_change.specs.Distinct.{distinct, is_new, with_new}
 use Rattle.tree_change.specs.Merges.{fits}
 

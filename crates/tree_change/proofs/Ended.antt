@@ -17,15 +17,15 @@ use Rattle.node_reader.specs.Stored.{Stored, block_in}
 use Rattle.node_reader.specs.declared.expect.Expect.{Expect}
 use Rattle.records.specs.Walk.{children_of, walk_of}
 use Rattle.records.specs.WalkLaw.{children_in, visited, visited_from}
-use Rattle.shared_trees.specs.Ending.{Lasts, ends_of}
-use Rattle.shared_trees.specs.EndsLaw.{all_ended, ended_at, next_or, walked_and, walked_below, walked_of}
-use Rattle.shared_trees.specs.Keeping.{Marks, OneOf, Stands, Under, anew_of, comes_to, kept_of, last_in, live_at, starts_at, starts_in}
-use Rattle.shared_trees.specs.Known.{last_of}
-use Rattle.shared_trees.specs.Skips.{Anew, Kept}
-use Rattle.shared_trees.proofs.EndsTold.{ends}
-use Rattle.shared_trees.proofs.Forest.{of_root}
-use Rattle.shared_trees.proofs.Picking.{each_both}
-use Rattle.shared_trees.proofs.Skipping.{children_level}
+use Rattle.tree_laws.specs.Ending.{Lasts, ends_of}
+use Rattle.tree_laws.specs.EndsLaw.{all_ended, ended_at, next_or, walked_and, walked_below, walked_of}
+use Rattle.tree_laws.specs.Keeping.{Marks, OneOf, Stands, Under, anew_of, comes_to, kept_of, last_in, live_at, starts_at, starts_in}
+use Rattle.tree_laws.specs.Known.{last_of}
+use Rattle.tree_laws.specs.Skips.{Anew, Kept}
+use Rattle.tree_laws.proofs.EndsTold.{ends}
+use Rattle.tree_laws.proofs.Forest.{of_root}
+use Rattle.tree_laws.proofs.Picking.{each_both}
+use Rattle.tree_laws.proofs.Skipping.{children_level}
 use Rattle.tree_change.specs.Walks.{last_at, with_last}
 use Rattle.tree_change.proofs.Whole.{KeepsNone, ends_same}
 

@@ -19,21 +19,21 @@ use Rattle.records.specs.Walk.{children_of}
 use Rattle.records.specs.WalkLaw.{children_in, visited, visited_from}
 use Rattle.touched_blocks.specs.Marking.{marks_at, marks_by, marks_for, parent_of}
 use Rattle.touched_blocks.proofs.Marking.{above_is}
-use Rattle.shared_trees.specs.Keeping.{IsKnown, OneOf, Stands, live_at}
-use Rattle.shared_trees.specs.LivePairs.{Walked, live_in, table_of, walked}
-use Rattle.shared_trees.specs.SharedLaw.{HasTrees}
-use Rattle.shared_trees.specs.TableLaw.{Tree, trees_in}
-use Rattle.shared_trees.specs.VisitsLaw.{entries_at, entries_in}
-use Rattle.shared_trees.proofs.Accepted.{LowFits, accepts}
-use Rattle.shared_trees.proofs.Forest.{lives_all, of_root, tables_stand}
-use Rattle.shared_trees.proofs.KeptImage.{IsOfImage, of_image}
-use Rattle.shared_trees.proofs.Lasting.{low_fits}
-use Rattle.shared_trees.proofs.Picking.{comes_there, each_both, is_at, is_there, one_of, table_some, there_trees}
-use Rattle.shared_trees.proofs.Tables.{Any, any_each}
-use Rattle.shared_trees.proofs.Trails.{trail_below, trail_of}
-use Rattle.shared_trees.proofs.Treed.{has_trees, steps_of, trees_walk}
-use Rattle.shared_trees.proofs.Visiting.{Visits, comes_from, visits_from}
-use Rattle.shared_trees.proofs.Within.{Below, within}
+use Rattle.tree_laws.specs.Keeping.{IsKnown, OneOf, Stands, live_at}
+use Rattle.tree_laws.specs.LivePairs.{Walked, live_in, table_of, walked}
+use Rattle.tree_laws.specs.SharedLaw.{HasTrees}
+use Rattle.tree_laws.specs.TableLaw.{Tree, trees_in}
+use Rattle.tree_laws.specs.VisitsLaw.{entries_at, entries_in}
+use Rattle.tree_laws.proofs.Accepted.{LowFits, accepts}
+use Rattle.tree_laws.proofs.Forest.{lives_all, of_root, tables_stand}
+use Rattle.tree_laws.proofs.KeptImage.{IsOfImage, of_image}
+use Rattle.tree_laws.proofs.Lasting.{low_fits}
+use Rattle.tree_laws.proofs.Picking.{comes_there, each_both, is_at, is_there, one_of, table_some, there_trees}
+use Rattle.tree_laws.proofs.Tables.{Any, any_each}
+use Rattle.tree_laws.proofs.Trails.{trail_below, trail_of}
+use Rattle.tree_laws.proofs.Treed.{has_trees, steps_of, trees_walk}
+use Rattle.tree_laws.proofs.Visiting.{Visits, comes_from, visits_from}
+use Rattle.tree_laws.proofs.Within.{Below, within}
 use Rattle.tree_change.specs.Accepted.{IsWalked}
 use Rattle.tree_change.specs.LooksLaw.{entries_of}
 use Rattle.tree_change.specs.OneTree.{side_of}

@@ -16,11 +16,11 @@ use Rattle.records.specs.Contents.{named_root}
 use Rattle.records.specs.Seen.{Seen}
 use Rattle.records.specs.Walk.{walk_in}
 use Rattle.touched_blocks.specs.Touched.{written_in}
-use Rattle.shared_trees.specs.LivePairs.{Walked}
-use Rattle.shared_trees.specs.TableLaw.{AreApart, Tree}
-use Rattle.shared_trees.proofs.Forest.{walks}
-use Rattle.shared_trees.proofs.Lives.{ok_same}
-use Rattle.shared_trees.proofs.Treed.{trees_walk}
+use Rattle.tree_laws.specs.LivePairs.{Walked}
+use Rattle.tree_laws.specs.TableLaw.{AreApart, Tree}
+use Rattle.tree_laws.proofs.Forest.{walks}
+use Rattle.tree_laws.proofs.Lives.{ok_same}
+use Rattle.tree_laws.proofs.Treed.{trees_walk}
 use Rattle.tree_change.specs.AllTrees.{KnowsTrees, gone_all, has_id, named_at, named_parts, no_parts, root_named, with_parts}
 use Rattle.tree_change.specs.Merging.{root_at}
 use Rattle.tree_change.specs.OneTree.{HasRecords, IsAmong, IsOldOf, IsTree, KnowsNothing, KnowsTree, OneTreeLaw, old_tree, unchanged, side_of}

@@ -13,13 +13,13 @@ use Rattle.records.specs.Seen.{Seen}
 use Rattle.records.specs.Walk.{Records}
 use Rattle.records.specs.Seen.Seen.{BlockSeen, ItemSeen, PointerSeen}
 use Rattle.records.specs.declared.rec.WalkedBlock.{WalkedBlock}
-use Rattle.shared_trees.specs.KeepingWalk.{skip_in}
-use Rattle.shared_trees.specs.Keeping.{Under, anew_of}
-use Rattle.shared_trees.specs.LivePairs.{Walked, live_in, table_of}
-use Rattle.shared_trees.specs.OldSide.{kept_at}
-use Rattle.shared_trees.specs.Skips.{Kept}
-use Rattle.shared_trees.specs.Visits.{visits_in, visits_of}
-use Rattle.shared_trees.specs.VisitsLaw.{entries_at, entries_seen, blocks_seen as blocks_among}
+use Rattle.tree_laws.specs.KeepingWalk.{skip_in}
+use Rattle.tree_laws.specs.Keeping.{Under, anew_of}
+use Rattle.tree_laws.specs.LivePairs.{Walked, live_in, table_of}
+use Rattle.tree_laws.specs.OldSide.{kept_at}
+use Rattle.tree_laws.specs.Skips.{Kept}
+use Rattle.tree_laws.specs.Visits.{visits_in, visits_of}
+use Rattle.tree_laws.specs.VisitsLaw.{entries_at, entries_seen, blocks_seen as blocks_among}
 use Rattle.tree_change.specs.Gathered.{Gathers, blocks_seen}
 use Rattle.tree_change.specs.Looks.{old_visits}
 use Rattle.tree_change.specs.LooksLaw.{entries_of, few_for}

@@ -6,7 +6,7 @@ use Rattle.std.specs.List.{AllByRecursion, filter, fold, sum_by}
 use Rattle.std.specs.List.Sorted.{IsPermutation}
 use Rattle.live_index.specs.declared.live.Live.{Live}
 use Rattle.node_reader.specs.Stored.{stored_in}
-use Rattle.shared_trees.specs.VisitsLaw.{entries_at}
+use Rattle.tree_laws.specs.VisitsLaw.{entries_at}
 use Rattle.tree_change.specs.AllTrees.{with_parts}
 use Rattle.tree_change.specs.LooksLaw.{entries_of}
 use Rattle.tree_change.specs.Walks.{Parts, Side}

@@ -19,9 +19,9 @@ use Rattle.node_reader.specs.declared.expect.Expect.{Expect}
 use Rattle.records.specs.Seen.{Seen}
 use Rattle.records.specs.Walk.{Records, behind, below, block_and, children_of, each, own_records, then_records, walk_of}
 use Rattle.records.specs.WalkLaw.{children_in}
-use Rattle.shared_trees.specs.KeepingWalk.{skip_in}
-use Rattle.shared_trees.specs.Skips.{Anew, Kept, Told, is_below, next_of, nothing, skip_and, skip_below, skip_of, skip_or}
-use Rattle.shared_trees.specs.Visits.{visits_and, visits_below, visits_each, visits_in, visits_of, visits_or}
+use Rattle.tree_laws.specs.KeepingWalk.{skip_in}
+use Rattle.tree_laws.specs.Skips.{Anew, Kept, Told, is_below, next_of, nothing, skip_and, skip_below, skip_of, skip_or}
+use Rattle.tree_laws.specs.Visits.{visits_and, visits_below, visits_each, visits_in, visits_of, visits_or}
 use Rattle.tree_change.specs.Firsts.{first_copies, first_copy}
 
 -- what is stored by one is stored by another

@@ -20,18 +20,18 @@ use Rattle.records.specs.Seen.{Seen}
 use Rattle.records.specs.Seen.Seen.{BlockSeen, ItemSeen, PointerSeen}
 use Rattle.records.specs.Walk.{block_at, walk_of}
 use Rattle.records.specs.WalkLaw.{visited}
-use Rattle.shared_trees.specs.Keeping.{Comes, Stands, last_in, live_at}
-use Rattle.shared_trees.specs.LivePairs.{live_in}
-use Rattle.shared_trees.specs.MergedLaw.{AreRead, begins_before, chunks_seen, items, root_before, root_in, roots_seen}
-use Rattle.shared_trees.specs.OldSide.{kept_where}
-use Rattle.shared_trees.specs.Skips.{Kept, nothing, unkept}
-use Rattle.shared_trees.specs.Unshared.{AreOfPairs, is_block_seen, pair_seen}
-use Rattle.shared_trees.specs.declared.keeps.Ended.{Ended}
-use Rattle.shared_trees.proofs.Lives.{NoBlocks, entries_none, lives_are}
-use Rattle.shared_trees.proofs.Merged.{read_of, walks_of}
-use Rattle.shared_trees.proofs.MergedLists.{chunks_merge, roots_merge}
-use Rattle.shared_trees.proofs.OldBlocks.{unshared_are}
-use Rattle.shared_trees.proofs.Trails.{Matches, Visit, all_own}
+use Rattle.tree_laws.specs.Keeping.{Comes, Stands, last_in, live_at}
+use Rattle.tree_laws.specs.LivePairs.{live_in}
+use Rattle.tree_laws.specs.MergedLaw.{AreRead, begins_before, chunks_seen, items, root_before, root_in, roots_seen}
+use Rattle.tree_laws.specs.OldSide.{kept_where}
+use Rattle.tree_laws.specs.Skips.{Kept, nothing, unkept}
+use Rattle.tree_laws.specs.Unshared.{AreOfPairs, is_block_seen, pair_seen}
+use Rattle.tree_laws.specs.declared.told.Ended.{Ended}
+use Rattle.tree_laws.proofs.Lives.{NoBlocks, entries_none, lives_are}
+use Rattle.tree_laws.proofs.Merged.{read_of, walks_of}
+use Rattle.tree_laws.proofs.MergedLists.{chunks_merge, roots_merge}
+use Rattle.tree_laws.proofs.OldBlocks.{unshared_are}
+use Rattle.tree_laws.proofs.Trails.{Matches, Visit, all_own}
 use Rattle.tree_change.specs.Gathered.{block_seen, blocks_seen}
 use Rattle.tree_change.specs.Merging.{chunks_left, has_named, named_before, root_at, root_at_of, roots_among, roots_left}
 use Rattle.tree_change.specs.Walks.{last_at, live_with, lives_of, pairs_at}

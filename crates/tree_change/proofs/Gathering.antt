@@ -6,7 +6,7 @@ use Rattle.records.specs.Part.{Located}
 use Rattle.records.specs.Seen.{Seen}
 use Rattle.records.specs.Seen.Seen.{BlockSeen, PointerSeen, ItemSeen}
 use Rattle.records.specs.declared.rec.WalkedBlock.{WalkedBlock}
-use Rattle.shared_trees.specs.MergedLaw.{items}
+use Rattle.tree_laws.specs.MergedLaw.{items}
 use Rattle.tree_change.specs.Gathered.{Gathers, blocks_seen, with_seen}
 use Rattle.tree_change.specs.Walks.{no_tree}
 

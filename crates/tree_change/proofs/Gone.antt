@@ -11,9 +11,9 @@ use Rattle.live_index.specs.Pairs.{Pairs}
 use Rattle.node_reader.specs.Stored.{Stored, stored_in}
 use Rattle.records.specs.Contents.{named_root}
 use Rattle.records.specs.Walk.{walk_of}
-use Rattle.shared_trees.specs.Keeping.{Stands}
-use Rattle.shared_trees.specs.LivePairs.{Walked, live_in, table_of}
-use Rattle.shared_trees.specs.TableLaw.{Tree}
+use Rattle.tree_laws.specs.Keeping.{Stands}
+use Rattle.tree_laws.specs.LivePairs.{Walked, live_in, table_of}
+use Rattle.tree_laws.specs.TableLaw.{Tree}
 use Rattle.tree_change.specs.AllTrees.{GoneLaw, gone_all, has_id, no_parts, with_parts}
 use Rattle.tree_change.specs.Gathered.{Gathers}
 use Rattle.tree_change.specs.Merging.{root_at}

@@ -10,8 +10,8 @@ use Rattle.volume_items.specs.declared.root.RootItem.{RootItem}
 use Rattle.volume_items.specs.declared.root_at.RootAt.{RootAt}
 use Rattle.node_reader.specs.Stored.{Stored, stored_in}
 use Rattle.records.specs.Contents.{named_root}
-use Rattle.shared_trees.specs.TableLaw.{AreApart, Tree, trees_in}
-use Rattle.shared_trees.proofs.Forest.{others_after}
+use Rattle.tree_laws.specs.TableLaw.{AreApart, Tree, trees_in}
+use Rattle.tree_laws.proofs.Forest.{others_after}
 use Rattle.tree_change.specs.AllTrees.{has_id}
 use Rattle.tree_change.specs.Merging.{root_at}
 use Rattle.tree_change.proofs.Unordered.{Distinct, listed, listed_append}

@@ -15,17 +15,17 @@ use Rattle.touched_blocks.specs.Moves.{held_and_moved, is_moved}
 use Rattle.touched_blocks.specs.OneTree.{in_tree}
 use Rattle.touched_blocks.specs.Spots.{at_address}
 use Rattle.touched_blocks.specs.Touched.{same_place, written_in}
-use Rattle.shared_trees.specs.ArrayLaw.{HasArray}
-use Rattle.shared_trees.specs.Keeping.{AreMarked, Marks, Stands, Under}
-use Rattle.shared_trees.specs.Listed.{AreListedBy}
-use Rattle.shared_trees.specs.LivePairs.{Walked, live_in, table_of}
-use Rattle.shared_trees.specs.Shared.{are_read_alike}
-use Rattle.shared_trees.specs.SharedLaw.{HasTrees, MarksTouched, touches_old}
-use Rattle.shared_trees.specs.TableLaw.{Tree, trees_in}
-use Rattle.shared_trees.proofs.ArrayMoves.{array_moves}
-use Rattle.shared_trees.proofs.Forest.{stands_as}
-use Rattle.shared_trees.proofs.MarkedTrees.{marks_image, moves_image}
-use Rattle.shared_trees.proofs.Picking.{each_both}
+use Rattle.tree_laws.specs.ArrayLaw.{HasArray}
+use Rattle.tree_laws.specs.Keeping.{AreMarked, Marks, Stands, Under}
+use Rattle.tree_laws.specs.Listed.{AreListedBy}
+use Rattle.tree_laws.specs.LivePairs.{Walked, live_in, table_of}
+use Rattle.tree_laws.specs.Shared.{are_read_alike}
+use Rattle.tree_laws.specs.SharedLaw.{HasTrees, MarksTouched, touches_old}
+use Rattle.tree_laws.specs.TableLaw.{Tree, trees_in}
+use Rattle.tree_laws.proofs.ArrayMoves.{array_moves}
+use Rattle.tree_laws.proofs.Forest.{stands_as}
+use Rattle.tree_laws.proofs.MarkedTrees.{marks_image, moves_image}
+use Rattle.tree_laws.proofs.Picking.{each_both}
 use Rattle.tree_change.specs.AllTrees.{KnowsTrees}
 use Rattle.tree_change.specs.OneTree.{KnowsTree, old_tree}
 use Rattle.tree_change.specs.Unchanged.{ChangesListed, either_mark}

@@ -10,7 +10,7 @@ use Rattle.std.proofs.lemmas.List.{get_or_default}
 use Rattle.std.proofs.lemmas.List.Sorted.{IsPartitionedBy-leb}
 use Rattle.verdict.specs.Rules.{no_key}
 use Rattle.verdict.specs.declared.key.Key.{Key}
-use Rattle.shared_trees.specs.declared.keeps.Ended.{Ended}
+use Rattle.tree_laws.specs.declared.told.Ended.{Ended}
 use Rattle.tree_change.specs.LastKeys.{key_at, last_key_of, with_key}
 use Rattle.tree_change.specs.Walks.{last_at, with_last}
 use Rattle.tree_change.specs.declared.lasts.LastKey.{LastKey}

@@ -8,9 +8,9 @@ use Rattle.verdict.specs.declared.key.Key.{Key}
 use Rattle.live_index.specs.Pairs.{Pairs}
 use Rattle.node_reader.specs.declared.expect.Expect.{Expect}
 use Rattle.records.specs.declared.rec.WalkedBlock.{WalkedBlock}
-use Rattle.shared_trees.specs.declared.keeps.Ended.{Ended}
-use Rattle.shared_trees.specs.declared.keeps.Met.{Met}
-use Rattle.shared_trees.specs.Known.{blocks_met}
+use Rattle.tree_laws.specs.declared.told.Ended.{Ended}
+use Rattle.tree_laws.specs.declared.told.Met.{Met}
+use Rattle.tree_laws.specs.Known.{blocks_met}
 use Rattle.tree_change.specs.Leaves.{lives_by, moved_by, moved_by_one}
 use Rattle.tree_change.specs.Walks.{last_at, live_with, lives_of, moved_of}
 

@@ -22,19 +22,19 @@ use Rattle.node_reader.specs.declared.expect.Pointer.{Pointer}
 use Rattle.records.specs.Seen.{Seen}
 use Rattle.records.specs.Walk.{Records, child_of, children_of, high_of, walk_of}
 use Rattle.records.specs.WalkLaw.{children_in, visited, visited_from}
-use Rattle.shared_trees.specs.Keeping.{IsKnown, Marks, OneOf, Stands, Under, anew_of, bound_of, comes_to, is_first, is_same, kept_of, last_if_same, start_of, starts_at, starts_in, starts_of}
-use Rattle.shared_trees.specs.LivePairs.{Walked, live_in, table_of}
-use Rattle.shared_trees.specs.Meeting.{met_in}
-use Rattle.shared_trees.specs.OldSide.{kept_at}
-use Rattle.shared_trees.specs.Skips.{Kept}
-use Rattle.shared_trees.specs.Stops.{is_stop}
-use Rattle.shared_trees.specs.TableLaw.{Tree}
-use Rattle.shared_trees.specs.VisitsLaw.{AreAtRest, IsLed}
-use Rattle.shared_trees.specs.declared.starts.Start.{Start}
-use Rattle.shared_trees.proofs.Forest.{stands_as}
-use Rattle.shared_trees.proofs.Leading.{IsAtRest}
-use Rattle.shared_trees.proofs.Picking.{each_both}
-use Rattle.shared_trees.proofs.Skipping.{children_level}
+use Rattle.tree_laws.specs.Keeping.{IsKnown, Marks, OneOf, Stands, Under, anew_of, bound_of, comes_to, is_first, is_same, kept_of, last_if_same, start_of, starts_at, starts_in, starts_of}
+use Rattle.tree_laws.specs.LivePairs.{Walked, live_in, table_of}
+use Rattle.tree_laws.specs.Meeting.{met_in}
+use Rattle.tree_laws.specs.OldSide.{kept_at}
+use Rattle.tree_laws.specs.Skips.{Kept}
+use Rattle.tree_laws.specs.Stops.{is_stop}
+use Rattle.tree_laws.specs.TableLaw.{Tree}
+use Rattle.tree_laws.specs.VisitsLaw.{AreAtRest, IsLed}
+use Rattle.tree_laws.specs.declared.told.Start.{Start}
+use Rattle.tree_laws.proofs.Forest.{stands_as}
+use Rattle.tree_laws.proofs.Leading.{IsAtRest}
+use Rattle.tree_laws.proofs.Picking.{each_both}
+use Rattle.tree_laws.proofs.Skipping.{children_level}
 use Rattle.tree_change.specs.Looks.{met_by}
 use Rattle.tree_change.specs.OneTree.{IsOldOf, IsTree, KnowsNothing, KnowsTree, old_tree}
 use Rattle.tree_change.specs.Unchanged.{changes_at}

@@ -29,12 +29,12 @@ use Rattle.records.specs.Part.{Located, Part}
 use Rattle.records.specs.Part.Part.{LinkPart, RootPart, UnreadPart}
 use Rattle.records.specs.Walk.{children_of, walk_in}
 use Rattle.records.specs.WalkLaw.{children_in, visited, visited_from}
-use Rattle.shared_trees.specs.LivePairs.{Walked}
-use Rattle.shared_trees.specs.MergedLaw.{items, root_in, roots_seen}
-use Rattle.shared_trees.specs.SharedLaw.{HasTrees}
-use Rattle.shared_trees.specs.TableLaw.{Tree}
-use Rattle.shared_trees.proofs.MergedLists.{roots_are_seen, walk_fits}
-use Rattle.shared_trees.proofs.Treed.{steps_of}
+use Rattle.tree_laws.specs.LivePairs.{Walked}
+use Rattle.tree_laws.specs.MergedLaw.{items, root_in, roots_seen}
+use Rattle.tree_laws.specs.SharedLaw.{HasTrees}
+use Rattle.tree_laws.specs.TableLaw.{Tree}
+use Rattle.tree_laws.proofs.MergedLists.{roots_are_seen, walk_fits}
+use Rattle.tree_laws.proofs.Treed.{steps_of}
 use Rattle.tree_change.proofs.Olds.{same_ok}
 
 low_of : (n : ℕ) → nat_lt 7 n ≡ false → n < 8

@@ -20,17 +20,17 @@ use Rattle.node_reader.specs.declared.expect.Expect.{Expect}
 use Rattle.records.specs.Seen.{Seen}
 use Rattle.records.specs.Walk.{Records}
 use Rattle.volume_items.specs.declared.root_at.RootAt.{RootAt}
-use Rattle.shared_trees.specs.Ending.{ends_in}
-use Rattle.shared_trees.specs.Keeping.{Under, last_if_same}
-use Rattle.shared_trees.specs.KeepingWalk.{skip_in}
-use Rattle.shared_trees.specs.Known.{blocks_met}
-use Rattle.shared_trees.specs.MergedLaw.{items}
-use Rattle.shared_trees.specs.OldSide.{kept_at}
-use Rattle.shared_trees.specs.Skips.{Anew}
-use Rattle.shared_trees.specs.Stopping.{kept_among}
-use Rattle.shared_trees.specs.Stops.{is_stop}
-use Rattle.shared_trees.specs.Visits.{LooksFew, visits_in}
-use Rattle.shared_trees.specs.declared.keeps.Met.{Met}
+use Rattle.tree_laws.specs.Ending.{ends_in}
+use Rattle.tree_laws.specs.Keeping.{Under, last_if_same}
+use Rattle.tree_laws.specs.KeepingWalk.{skip_in}
+use Rattle.tree_laws.specs.Known.{blocks_met}
+use Rattle.tree_laws.specs.MergedLaw.{items}
+use Rattle.tree_laws.specs.OldSide.{kept_at}
+use Rattle.tree_laws.specs.Skips.{Anew}
+use Rattle.tree_laws.specs.Stopping.{kept_among}
+use Rattle.tree_laws.specs.Stops.{is_stop}
+use Rattle.tree_laws.specs.Visits.{LooksFew, visits_in}
+use Rattle.tree_laws.specs.declared.told.Met.{Met}
 use Rattle.tree_change.specs.AllTrees.{has_id, named_at, root_named}
 use Rattle.tree_change.specs.Firsts.{first_copies}
 use Rattle.tree_change.specs.Gathered.{Gathers, blocks_seen}

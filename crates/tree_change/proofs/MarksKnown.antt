@@ -9,10 +9,10 @@ use Rattle.touched_blocks.specs.Marking.{AreMarked, ClimbsTo}
 use Rattle.touched_blocks.specs.Marks.{Marked, marked_by, no_mark}
 use Rattle.touched_blocks.specs.Spots.{at_address}
 use Rattle.touched_blocks.specs.Touched.{touches_block, written_in}
-use Rattle.shared_trees.specs.LivePairs.{Walked}
-use Rattle.shared_trees.specs.Shared.{are_read_alike}
-use Rattle.shared_trees.specs.TableLaw.{Tree, trees_in}
-use Rattle.shared_trees.proofs.MarkedTrees.{marks_image}
+use Rattle.tree_laws.specs.LivePairs.{Walked}
+use Rattle.tree_laws.specs.Shared.{are_read_alike}
+use Rattle.tree_laws.specs.TableLaw.{Tree, trees_in}
+use Rattle.tree_laws.proofs.MarkedTrees.{marks_image}
 use Rattle.tree_change.specs.Accepted.{IsWalked}
 use Rattle.tree_change.specs.Compared.{FitsCompared, IsCompared, KeepsBy}
 use Rattle.tree_change.specs.Rising.{MarksAll}

@@ -24,7 +24,7 @@ use Rattle.verdict.specs.declared.key.Key.{Key}
 use Rattle.records.specs.Part.{Located}
 use Rattle.volume_items.specs.declared.root_at.RootAt.{RootAt}
 use Rattle.live_index.specs.Orders.{by_key}
-use Rattle.shared_trees.specs.MergedLaw.{begins_before, begins_with}
+use Rattle.tree_laws.specs.MergedLaw.{begins_before, begins_with}
 use Rattle.tree_change.specs.Merging.{IsSortedOf, chunks_among, chunks_left, has_named, named_before, roots_among, roots_left}
 use Rattle.tree_change.specs.Merges.{fits, has_key, has_start}
 

@@ -8,12 +8,12 @@ use Rattle.live_index.specs.Pairs.{Pairs}
 use Rattle.node_reader.specs.Stored.{Stored, block_in}
 use Rattle.node_reader.specs.declared.expect.Expect.{Expect}
 use Rattle.records.specs.WalkLaw.{children_in}
-use Rattle.shared_trees.specs.Keeping.{Marks, Under, kept_of, last_if_same}
-use Rattle.shared_trees.specs.Meeting.{met_and, met_below, met_of, met_or}
-use Rattle.shared_trees.specs.Skips.{Anew, Kept, is_below}
-use Rattle.shared_trees.specs.Visits.{visits_and, visits_below, visits_each, visits_of, visits_or}
-use Rattle.shared_trees.specs.VisitsLaw.{AreAtRest}
-use Rattle.shared_trees.proofs.OldStops.{all_append}
+use Rattle.tree_laws.specs.Keeping.{Marks, Under, kept_of, last_if_same}
+use Rattle.tree_laws.specs.Meeting.{met_and, met_below, met_of, met_or}
+use Rattle.tree_laws.specs.Skips.{Anew, Kept, is_below}
+use Rattle.tree_laws.specs.Visits.{visits_and, visits_below, visits_each, visits_of, visits_or}
+use Rattle.tree_laws.specs.VisitsLaw.{AreAtRest}
+use Rattle.tree_laws.proofs.OldStops.{all_append}
 
 module _ (kept : Kept) (anew : Anew) (sup : Super) (stored : Stored) where
   abbrev pub M : ℕ → Expect → List Expect

@@ -14,9 +14,9 @@ use Rattle.live_index.specs.Pairs.{Pairs}
 use Rattle.live_index.specs.declared.live.Live.{Live}
 use Rattle.node_reader.specs.declared.expect.Expect.{Expect}
 use Rattle.records.specs.Contents.{named_root}
-use Rattle.shared_trees.specs.LivePairs.{Walked}
-use Rattle.shared_trees.specs.Shared.{are_read_alike}
-use Rattle.shared_trees.specs.TableLaw.{Tree}
+use Rattle.tree_laws.specs.LivePairs.{Walked}
+use Rattle.tree_laws.specs.Shared.{are_read_alike}
+use Rattle.tree_laws.specs.TableLaw.{Tree}
 use Rattle.tree_change.specs.AllTrees.{gone_all, has_id, named_parts, no_parts, root_named, with_parts}
 use Rattle.tree_change.specs.Looks.{is_expected, met_by, new_visits, stays_by}
 use Rattle.tree_change.specs.LooksLaw.{entries_of}

@@ -21,20 +21,20 @@ use Rattle.records.specs.Walk.{Records, behind, then_records, walk_in, walk_of}
 use Rattle.records.specs.WalkLaw.{visited}
 use Rattle.touched_blocks.specs.Marks.{no_mark}
 use Rattle.touched_blocks.specs.Touched.{written_in}
-use Rattle.shared_trees.specs.Ending.{ends_in}
-use Rattle.shared_trees.specs.Keeping.{Stands, anew_of}
-use Rattle.shared_trees.specs.KeepingWalk.{skip_in}
-use Rattle.shared_trees.specs.LivePairs.{Walked, live_in, table_of}
-use Rattle.shared_trees.specs.Meeting.{met_in}
-use Rattle.shared_trees.specs.SkipLaw.{IsSound}
-use Rattle.shared_trees.specs.Skips.{Kept, nothing, unkept}
-use Rattle.shared_trees.specs.TableLaw.{Tree}
-use Rattle.shared_trees.proofs.Forest.{stands_as}
-use Rattle.shared_trees.proofs.ReadAlike.{listed_alike, marked_alike, stands_alike}
-use Rattle.shared_trees.proofs.Sharing.{keeps}
-use Rattle.shared_trees.proofs.Sifting.{starts_level}
-use Rattle.shared_trees.proofs.Skipping.{skips, unkept_in, unkept_is}
-use Rattle.shared_trees.proofs.Trails.{Tells, Trail, all_own, tells, trail_of}
+use Rattle.tree_laws.specs.Ending.{ends_in}
+use Rattle.tree_laws.specs.Keeping.{Stands, anew_of}
+use Rattle.tree_laws.specs.KeepingWalk.{skip_in}
+use Rattle.tree_laws.specs.LivePairs.{Walked, live_in, table_of}
+use Rattle.tree_laws.specs.Meeting.{met_in}
+use Rattle.tree_laws.specs.SkipLaw.{IsSound}
+use Rattle.tree_laws.specs.Skips.{Kept, nothing, unkept}
+use Rattle.tree_laws.specs.TableLaw.{Tree}
+use Rattle.tree_laws.proofs.Forest.{stands_as}
+use Rattle.tree_laws.proofs.ReadAlike.{listed_alike, marked_alike, stands_alike}
+use Rattle.tree_laws.proofs.Sharing.{keeps}
+use Rattle.tree_laws.proofs.Sifting.{starts_level}
+use Rattle.tree_laws.proofs.Skipping.{skips, unkept_in, unkept_is}
+use Rattle.tree_laws.proofs.Trails.{Tells, Trail, all_own, tells, trail_of}
 use Rattle.tree_change.specs.AllTrees.{IsOver, KnowsTrees, NamedLaw, named_parts, no_parts, root_named, with_parts}
 use Rattle.tree_change.specs.Merging.{root_at}
 use Rattle.tree_change.specs.OneTree.{GivesTree, IsAmong, KnowsNothing, KnowsTree, OneTreeLaw, old_tree, side_of}

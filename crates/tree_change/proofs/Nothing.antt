@@ -15,20 +15,20 @@ use Rattle.node_reader.specs.Stored.{Stored, stored_in}
 use Rattle.node_reader.specs.declared.expect.Expect.{Expect}
 use Rattle.records.specs.Seen.{Seen}
 use Rattle.records.specs.Walk.{walk_in, walk_of}
-use Rattle.shared_trees.specs.Ending.{ends_in}
-use Rattle.shared_trees.specs.EndsLaw.{ended_at}
-use Rattle.shared_trees.specs.Keeping.{Stands}
-use Rattle.shared_trees.specs.KeepingWalk.{skip_in}
-use Rattle.shared_trees.specs.LivePairs.{Walked, live_in, table_of}
-use Rattle.shared_trees.specs.Meeting.{met_in}
-use Rattle.shared_trees.specs.MergedLaw.{IsInOrder, begins_before, chunks_seen, items, roots_seen}
-use Rattle.shared_trees.specs.OldSide.{IsRoot, kept_at}
-use Rattle.shared_trees.specs.Shared.{is_shared_by}
-use Rattle.shared_trees.specs.SharedLaw.{HasTrees}
-use Rattle.shared_trees.specs.ShiftedLaw.{is_shifted}
-use Rattle.shared_trees.specs.TableLaw.{Tree}
-use Rattle.shared_trees.specs.Unshared.{AreOfPairs, items_in}
-use Rattle.shared_trees.proofs.Forest.{stands_as, tree_table}
+use Rattle.tree_laws.specs.Ending.{ends_in}
+use Rattle.tree_laws.specs.EndsLaw.{ended_at}
+use Rattle.tree_laws.specs.Keeping.{Stands}
+use Rattle.tree_laws.specs.KeepingWalk.{skip_in}
+use Rattle.tree_laws.specs.LivePairs.{Walked, live_in, table_of}
+use Rattle.tree_laws.specs.Meeting.{met_in}
+use Rattle.tree_laws.specs.MergedLaw.{IsInOrder, begins_before, chunks_seen, items, roots_seen}
+use Rattle.tree_laws.specs.OldSide.{IsRoot, kept_at}
+use Rattle.tree_laws.specs.Shared.{is_shared_by}
+use Rattle.tree_laws.specs.SharedLaw.{HasTrees}
+use Rattle.tree_laws.specs.ShiftedLaw.{is_shifted}
+use Rattle.tree_laws.specs.TableLaw.{Tree}
+use Rattle.tree_laws.specs.Unshared.{AreOfPairs, items_in}
+use Rattle.tree_laws.proofs.Forest.{stands_as, tree_table}
 use Rattle.tree_change.specs.Gathered.{Gathers, blocks_seen}
 use Rattle.tree_change.specs.Merging.{chunks_left, named_before, root_at, roots_left}
 use Rattle.tree_change.specs.OneTree.{ChangesTree, GivesTree, HasRecords, IsAmong, IsOldOf, KnowsNothing, old_tree, unchanged, side_of}

@@ -14,14 +14,14 @@ use Rattle.node_reader.specs.declared.expect.Expect.{Expect}
 use Rattle.records.specs.Seen.{Seen}
 use Rattle.records.specs.Walk.{Records, behind, block_and, each, own_records, then_records, walk_of}
 use Rattle.records.specs.WalkLaw.{children_in}
-use Rattle.shared_trees.specs.Keeping.{Under, anew_of}
-use Rattle.shared_trees.specs.Skips.{Anew, Kept, next_of, nothing, skip_and, skip_below, skip_of, skip_or}
-use Rattle.shared_trees.specs.Visits.{visits_and, visits_below, visits_each, visits_of, visits_or}
-use Rattle.shared_trees.specs.VisitsLaw.{IsLed, LeadsOn, blocks_seen, entries_seen}
-use Rattle.shared_trees.proofs.FewVisits.{few_visits}
-use Rattle.shared_trees.proofs.Picking.{each_both}
-use Rattle.shared_trees.proofs.Sifting.{starts_level}
-use Rattle.shared_trees.proofs.Skipping.{children_level}
+use Rattle.tree_laws.specs.Keeping.{Under, anew_of}
+use Rattle.tree_laws.specs.Skips.{Anew, Kept, next_of, nothing, skip_and, skip_below, skip_of, skip_or}
+use Rattle.tree_laws.specs.Visits.{visits_and, visits_below, visits_each, visits_of, visits_or}
+use Rattle.tree_laws.specs.VisitsLaw.{IsLed, LeadsOn, blocks_seen, entries_seen}
+use Rattle.tree_laws.proofs.FewVisits.{few_visits}
+use Rattle.tree_laws.proofs.Picking.{each_both}
+use Rattle.tree_laws.proofs.Sifting.{starts_level}
+use Rattle.tree_laws.proofs.Skipping.{children_level}
 use Rattle.tree_change.proofs.SomeRead.{HasBlock, some_read}
 
 -- each block of a tree that is walked below a kept one is on the next level, and is not kept or leads on to others

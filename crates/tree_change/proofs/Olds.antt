@@ -9,15 +9,15 @@ use Rattle.node_reader.specs.Stored.{stored_in}
 use Rattle.node_reader.specs.declared.expect.Expect.{Expect}
 use Rattle.records.specs.Seen.{Seen}
 use Rattle.records.specs.Walk.{Records, walk_of}
-use Rattle.shared_trees.specs.Keeping.{Stands}
-use Rattle.shared_trees.specs.KeepingWalk.{skip_in}
-use Rattle.shared_trees.specs.LivePairs.{Walked, live_in, table_of}
-use Rattle.shared_trees.specs.MergedLaw.{items}
-use Rattle.shared_trees.specs.OldSide.{kept_at}
-use Rattle.shared_trees.specs.SharedLaw.{HasTrees}
-use Rattle.shared_trees.specs.TableLaw.{Tree}
-use Rattle.shared_trees.proofs.Forest.{tables_stand}
-use Rattle.shared_trees.proofs.Treed.{trees_walk}
+use Rattle.tree_laws.specs.Keeping.{Stands}
+use Rattle.tree_laws.specs.KeepingWalk.{skip_in}
+use Rattle.tree_laws.specs.LivePairs.{Walked, live_in, table_of}
+use Rattle.tree_laws.specs.MergedLaw.{items}
+use Rattle.tree_laws.specs.OldSide.{kept_at}
+use Rattle.tree_laws.specs.SharedLaw.{HasTrees}
+use Rattle.tree_laws.specs.TableLaw.{Tree}
+use Rattle.tree_laws.proofs.Forest.{tables_stand}
+use Rattle.tree_laws.proofs.Treed.{trees_walk}
 use Rattle.tree_change.specs.Gathered.{Gathers, blocks_seen}
 use Rattle.tree_change.specs.OneTree.{IsAmong, old_tree, side_of}
 use Rattle.tree_change.specs.Walks.{Known, listed_by, old_walk}

@@ -14,20 +14,20 @@ use Rattle.records.specs.Seen.{Seen}
 use Rattle.records.specs.Seen.Seen.{BlockSeen, ItemSeen, PointerSeen}
 use Rattle.records.specs.Walk.{Records, each, walk_in, walk_of}
 use Rattle.records.specs.WalkLaw.{visited}
-use Rattle.shared_trees.specs.Ending.{ends_in, ends_of}
-use Rattle.shared_trees.specs.Keeping.{live_at}
-use Rattle.shared_trees.specs.KeepingWalk.{skip_in}
-use Rattle.shared_trees.specs.OldSide.{kept_at}
-use Rattle.shared_trees.specs.LivePairs.{Walked, live_in}
-use Rattle.shared_trees.specs.Meeting.{met_in, met_of}
-use Rattle.shared_trees.specs.MergedLaw.{IsInOrder, begins_before, chunks_seen, items, roots_seen}
-use Rattle.shared_trees.specs.MovedLaw.{is_other_than}
-use Rattle.shared_trees.specs.ShiftedLaw.{is_shifted}
-use Rattle.shared_trees.specs.SkipLaw.{IsSound}
-use Rattle.shared_trees.specs.Skips.{nothing, part_of, unkept}
-use Rattle.shared_trees.specs.Stops.{stops_of}
-use Rattle.shared_trees.specs.Unshared.{AreOfPairs, is_block_seen, items_in}
-use Rattle.shared_trees.proofs.Skipping.{skips}
+use Rattle.tree_laws.specs.Ending.{ends_in, ends_of}
+use Rattle.tree_laws.specs.Keeping.{live_at}
+use Rattle.tree_laws.specs.KeepingWalk.{skip_in}
+use Rattle.tree_laws.specs.OldSide.{kept_at}
+use Rattle.tree_laws.specs.LivePairs.{Walked, live_in}
+use Rattle.tree_laws.specs.Meeting.{met_in, met_of}
+use Rattle.tree_laws.specs.MergedLaw.{IsInOrder, begins_before, chunks_seen, items, roots_seen}
+use Rattle.tree_laws.specs.MovedLaw.{is_other_than}
+use Rattle.tree_laws.specs.ShiftedLaw.{is_shifted}
+use Rattle.tree_laws.specs.SkipLaw.{IsSound}
+use Rattle.tree_laws.specs.Skips.{nothing, part_of, unkept}
+use Rattle.tree_laws.specs.Stops.{stops_of}
+use Rattle.tree_laws.specs.Unshared.{AreOfPairs, is_block_seen, items_in}
+use Rattle.tree_laws.proofs.Skipping.{skips}
 use Rattle.tree_change.specs.Gathered.{Gathers, blocks_seen}
 use Rattle.tree_change.specs.Merging.{chunks_left, named_before, root_at, roots_left}
 use Rattle.tree_change.specs.OneTree.{ChangesTree, GivesTree, HasRecords, unchanged, side_of}

@@ -4,7 +4,7 @@ use Rattle.std.proofs.lemmas.Bool.{eqb-true}
 use Rattle.std.specs.Prelude.{Option, Some, None, IfSome, Result, Ok}
 use Rattle.std.specs.List.{AllByRecursion, list_any}
 use Rattle.std.specs.Result.{IsOk}
-use Rattle.shared_trees.proofs.Meeting.{block_is}
+use Rattle.tree_laws.proofs.Meeting.{block_is}
 use Rattle.verdict.proofs.Lists.{all_map as each_map}
 use Rattle.verdict.proofs.Truth.{and_parts, neither}
 use Rattle.verdict.specs.declared.key.Key.{Key}
@@ -16,16 +16,16 @@ use Rattle.node_reader.specs.declared.expect.Expect.{Expect}
 use Rattle.records.specs.Seen.{Seen}
 use Rattle.records.specs.Walk.{walk_of}
 use Rattle.records.specs.WalkLaw.{visited, visited_from}
-use Rattle.shared_trees.specs.Keeping.{AreListed, AreMarked, AreUntouched, IsKnown, Marks, OneOf, Stands, Under, comes_to, first_in, is_first, is_same, kept_of, last_in, live_at, owner_in, starts_at}
-use Rattle.shared_trees.specs.LivePairs.{live_in, table_of}
-use Rattle.shared_trees.proofs.Accepted.{accepts}
-use Rattle.shared_trees.proofs.Forest.{of_root, tree_table}
-use Rattle.shared_trees.proofs.Picking.{each_both}
-use Rattle.shared_trees.proofs.Sharing.{found}
-use Rattle.shared_trees.proofs.Tables.{Any, any_each}
-use Rattle.shared_trees.proofs.Trails.{trail_below, trail_of}
-use Rattle.shared_trees.proofs.Visiting.{Visits, comes_from, visits_from}
-use Rattle.shared_trees.proofs.Within.{Below, within}
+use Rattle.tree_laws.specs.Keeping.{AreListed, AreMarked, AreUntouched, IsKnown, Marks, OneOf, Stands, Under, comes_to, first_in, is_first, is_same, kept_of, last_in, live_at, owner_in, starts_at}
+use Rattle.tree_laws.specs.LivePairs.{live_in, table_of}
+use Rattle.tree_laws.proofs.Accepted.{accepts}
+use Rattle.tree_laws.proofs.Forest.{of_root, tree_table}
+use Rattle.tree_laws.proofs.Picking.{each_both}
+use Rattle.tree_laws.proofs.Sharing.{found}
+use Rattle.tree_laws.proofs.Tables.{Any, any_each}
+use Rattle.tree_laws.proofs.Trails.{trail_below, trail_of}
+use Rattle.tree_laws.proofs.Visiting.{Visits, comes_from, visits_from}
+use Rattle.tree_laws.proofs.Within.{Below, within}
 use Rattle.tree_change.specs.Walks.{moved_to}
 
 -- one of several, with what holds of each

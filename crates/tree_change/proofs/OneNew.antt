@@ -21,21 +21,21 @@ use Rattle.records.specs.Seen.Seen.{BlockSeen, ItemSeen, PointerSeen}
 use Rattle.records.specs.Walk.{block_at, walk_of}
 use Rattle.records.specs.WalkLaw.{visited}
 use Rattle.records.specs.declared.rec.WalkedBlock.{WalkedBlock}
-use Rattle.shared_trees.specs.Ending.{Lasts, ends_of}
-use Rattle.shared_trees.specs.EndsLaw.{ended_at, walked_of}
-use Rattle.shared_trees.specs.Keeping.{OneOf, first_in, last_in, live_at, owner_in, starts_at, starts_of}
-use Rattle.shared_trees.specs.LivePairs.{live_in, table_of}
-use Rattle.shared_trees.specs.Meeting.{met_of}
-use Rattle.shared_trees.specs.MovedLaw.{is_other_than, kept_in, shifted_by}
-use Rattle.shared_trees.specs.SkipLaw.{IsSound}
-use Rattle.shared_trees.specs.Skips.{Anew, Kept, is_below, nothing, skip_of, unkept}
-use Rattle.shared_trees.specs.Stops.{stops_of}
-use Rattle.shared_trees.specs.Unshared.{AreOfPairs, pair_seen}
-use Rattle.shared_trees.specs.declared.keeps.Ended.{Ended}
-use Rattle.shared_trees.proofs.Forest.{tree_table}
-use Rattle.shared_trees.proofs.MeetingStops.{meets, no_walk}
-use Rattle.shared_trees.proofs.OldBlocks.{unshared_are}
-use Rattle.shared_trees.proofs.Skipping.{skips}
+use Rattle.tree_laws.specs.Ending.{Lasts, ends_of}
+use Rattle.tree_laws.specs.EndsLaw.{ended_at, walked_of}
+use Rattle.tree_laws.specs.Keeping.{OneOf, first_in, last_in, live_at, owner_in, starts_at, starts_of}
+use Rattle.tree_laws.specs.LivePairs.{live_in, table_of}
+use Rattle.tree_laws.specs.Meeting.{met_of}
+use Rattle.tree_laws.specs.MovedLaw.{is_other_than, kept_in, shifted_by}
+use Rattle.tree_laws.specs.SkipLaw.{IsSound}
+use Rattle.tree_laws.specs.Skips.{Anew, Kept, is_below, nothing, skip_of, unkept}
+use Rattle.tree_laws.specs.Stops.{stops_of}
+use Rattle.tree_laws.specs.Unshared.{AreOfPairs, pair_seen}
+use Rattle.tree_laws.specs.declared.told.Ended.{Ended}
+use Rattle.tree_laws.proofs.Forest.{tree_table}
+use Rattle.tree_laws.proofs.MeetingStops.{meets, no_walk}
+use Rattle.tree_laws.proofs.OldBlocks.{unshared_are}
+use Rattle.tree_laws.proofs.Skipping.{skips}
 use Rattle.tree_change.specs.Gathered.{blocks_seen}
 use Rattle.tree_change.specs.Walks.{last_at, live_with, lives_of, moved_of, moved_pair, moved_to, pairs_at, with_last}
 use Rattle.tree_change.proofs.OneKept.{IsGood, all_good, one_with}

@@ -17,20 +17,20 @@ use Rattle.node_reader.specs.declared.expect.Pointer.{Pointer}
 use Rattle.records.specs.Seen.{Seen}
 use Rattle.records.specs.Walk.{children_of, walk_of}
 use Rattle.records.specs.WalkLaw.{children_in, visited, visited_from}
-use Rattle.shared_trees.specs.Ending.{Ends, Lasts, before_ends, each_ends, end_at, ends_and, ends_below, ends_of, ends_or, own_last, read_ends}
-use Rattle.shared_trees.specs.EndsLaw.{ended_at, next_or, walked_and, walked_below, walked_of}
-use Rattle.shared_trees.specs.Keeping.{Marks, Under, anew_of, comes_to, kept_of, live_at, starts_at, starts_in}
-use Rattle.shared_trees.specs.Known.{last_of}
-use Rattle.shared_trees.specs.LivePairs.{live_in, table_of}
-use Rattle.shared_trees.specs.MovedLaw.{shifted_by}
-use Rattle.shared_trees.specs.SkipLaw.{IsSound}
-use Rattle.shared_trees.specs.Skips.{Anew, Kept, next_of, nothing}
-use Rattle.shared_trees.specs.Stops.{stops_and, stops_below, stops_or}
-use Rattle.shared_trees.proofs.EndsTold.{ends}
-use Rattle.shared_trees.proofs.Forest.{of_root, tree_table}
-use Rattle.shared_trees.proofs.Picking.{each_both}
-use Rattle.shared_trees.proofs.Sifting.{starts_level}
-use Rattle.shared_trees.proofs.Skipping.{children_level}
+use Rattle.tree_laws.specs.Ending.{Ends, Lasts, before_ends, each_ends, end_at, ends_and, ends_below, ends_of, ends_or, own_last, read_ends}
+use Rattle.tree_laws.specs.EndsLaw.{ended_at, next_or, walked_and, walked_below, walked_of}
+use Rattle.tree_laws.specs.Keeping.{Marks, Under, anew_of, comes_to, kept_of, live_at, starts_at, starts_in}
+use Rattle.tree_laws.specs.Known.{last_of}
+use Rattle.tree_laws.specs.LivePairs.{live_in, table_of}
+use Rattle.tree_laws.specs.MovedLaw.{shifted_by}
+use Rattle.tree_laws.specs.SkipLaw.{IsSound}
+use Rattle.tree_laws.specs.Skips.{Anew, Kept, next_of, nothing}
+use Rattle.tree_laws.specs.Stops.{stops_and, stops_below, stops_or}
+use Rattle.tree_laws.proofs.EndsTold.{ends}
+use Rattle.tree_laws.proofs.Forest.{of_root, tree_table}
+use Rattle.tree_laws.proofs.Picking.{each_both}
+use Rattle.tree_laws.proofs.Sifting.{starts_level}
+use Rattle.tree_laws.proofs.Skipping.{children_level}
 use Rattle.tree_change.proofs.OneNew.{IsNew}
 
 -- the same of each of several

@@ -22,37 +22,37 @@ use Rattle.records.specs.Walk.{Records, behind, each, then_records, walk_in, wal
 use Rattle.records.specs.WalkLaw.{visited}
 use Rattle.touched_blocks.specs.Marks.{no_mark}
 use Rattle.touched_blocks.specs.Touched.{stays_in_place, written_in}
-use Rattle.shared_trees.specs.Ending.{Ends}
-use Rattle.shared_trees.specs.KeepingWalk.{skip_in}
-use Rattle.shared_trees.specs.Keeping.{AreListed, AreMarked, AreUntouched, Marks, Stands, Under, anew_of, kept_of, live_at, starts_of}
-use Rattle.shared_trees.specs.LivePairs.{Walked, live_in, table_of}
-use Rattle.shared_trees.specs.MergedLaw.{AreRead, AreShared, items, roots_seen}
-use Rattle.shared_trees.specs.MovedLaw.{is_other_than, kept_in, shifted_by}
-use Rattle.shared_trees.specs.OldSide.{IsRoot, TellsShared, kept_at, kept_where}
-use Rattle.shared_trees.specs.Shared.{are_read_alike}
-use Rattle.shared_trees.specs.SharedLaw.{HasTrees, IsBefore, touches_old}
-use Rattle.shared_trees.specs.ShiftedLaw.{is_shifted}
-use Rattle.shared_trees.specs.SkipLaw.{IsSound}
-use Rattle.shared_trees.specs.Skips.{Kept, nothing, skip_of, unkept}
-use Rattle.shared_trees.specs.Stops.{stops_of}
-use Rattle.shared_trees.specs.TableLaw.{AreApart, Tree, is_other}
-use Rattle.shared_trees.proofs.EndsTold.{ends}
-use Rattle.shared_trees.proofs.Forest.{of_root, stands_as, tables_stand, tree_table}
-use Rattle.shared_trees.proofs.Images.{read_alike, stored_alike}
-use Rattle.shared_trees.proofs.Kept.{keeps_tree}
-use Rattle.shared_trees.proofs.KeptImage.{nodesize_same}
-use Rattle.shared_trees.proofs.KnownShared.{knows_shared}
-use Rattle.shared_trees.proofs.Meeting.{shows}
-use Rattle.shared_trees.proofs.Merged.{kept_where_just}
-use Rattle.shared_trees.proofs.MergedLists.{chunks_merge, roots_merge}
-use Rattle.shared_trees.proofs.OldBlocks.{unshared_are}
-use Rattle.shared_trees.proofs.OldSide.{old_side}
-use Rattle.shared_trees.proofs.OldSupers.{give_alike}
-use Rattle.shared_trees.proofs.OldTells.{tells_shared}
-use Rattle.shared_trees.proofs.ReadAlike.{listed_alike, marked_alike, stands_alike}
-use Rattle.shared_trees.proofs.Sharing.{keeps}
-use Rattle.shared_trees.proofs.Sifting.{nil}
-use Rattle.shared_trees.proofs.Treed.{trees_walk}
+use Rattle.tree_laws.specs.Ending.{Ends}
+use Rattle.tree_laws.specs.KeepingWalk.{skip_in}
+use Rattle.tree_laws.specs.Keeping.{AreListed, AreMarked, AreUntouched, Marks, Stands, Under, anew_of, kept_of, live_at, starts_of}
+use Rattle.tree_laws.specs.LivePairs.{Walked, live_in, table_of}
+use Rattle.tree_laws.specs.MergedLaw.{AreRead, AreShared, items, roots_seen}
+use Rattle.tree_laws.specs.MovedLaw.{is_other_than, kept_in, shifted_by}
+use Rattle.tree_laws.specs.OldSide.{IsRoot, TellsShared, kept_at, kept_where}
+use Rattle.tree_laws.specs.Shared.{are_read_alike}
+use Rattle.tree_laws.specs.SharedLaw.{HasTrees, IsBefore, touches_old}
+use Rattle.tree_laws.specs.ShiftedLaw.{is_shifted}
+use Rattle.tree_laws.specs.SkipLaw.{IsSound}
+use Rattle.tree_laws.specs.Skips.{Kept, nothing, skip_of, unkept}
+use Rattle.tree_laws.specs.Stops.{stops_of}
+use Rattle.tree_laws.specs.TableLaw.{AreApart, Tree, is_other}
+use Rattle.tree_laws.proofs.EndsTold.{ends}
+use Rattle.tree_laws.proofs.Forest.{of_root, stands_as, tables_stand, tree_table}
+use Rattle.tree_laws.proofs.Images.{read_alike, stored_alike}
+use Rattle.tree_laws.proofs.Kept.{keeps_tree}
+use Rattle.tree_laws.proofs.KeptImage.{nodesize_same}
+use Rattle.tree_laws.proofs.KnownShared.{knows_shared}
+use Rattle.tree_laws.proofs.Meeting.{shows}
+use Rattle.tree_laws.proofs.Merged.{kept_where_just}
+use Rattle.tree_laws.proofs.MergedLists.{chunks_merge, roots_merge}
+use Rattle.tree_laws.proofs.OldBlocks.{unshared_are}
+use Rattle.tree_laws.proofs.OldSide.{old_side}
+use Rattle.tree_laws.proofs.OldSupers.{give_alike}
+use Rattle.tree_laws.proofs.OldTells.{tells_shared}
+use Rattle.tree_laws.proofs.ReadAlike.{listed_alike, marked_alike, stands_alike}
+use Rattle.tree_laws.proofs.Sharing.{keeps}
+use Rattle.tree_laws.proofs.Sifting.{nil}
+use Rattle.tree_laws.proofs.Treed.{trees_walk}
 use Rattle.tree_change.specs.Gathered.{blocks_seen}
 use Rattle.tree_change.specs.OneTree.{GivesTree, IsAmong, IsOldOf, KnowsTree, alone, old_tree, unchanged}
 use Rattle.tree_change.specs.Unchanged.{changes_at, none_touched, stays_unchanged}

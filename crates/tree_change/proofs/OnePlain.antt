@@ -16,19 +16,19 @@ use Rattle.records.specs.Walk.{walk_of}
 use Rattle.records.specs.WalkLaw.{visited}
 use Rattle.touched_blocks.specs.Marks.{no_mark}
 use Rattle.touched_blocks.specs.Touched.{stays_in_place, written_in}
-use Rattle.shared_trees.specs.Ending.{ends_in}
-use Rattle.shared_trees.specs.Keeping.{AreMarked, AreUntouched, Marks, Under, kept_of, last_if_same}
-use Rattle.shared_trees.specs.KeepingWalk.{skip_in}
-use Rattle.shared_trees.specs.LivePairs.{Walked}
-use Rattle.shared_trees.specs.Meeting.{met_in}
-use Rattle.shared_trees.specs.SharedLaw.{touches_old}
-use Rattle.shared_trees.specs.Skips.{Kept}
+use Rattle.tree_laws.specs.Ending.{ends_in}
+use Rattle.tree_laws.specs.Keeping.{AreMarked, AreUntouched, Marks, Under, kept_of, last_if_same}
+use Rattle.tree_laws.specs.KeepingWalk.{skip_in}
+use Rattle.tree_laws.specs.LivePairs.{Walked}
+use Rattle.tree_laws.specs.Meeting.{met_in}
+use Rattle.tree_laws.specs.SharedLaw.{touches_old}
+use Rattle.tree_laws.specs.Skips.{Kept}
 use Rattle.tree_change.specs.Gathered.{blocks_seen}
 use Rattle.tree_change.specs.Looks.{met_by}
 use Rattle.tree_change.specs.OneTree.{GivesTree, KnowsTree, side_of}
 use Rattle.tree_change.specs.Unchanged.{changes_at, none_touched}
 use Rattle.tree_change.specs.Walks.{Known, NewWalk, Parts, Side, kept_by, lasts_by, listed_by, new_walk, old_or_none, old_walk, parts_of, tree_parts}
-use Rattle.shared_trees.specs.MergedLaw.{items}
+use Rattle.tree_laws.specs.MergedLaw.{items}
 
 -- no block is touched, so none is marked
 pub nothing_marked : (sup : Super) (stored : Stored) (e : Expect) → IsOk (walk_of sup stored e) → AreMarked no_mark none_touched sup stored e

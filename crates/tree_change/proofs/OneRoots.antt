@@ -9,7 +9,7 @@ use Rattle.verdict.specs.OnDisk.{key_same}
 use Rattle.volume_items.specs.declared.root.RootItem.{RootItem}
 use Rattle.records.specs.Part.{Located}
 use Rattle.records.specs.Seen.{Seen}
-use Rattle.shared_trees.specs.MergedLaw.{IsInOrder, has_root_key, items, root_before, root_in, roots_seen}
+use Rattle.tree_laws.specs.MergedLaw.{IsInOrder, has_root_key, items, root_before, root_in, roots_seen}
 use Rattle.tree_change.specs.Merging.{has_named, named_before, root_at, root_at_of, roots_among, roots_left}
 
 -- what holds of each pair of a list holds of what is made of them

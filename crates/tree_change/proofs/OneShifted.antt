@@ -13,15 +13,15 @@ use Rattle.node_reader.specs.declared.expect.Expect.{Expect}
 use Rattle.records.specs.Seen.{Seen}
 use Rattle.records.specs.Walk.{walk_of}
 use Rattle.records.specs.WalkLaw.{visited}
-use Rattle.shared_trees.specs.Keeping.{OneOf, Stands, live_at}
-use Rattle.shared_trees.specs.LivePairs.{live_in}
-use Rattle.shared_trees.specs.MergedLaw.{AreShared}
-use Rattle.shared_trees.specs.MovedLaw.{is_other_than, kept_in, shifted_by}
-use Rattle.shared_trees.specs.Shared.{are_alike}
-use Rattle.shared_trees.specs.ShiftedLaw.{is_shifted}
-use Rattle.shared_trees.specs.Skips.{Kept}
-use Rattle.shared_trees.proofs.Lives.{lives_are}
-use Rattle.shared_trees.proofs.OldTells.{has_same}
+use Rattle.tree_laws.specs.Keeping.{OneOf, Stands, live_at}
+use Rattle.tree_laws.specs.LivePairs.{live_in}
+use Rattle.tree_laws.specs.MergedLaw.{AreShared}
+use Rattle.tree_laws.specs.MovedLaw.{is_other_than, kept_in, shifted_by}
+use Rattle.tree_laws.specs.Shared.{are_alike}
+use Rattle.tree_laws.specs.ShiftedLaw.{is_shifted}
+use Rattle.tree_laws.specs.Skips.{Kept}
+use Rattle.tree_laws.proofs.Lives.{lives_are}
+use Rattle.tree_laws.proofs.OldTells.{has_same}
 
 -- whether the node above a pair and its greatest key are another's
 abbrev pub differ : Live → Live → Bool

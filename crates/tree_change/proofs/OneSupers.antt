@@ -11,12 +11,12 @@ use Rattle.node_reader.specs.declared.expect.Expect.{Expect}
 use Rattle.records.specs.Seen.{Seen}
 use Rattle.records.specs.Walk.{each, own_records, then_records, walk_of}
 use Rattle.records.specs.WalkLaw.{visited}
-use Rattle.shared_trees.specs.Shared.{are_read_alike}
-use Rattle.shared_trees.specs.Skips.{Kept, nothing, own_of, part_of, unkept, where_new}
-use Rattle.shared_trees.proofs.Images.{read_alike, same_fsid}
-use Rattle.shared_trees.proofs.OldSupers.{give_alike}
-use Rattle.shared_trees.proofs.Skipping.{unkept_in, unkept_is}
-use Rattle.shared_trees.proofs.Trails.{Tells, Trail, tells, trail_of}
+use Rattle.tree_laws.specs.Shared.{are_read_alike}
+use Rattle.tree_laws.specs.Skips.{Kept, nothing, own_of, part_of, unkept, where_new}
+use Rattle.tree_laws.proofs.Images.{read_alike, same_fsid}
+use Rattle.tree_laws.proofs.OldSupers.{give_alike}
+use Rattle.tree_laws.proofs.Skipping.{unkept_in, unkept_is}
+use Rattle.tree_laws.proofs.Trails.{Tells, Trail, tells, trail_of}
 
 own_same : (a b : Super) (bytes : List ℕ) (e : Expect) → a.nodesize ≡ b.nodesize → a.incompat ≡ b.incompat → a.compat_ro ≡ b.compat_ro
     → a.devid ≡ b.devid → own_records a e bytes ≡ own_records b e bytes

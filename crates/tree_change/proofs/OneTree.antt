@@ -17,19 +17,19 @@ use Rattle.records.specs.Walk.{walk_of}
 use Rattle.records.specs.WalkLaw.{visited}
 use Rattle.touched_blocks.specs.Marks.{no_mark}
 use Rattle.touched_blocks.specs.Touched.{written_in}
-use Rattle.shared_trees.specs.Keeping.{Under, kept_of, last_if_same, live_at}
-use Rattle.shared_trees.specs.LivePairs.{Walked, live_in, table_of}
-use Rattle.shared_trees.specs.MovedLaw.{is_other_than}
-use Rattle.shared_trees.specs.OldSide.{IsRoot}
-use Rattle.shared_trees.specs.Shared.{are_read_alike}
-use Rattle.shared_trees.specs.SharedLaw.{HasTrees, IsBefore}
-use Rattle.shared_trees.specs.ShiftedLaw.{is_shifted}
-use Rattle.shared_trees.specs.Skips.{Kept}
-use Rattle.shared_trees.specs.TableLaw.{Tree}
-use Rattle.shared_trees.proofs.Forest.{all_lives, lives_all, of_root, others_all, table_none, tree_table}
-use Rattle.shared_trees.proofs.Kept.{keeps_tree}
-use Rattle.shared_trees.proofs.Picking.{each_both}
-use Rattle.shared_trees.proofs.Treed.{trees_walk}
+use Rattle.tree_laws.specs.Keeping.{Under, kept_of, last_if_same, live_at}
+use Rattle.tree_laws.specs.LivePairs.{Walked, live_in, table_of}
+use Rattle.tree_laws.specs.MovedLaw.{is_other_than}
+use Rattle.tree_laws.specs.OldSide.{IsRoot}
+use Rattle.tree_laws.specs.Shared.{are_read_alike}
+use Rattle.tree_laws.specs.SharedLaw.{HasTrees, IsBefore}
+use Rattle.tree_laws.specs.ShiftedLaw.{is_shifted}
+use Rattle.tree_laws.specs.Skips.{Kept}
+use Rattle.tree_laws.specs.TableLaw.{Tree}
+use Rattle.tree_laws.proofs.Forest.{all_lives, lives_all, of_root, others_all, table_none, tree_table}
+use Rattle.tree_laws.proofs.Kept.{keeps_tree}
+use Rattle.tree_laws.proofs.Picking.{each_both}
+use Rattle.tree_laws.proofs.Treed.{trees_walk}
 use Rattle.tree_change.specs.OneTree.{GivesTree, IsOldOf, KnowsTree, alone, unchanged}
 use Rattle.tree_change.specs.Unchanged.{changes_at, none_touched, stays_unchanged}
 use Rattle.tree_change.specs.Walks.{Known, Side, lasts_by}

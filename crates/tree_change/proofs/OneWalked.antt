@@ -17,16 +17,16 @@ use Rattle.records.specs.Seen.Seen.{BlockSeen, ItemSeen, PointerSeen}
 use Rattle.records.specs.Walk.{Records, behind, block_and, block_at, child_of, children_of, each, entry_records, high_of, own_records, then_records, walk_of}
 use Rattle.records.specs.WalkLaw.{children_in, visited_from}
 use Rattle.records.specs.declared.rec.WalkedBlock.{WalkedBlock}
-use Rattle.shared_trees.specs.EndsLaw.{next_or, walked_and, walked_below}
-use Rattle.shared_trees.specs.Keeping.{OneOf, starts_at, starts_in, starts_of}
-use Rattle.shared_trees.specs.Skips.{Anew, Kept, is_below, next_of, nothing, skip_and, skip_below, skip_or}
-use Rattle.shared_trees.specs.Stops.{stops_and, stops_below, stops_or}
-use Rattle.shared_trees.proofs.Forest.{then_ok}
-use Rattle.shared_trees.proofs.Lives.{NoBlocks, entries_none, ok_same}
-use Rattle.shared_trees.proofs.OldStops.{all_append}
-use Rattle.shared_trees.proofs.Picking.{each_both}
-use Rattle.shared_trees.proofs.Sifting.{behind_none, or_high_is}
-use Rattle.shared_trees.proofs.Skipping.{children_level}
+use Rattle.tree_laws.specs.EndsLaw.{next_or, walked_and, walked_below}
+use Rattle.tree_laws.specs.Keeping.{OneOf, starts_at, starts_in, starts_of}
+use Rattle.tree_laws.specs.Skips.{Anew, Kept, is_below, next_of, nothing, skip_and, skip_below, skip_or}
+use Rattle.tree_laws.specs.Stops.{stops_and, stops_below, stops_or}
+use Rattle.tree_laws.proofs.Forest.{then_ok}
+use Rattle.tree_laws.proofs.Lives.{NoBlocks, entries_none, ok_same}
+use Rattle.tree_laws.proofs.OldStops.{all_append}
+use Rattle.tree_laws.proofs.Picking.{each_both}
+use Rattle.tree_laws.proofs.Sifting.{behind_none, or_high_is}
+use Rattle.tree_laws.proofs.Skipping.{children_level}
 use Rattle.tree_change.specs.Gathered.{block_seen, blocks_seen}
 
 -- what holds of each of several lists

@@ -11,10 +11,10 @@ use Rattle.node_reader.specs.declared.expect.Expect.{Expect}
 use Rattle.records.specs.Part.{Located}
 use Rattle.records.specs.Seen.{Seen}
 use Rattle.touched_blocks.specs.Touched.{Written, written_in}
-use Rattle.shared_trees.specs.LivePairs.{Walked, live_in}
-use Rattle.shared_trees.specs.MergedLaw.{items}
-use Rattle.shared_trees.specs.ShiftedLaw.{is_shifted}
-use Rattle.shared_trees.specs.Unshared.{items_in}
+use Rattle.tree_laws.specs.LivePairs.{Walked, live_in}
+use Rattle.tree_laws.specs.MergedLaw.{items}
+use Rattle.tree_laws.specs.ShiftedLaw.{is_shifted}
+use Rattle.tree_laws.specs.Unshared.{items_in}
 use Rattle.tree_change.specs.AllTrees.{no_parts, with_parts}
 use Rattle.tree_change.specs.OneTree.{ChangesTree, unchanged}
 use Rattle.tree_change.specs.Unchanged.{changed_in, is_unchanged, unchanged_shifted}

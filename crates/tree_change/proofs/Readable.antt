@@ -23,7 +23,7 @@ use Rattle.touched_blocks.specs.Touched.{written_in}
 use Rattle.block_source.specs.declared.halt.Halt.{Halt}
 use Rattle.block_source.specs.declared.halt.Halt.TheVariants.{Found, Disk, NoMemory}
 use Rattle.block_source.specs.declared.read.BlockSource.{BlockSource}
-use Rattle.shared_trees.proofs.Treed.{steps_of}
+use Rattle.tree_laws.proofs.Treed.{steps_of}
 use Rattle.tree_change.specs.Change.{IsDifference, ReadsFew}
 use Rattle.tree_change.specs.Compared.{IsBased, IsCompared, TellsChange, TellsOld, judged_by}
 use Rattle.tree_change.specs.declared.change.Change.{Change}

@@ -13,14 +13,14 @@ use Rattle.live_index.specs.declared.live.Live.{Live}
 use Rattle.touched_blocks.specs.Marks.{Marked}
 use Rattle.touched_blocks.specs.Touched.{written_in}
 use Rattle.touched_blocks.specs.declared.marks.PairPlace.{PairPlace}
-use Rattle.shared_trees.specs.LivePairs.{Walked, live_in, table_of}
-use Rattle.shared_trees.specs.MergedLaw.{IsInOrder}
-use Rattle.shared_trees.specs.Shared.{unshared_in}
-use Rattle.shared_trees.specs.SharedLaw.{HasTrees}
-use Rattle.shared_trees.specs.ShiftedLaw.{is_shifted, shifted_in}
-use Rattle.shared_trees.specs.TableLaw.{Tree}
-use Rattle.shared_trees.specs.Unshared.{items_in}
-use Rattle.shared_trees.proofs.Treed.{trees_walk}
+use Rattle.tree_laws.specs.LivePairs.{Walked, live_in, table_of}
+use Rattle.tree_laws.specs.MergedLaw.{IsInOrder}
+use Rattle.tree_laws.specs.Shared.{unshared_in}
+use Rattle.tree_laws.specs.SharedLaw.{HasTrees}
+use Rattle.tree_laws.specs.ShiftedLaw.{is_shifted, shifted_in}
+use Rattle.tree_laws.specs.TableLaw.{Tree}
+use Rattle.tree_laws.specs.Unshared.{items_in}
+use Rattle.tree_laws.proofs.Treed.{trees_walk}
 use Rattle.tree_change.specs.AllTrees.{AreAllParts}
 use Rattle.tree_change.specs.Change.{is_before, item_before}
 use Rattle.tree_change.specs.Merging.{IsSortedOf}

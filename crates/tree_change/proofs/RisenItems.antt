@@ -29,20 +29,20 @@ use Rattle.records.specs.Walk.{each, entry_records, just, leaf_record, leaf_reco
 use Rattle.records.specs.WalkLaw.{visited, visited_from}
 use Rattle.touched_blocks.specs.Marks.{Marked}
 use Rattle.touched_blocks.specs.Touched.{written_in}
-use Rattle.shared_trees.specs.Keeping.{Stands, comes_to, live_at}
-use Rattle.shared_trees.specs.LivePairs.{Walked, live_in, table_of}
-use Rattle.shared_trees.specs.MergedLaw.{items}
-use Rattle.shared_trees.specs.Shared.{are_alike, are_read_alike, is_shared, is_shared_by, stands_untouched, unshared_in}
-use Rattle.shared_trees.specs.SharedLaw.{HasTrees, MarksTouched, touches_old}
-use Rattle.shared_trees.specs.TableLaw.{AreApart, Tree}
-use Rattle.shared_trees.specs.Unshared.{item_seen, items_in}
-use Rattle.shared_trees.proofs.Forest.{all_lives, lives_all, lives_of, tables_stand, then_ok, walks}
-use Rattle.shared_trees.proofs.Merged.{read_of, walks_of}
-use Rattle.shared_trees.proofs.Picking.{is_there, one_of}
-use Rattle.shared_trees.proofs.Trails.{Matches, Visit, all_own}
-use Rattle.shared_trees.proofs.Treed.{trees_walk}
-use Rattle.shared_trees.proofs.Untouching.{free_all, is_free}
-use Rattle.shared_trees.proofs.Within.{one_own}
+use Rattle.tree_laws.specs.Keeping.{Stands, comes_to, live_at}
+use Rattle.tree_laws.specs.LivePairs.{Walked, live_in, table_of}
+use Rattle.tree_laws.specs.MergedLaw.{items}
+use Rattle.tree_laws.specs.Shared.{are_alike, are_read_alike, is_shared, is_shared_by, stands_untouched, unshared_in}
+use Rattle.tree_laws.specs.SharedLaw.{HasTrees, MarksTouched, touches_old}
+use Rattle.tree_laws.specs.TableLaw.{AreApart, Tree}
+use Rattle.tree_laws.specs.Unshared.{item_seen, items_in}
+use Rattle.tree_laws.proofs.Forest.{all_lives, lives_all, lives_of, tables_stand, then_ok, walks}
+use Rattle.tree_laws.proofs.Merged.{read_of, walks_of}
+use Rattle.tree_laws.proofs.Picking.{is_there, one_of}
+use Rattle.tree_laws.proofs.Trails.{Matches, Visit, all_own}
+use Rattle.tree_laws.proofs.Treed.{trees_walk}
+use Rattle.tree_laws.proofs.Untouching.{free_all, is_free}
+use Rattle.tree_laws.proofs.Within.{one_own}
 use Rattle.tree_change.specs.Rising.{MarksAll}
 use Rattle.tree_change.specs.Unchanged.{changed_in, is_unchanged, none_touched}
 

@@ -18,15 +18,15 @@ use Rattle.node_reader.specs.Stored.{stored_in}
 use Rattle.touched_blocks.specs.Marks.{Marked, by_pair, marked_in}
 use Rattle.touched_blocks.specs.declared.marks.PairPlace.{PairPlace}
 use Rattle.touched_blocks.specs.Touched.{stays_in_place, touches_block, written_in}
-use Rattle.shared_trees.specs.Keeping.{owner_in}
-use Rattle.shared_trees.specs.LivePairs.{Walked, live_in, table_of}
-use Rattle.shared_trees.specs.Shared.{are_alike, are_read_alike}
-use Rattle.shared_trees.specs.SharedLaw.{HasTrees}
-use Rattle.shared_trees.specs.ShiftedLaw.{is_shifted}
-use Rattle.shared_trees.specs.TableLaw.{Tree}
-use Rattle.shared_trees.proofs.Images.{stored_alike}
-use Rattle.shared_trees.proofs.KeptImage.{nodesize_same}
-use Rattle.shared_trees.proofs.Picking.{is_there}
+use Rattle.tree_laws.specs.Keeping.{owner_in}
+use Rattle.tree_laws.specs.LivePairs.{Walked, live_in, table_of}
+use Rattle.tree_laws.specs.Shared.{are_alike, are_read_alike}
+use Rattle.tree_laws.specs.SharedLaw.{HasTrees}
+use Rattle.tree_laws.specs.ShiftedLaw.{is_shifted}
+use Rattle.tree_laws.specs.TableLaw.{Tree}
+use Rattle.tree_laws.proofs.Images.{stored_alike}
+use Rattle.tree_laws.proofs.KeptImage.{nodesize_same}
+use Rattle.tree_laws.proofs.Picking.{is_there}
 use Rattle.tree_change.specs.Rising.{is_left, is_marked, risen_at, unmoved_at}
 use Rattle.tree_change.specs.Unchanged.{stays_unchanged}
 use Rattle.tree_change.proofs.RisenLists.{at_most_one, at_some, by_places, each_passing, option_list}

@@ -17,15 +17,15 @@ use Rattle.node_reader.specs.declared.expect.Expect.{Expect}
 use Rattle.records.specs.WalkLaw.{visited}
 use Rattle.touched_blocks.specs.Marks.{Marked, by_pair, in_lives, marked_in}
 use Rattle.touched_blocks.specs.declared.marks.PairPlace.{PairPlace}
-use Rattle.shared_trees.specs.Keeping.{live_at, owner_in}
-use Rattle.shared_trees.specs.LivePairs.{Walked, live_in, table_of}
-use Rattle.shared_trees.specs.Shared.{are_alike}
-use Rattle.shared_trees.specs.SharedLaw.{HasTrees}
-use Rattle.shared_trees.specs.TableLaw.{Tree}
-use Rattle.shared_trees.proofs.Forest.{all_lives, lives_all, lives_of}
-use Rattle.shared_trees.proofs.KeptImage.{IsOfImage, of_image}
-use Rattle.shared_trees.proofs.Picking.{is_there}
-use Rattle.shared_trees.proofs.Treed.{trees_walk}
+use Rattle.tree_laws.specs.Keeping.{live_at, owner_in}
+use Rattle.tree_laws.specs.LivePairs.{Walked, live_in, table_of}
+use Rattle.tree_laws.specs.Shared.{are_alike}
+use Rattle.tree_laws.specs.SharedLaw.{HasTrees}
+use Rattle.tree_laws.specs.TableLaw.{Tree}
+use Rattle.tree_laws.proofs.Forest.{all_lives, lives_all, lives_of}
+use Rattle.tree_laws.proofs.KeptImage.{IsOfImage, of_image}
+use Rattle.tree_laws.proofs.Picking.{is_there}
+use Rattle.tree_laws.proofs.Treed.{trees_walk}
 use Rattle.tree_change.proofs.Apart.{either_pair, pairs_apart}
 use Rattle.tree_change.proofs.RisenLists.{AtOnce, at_some, filter_twice, option_list}
 

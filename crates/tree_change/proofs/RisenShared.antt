@@ -16,15 +16,15 @@ use Rattle.node_reader.specs.declared.expect.Expect.{Expect}
 use Rattle.records.specs.Seen.{Seen}
 use Rattle.records.specs.WalkLaw.{visited, visited_from}
 use Rattle.touched_blocks.specs.Touched.{stays_in_place, written_in}
-use Rattle.shared_trees.specs.Keeping.{AreMarked, Marks, Stands, comes_to, first_in, live_at}
-use Rattle.shared_trees.specs.LivePairs.{Walked, live_in, table_of}
-use Rattle.shared_trees.specs.Shared.{are_alike, are_read_alike, is_shared, is_shared_by, stands_untouched}
-use Rattle.shared_trees.specs.SharedLaw.{HasTrees, MarksTouched, touches_old}
-use Rattle.shared_trees.specs.TableLaw.{AreApart, Tree}
-use Rattle.shared_trees.proofs.Forest.{lives_all, tables_stand, walks}
-use Rattle.shared_trees.proofs.Picking.{comes_there, each_both, is_at, is_there, one_of, table_some, there_trees}
-use Rattle.shared_trees.proofs.Treed.{trees_walk}
-use Rattle.shared_trees.proofs.Untouching.{free_all, is_free}
+use Rattle.tree_laws.specs.Keeping.{AreMarked, Marks, Stands, comes_to, first_in, live_at}
+use Rattle.tree_laws.specs.LivePairs.{Walked, live_in, table_of}
+use Rattle.tree_laws.specs.Shared.{are_alike, are_read_alike, is_shared, is_shared_by, stands_untouched}
+use Rattle.tree_laws.specs.SharedLaw.{HasTrees, MarksTouched, touches_old}
+use Rattle.tree_laws.specs.TableLaw.{AreApart, Tree}
+use Rattle.tree_laws.proofs.Forest.{lives_all, tables_stand, walks}
+use Rattle.tree_laws.proofs.Picking.{comes_there, each_both, is_at, is_there, one_of, table_some, there_trees}
+use Rattle.tree_laws.proofs.Treed.{trees_walk}
+use Rattle.tree_laws.proofs.Untouching.{free_all, is_free}
 use Rattle.tree_change.specs.Unchanged.{is_unchanged, none_touched, stays_unchanged}
 
 -- whether what a table has is alike to a pair

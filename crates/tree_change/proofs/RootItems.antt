@@ -14,10 +14,10 @@ use Rattle.live_index.specs.Pairs.{Pairs}
 use Rattle.records.specs.Contents.{root_items_in, root_records, root_tree_root, roots_fault}
 use Rattle.records.specs.Seen.{Seen}
 use Rattle.records.specs.Walk.{Records}
-use Rattle.shared_trees.specs.LivePairs.{Walked}
-use Rattle.shared_trees.specs.MergedLaw.{IsInOrder, roots_seen}
-use Rattle.shared_trees.specs.TableLaw.{Tree}
-use Rattle.shared_trees.proofs.MergedLists.{roots_are_seen}
+use Rattle.tree_laws.specs.LivePairs.{Walked}
+use Rattle.tree_laws.specs.MergedLaw.{IsInOrder, roots_seen}
+use Rattle.tree_laws.specs.TableLaw.{Tree}
+use Rattle.tree_laws.proofs.MergedLists.{roots_are_seen}
 use Rattle.tree_change.specs.Merging.{IsSortedOf, named_before, root_at, roots_left}
 use Rattle.tree_change.specs.OneTree.{IsTree, OneTreeLaw, side_of}
 use Rattle.tree_change.specs.Walks.{Known, Parts, Side, tree_parts}

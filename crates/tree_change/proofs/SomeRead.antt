@@ -12,11 +12,11 @@ use Rattle.records.specs.Seen.{Seen}
 use Rattle.records.specs.Seen.Seen.{BlockSeen}
 use Rattle.records.specs.Walk.{Records, behind, below, block_and, block_at, each, entry_records, own_records, then_records, walk_of}
 use Rattle.records.specs.declared.rec.WalkedBlock.{WalkedBlock}
-use Rattle.shared_trees.specs.Skips.{Anew, Kept, is_below, next_of, nothing, skip_and, skip_below, skip_of, skip_or}
-use Rattle.shared_trees.specs.VisitsLaw.{IsLed, LeadsOn}
-use Rattle.shared_trees.proofs.Forest.{then_ok}
-use Rattle.shared_trees.proofs.Lives.{ok_same}
-use Rattle.shared_trees.proofs.Sifting.{behind_none}
+use Rattle.tree_laws.specs.Skips.{Anew, Kept, is_below, next_of, nothing, skip_and, skip_below, skip_of, skip_or}
+use Rattle.tree_laws.specs.VisitsLaw.{IsLed, LeadsOn}
+use Rattle.tree_laws.proofs.Forest.{then_ok}
+use Rattle.tree_laws.proofs.Lives.{ok_same}
+use Rattle.tree_laws.proofs.Sifting.{behind_none}
 use Rattle.tree_change.specs.Gathered.{block_seen, blocks_seen}
 
 -- a block is among records

@@ -19,16 +19,16 @@ use Rattle.records.specs.Seen.{Seen}
 use Rattle.records.specs.Seen.Seen.{BlockSeen, ItemSeen, PointerSeen}
 use Rattle.records.specs.Walk.{each, entry_records, just, leaf_record, leaf_records, pointer_records, walk_of}
 use Rattle.records.specs.WalkLaw.{visited}
-use Rattle.shared_trees.specs.Keeping.{live_at}
-use Rattle.shared_trees.specs.LivePairs.{live_in}
-use Rattle.shared_trees.specs.MergedLaw.{items}
-use Rattle.shared_trees.specs.TableLaw.{AreApart, Tree, is_other}
-use Rattle.shared_trees.specs.Unshared.{item_seen, items_in}
-use Rattle.shared_trees.proofs.Forest.{NoneOf, all_lives, lives_all, lives_of, of_other, of_root, others_after, then_ok, walks}
-use Rattle.shared_trees.proofs.Lives.{lives_are}
-use Rattle.shared_trees.proofs.Merged.{read_of, walks_of}
-use Rattle.shared_trees.proofs.Trails.{Matches, Visit, all_own}
-use Rattle.shared_trees.proofs.Within.{one_own}
+use Rattle.tree_laws.specs.Keeping.{live_at}
+use Rattle.tree_laws.specs.LivePairs.{live_in}
+use Rattle.tree_laws.specs.MergedLaw.{items}
+use Rattle.tree_laws.specs.TableLaw.{AreApart, Tree, is_other}
+use Rattle.tree_laws.specs.Unshared.{item_seen, items_in}
+use Rattle.tree_laws.proofs.Forest.{NoneOf, all_lives, lives_all, lives_of, of_other, of_root, others_after, then_ok, walks}
+use Rattle.tree_laws.proofs.Lives.{lives_are}
+use Rattle.tree_laws.proofs.Merged.{read_of, walks_of}
+use Rattle.tree_laws.proofs.Trails.{Matches, Visit, all_own}
+use Rattle.tree_laws.proofs.Within.{one_own}
 use Rattle.tree_change.proofs.Unordered.{all_of_id, listed, none_of_id, of_id}
 
 -- these items are of a tree

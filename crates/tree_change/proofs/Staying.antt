@@ -18,16 +18,16 @@ use Rattle.records.specs.Walk.{Records, behind, block_and, walk_of}
 use Rattle.records.specs.WalkLaw.{children_in, visited, visited_from}
 use Rattle.volume_items.specs.declared.root.RootItem.{RootItem}
 use Rattle.volume_items.specs.declared.root_at.RootAt.{RootAt}
-use Rattle.shared_trees.specs.Ending.{Ends, Lasts, end_at, ends_below, ends_in, ends_of, ends_or, key_or, none_more, read_ends}
-use Rattle.shared_trees.specs.Keeping.{Stands, is_same, kept_of, last_if_same, live_at, starts_of}
-use Rattle.shared_trees.specs.KeepingWalk.{skip_in}
-use Rattle.shared_trees.specs.Known.{last_of}
-use Rattle.shared_trees.specs.LivePairs.{Walked, live_in, table_of}
-use Rattle.shared_trees.specs.Meeting.{met_below, met_in, met_of, met_or}
-use Rattle.shared_trees.specs.OldSide.{kept_at}
-use Rattle.shared_trees.specs.Skips.{Anew, Kept, is_below, next_of, nothing, skip_below, skip_of, skip_or}
-use Rattle.shared_trees.specs.TableLaw.{Tree}
-use Rattle.shared_trees.specs.declared.keeps.Ended.{Ended}
+use Rattle.tree_laws.specs.Ending.{Ends, Lasts, end_at, ends_below, ends_in, ends_of, ends_or, key_or, none_more, read_ends}
+use Rattle.tree_laws.specs.Keeping.{Stands, is_same, kept_of, last_if_same, live_at, starts_of}
+use Rattle.tree_laws.specs.KeepingWalk.{skip_in}
+use Rattle.tree_laws.specs.Known.{last_of}
+use Rattle.tree_laws.specs.LivePairs.{Walked, live_in, table_of}
+use Rattle.tree_laws.specs.Meeting.{met_below, met_in, met_of, met_or}
+use Rattle.tree_laws.specs.OldSide.{kept_at}
+use Rattle.tree_laws.specs.Skips.{Anew, Kept, is_below, next_of, nothing, skip_below, skip_of, skip_or}
+use Rattle.tree_laws.specs.TableLaw.{Tree}
+use Rattle.tree_laws.specs.declared.told.Ended.{Ended}
 use Rattle.tree_change.specs.Firsts.{first_copies}
 use Rattle.tree_change.specs.AllTrees.{has_id, named_at, no_parts, root_named}
 use Rattle.tree_change.specs.Making.{is_side, named_parts_in, parts_in, was_side}

@@ -28,19 +28,19 @@ use Rattle.records.specs.Seen.{Seen}
 use Rattle.records.specs.Seen.Seen.{BlockSeen, PointerSeen, ItemSeen}
 use Rattle.records.specs.Takes.{held_after}
 use Rattle.records.specs.Walk.{Records}
-use Rattle.shared_trees.specs.Ending.{ends_in, with_ended}
-use Rattle.shared_trees.specs.Keeping.{Under}
-use Rattle.shared_trees.specs.KeepingWalk.{skip_in}
-use Rattle.shared_trees.specs.Meeting.{met_in, with_met}
-use Rattle.shared_trees.specs.MergedLaw.{items}
-use Rattle.shared_trees.specs.OldSide.{kept_at}
-use Rattle.shared_trees.specs.Skips.{Anew}
-use Rattle.shared_trees.specs.Stopping.{kept_among}
-use Rattle.shared_trees.specs.Stops.{is_stop}
-use Rattle.shared_trees.specs.Unshared.{is_block_seen}
-use Rattle.shared_trees.specs.declared.keeps.Ended.{Ended}
-use Rattle.shared_trees.proofs.Stopping.{stopped}
-use Rattle.shared_trees.proofs.OldBlocks.{reads_twice}
+use Rattle.tree_laws.specs.Ending.{ends_in, with_ended}
+use Rattle.tree_laws.specs.Keeping.{Under}
+use Rattle.tree_laws.specs.KeepingWalk.{skip_in}
+use Rattle.tree_laws.specs.Meeting.{met_in, with_met}
+use Rattle.tree_laws.specs.MergedLaw.{items}
+use Rattle.tree_laws.specs.OldSide.{kept_at}
+use Rattle.tree_laws.specs.Skips.{Anew}
+use Rattle.tree_laws.specs.Stopping.{kept_among}
+use Rattle.tree_laws.specs.Stops.{is_stop}
+use Rattle.tree_laws.specs.Unshared.{is_block_seen}
+use Rattle.tree_laws.specs.declared.told.Ended.{Ended}
+use Rattle.tree_laws.proofs.Stopping.{stopped}
+use Rattle.tree_laws.proofs.OldBlocks.{reads_twice}
 use Rattle.tree_change.specs.Firsts.{first_copies, first_copy}
 use Rattle.tree_change.specs.Gathered.{Gathers, blocks_seen, with_seen}
 use Rattle.tree_change.specs.Walks.{Known, NewWalk, kept_by, lasts_by, listed_by, new_walk, no_tree, old_walk}

@@ -8,7 +8,7 @@ use Rattle.node_reader.specs.declared.expect.Expect.{Expect}
 use Rattle.records.specs.Contents.{chunk_tree_root, root_tree_root}
 use Rattle.volume_items.specs.MapRules.{map_finding}
 use Rattle.volume_items.specs.declared.root_at.RootAt.{RootAt}
-use Rattle.shared_trees.specs.MergedLaw.{begins_before}
+use Rattle.tree_laws.specs.MergedLaw.{begins_before}
 use Rattle.tree_change.specs.AllTrees.{with_parts}
 use Rattle.tree_change.specs.Gathered.{located_item}
 use Rattle.tree_change.specs.Making.{IsAdded, MakesChunks, MakesRoots, RootsJudged, parts_by, parts_in}

@@ -9,15 +9,15 @@ use Rattle.node_reader.specs.Stored.{CopyFault, stored_in}
 use Rattle.node_reader.specs.declared.expect.Expect.{Expect}
 use Rattle.records.specs.Seen.{Seen}
 use Rattle.records.specs.Walk.{walk_of}
-use Rattle.shared_trees.specs.Keeping.{Marks, Under, kept_of, last_if_same, starts_at, starts_of}
-use Rattle.shared_trees.specs.LivePairs.{Walked, live_in, table_of}
-use Rattle.shared_trees.specs.SharedLaw.{HasTrees}
-use Rattle.shared_trees.specs.Skips.{Kept}
-use Rattle.shared_trees.specs.TableLaw.{Tree}
-use Rattle.shared_trees.specs.VisitsLaw.{IsLed}
-use Rattle.shared_trees.specs.declared.starts.Start.{Start}
-use Rattle.shared_trees.proofs.Forest.{all_lives, lives_all, others_all, table_none}
-use Rattle.shared_trees.proofs.Treed.{trees_walk}
+use Rattle.tree_laws.specs.Keeping.{Marks, Under, kept_of, last_if_same, starts_at, starts_of}
+use Rattle.tree_laws.specs.LivePairs.{Walked, live_in, table_of}
+use Rattle.tree_laws.specs.SharedLaw.{HasTrees}
+use Rattle.tree_laws.specs.Skips.{Kept}
+use Rattle.tree_laws.specs.TableLaw.{Tree}
+use Rattle.tree_laws.specs.VisitsLaw.{IsLed}
+use Rattle.tree_laws.specs.declared.told.Start.{Start}
+use Rattle.tree_laws.proofs.Forest.{all_lives, lives_all, others_all, table_none}
+use Rattle.tree_laws.proofs.Treed.{trees_walk}
 use Rattle.tree_change.specs.LooksLaw.{IsRootTouched}
 use Rattle.tree_change.specs.OneTree.{IsOldOf, IsTree, KnowsNothing, KnowsTree}
 use Rattle.tree_change.specs.Walks.{Known, Side, kept_by, listed_by}

@@ -16,19 +16,19 @@ use Rattle.records.specs.Seen.{Seen}
 use Rattle.records.specs.Walk.{walk_in, walk_of}
 use Rattle.records.specs.WalkLaw.{visited}
 use Rattle.records.specs.declared.rec.WalkedBlock.{WalkedBlock}
-use Rattle.shared_trees.specs.Ending.{ends_in}
-use Rattle.shared_trees.specs.Keeping.{Comes, Stands}
-use Rattle.shared_trees.specs.KeepingWalk.{skip_in}
-use Rattle.shared_trees.specs.LivePairs.{Walked, live_in, table_of}
-use Rattle.shared_trees.specs.Meeting.{met_in}
-use Rattle.shared_trees.specs.OldSide.{kept_at}
-use Rattle.shared_trees.specs.Shared.{are_read_alike}
-use Rattle.shared_trees.specs.Skips.{Kept}
-use Rattle.shared_trees.specs.TableLaw.{Tree}
-use Rattle.shared_trees.specs.Visits.{visits_in}
-use Rattle.shared_trees.specs.VisitsLaw.{IsLed}
-use Rattle.shared_trees.proofs.Forest.{stands_as}
-use Rattle.shared_trees.proofs.OldBlocks.{unshared_are}
+use Rattle.tree_laws.specs.Ending.{ends_in}
+use Rattle.tree_laws.specs.Keeping.{Comes, Stands}
+use Rattle.tree_laws.specs.KeepingWalk.{skip_in}
+use Rattle.tree_laws.specs.LivePairs.{Walked, live_in, table_of}
+use Rattle.tree_laws.specs.Meeting.{met_in}
+use Rattle.tree_laws.specs.OldSide.{kept_at}
+use Rattle.tree_laws.specs.Shared.{are_read_alike}
+use Rattle.tree_laws.specs.Skips.{Kept}
+use Rattle.tree_laws.specs.TableLaw.{Tree}
+use Rattle.tree_laws.specs.Visits.{visits_in}
+use Rattle.tree_laws.specs.VisitsLaw.{IsLed}
+use Rattle.tree_laws.proofs.Forest.{stands_as}
+use Rattle.tree_laws.proofs.OldBlocks.{unshared_are}
 use Rattle.tree_change.specs.Gathered.{Gathers, blocks_seen}
 use Rattle.tree_change.specs.Looks.{met_by, new_visits, old_visits}
 use Rattle.tree_change.specs.LooksLaw.{ComesToFew, GoesByFew, GoneLooksLaw, IsRootTouched, TreeLooksLaw, entries_of, few_for}

@@ -5,7 +5,7 @@ use Rattle.std.proofs.lemmas.List.Elements.{All-from_recursion, recursion_from_A
 use Rattle.std.proofs.lemmas.List.Sorted.{All-permutation, IsPermutation-sym, IsPermutation-trans}
 use Rattle.std.specs.List.{AllByRecursion, AllPairs}
 use Rattle.std.specs.List.Sorted.{IsPermutation}
-use Rattle.shared_trees.specs.MergedLaw.{IsInOrder}
+use Rattle.tree_laws.specs.MergedLaw.{IsInOrder}
 use Rattle.tree_change.specs.Merging.{IsSortedOf}
 use Rattle.tree_change.proofs.Unordered.{in_order, permuted_pairs}
 

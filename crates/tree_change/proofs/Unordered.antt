@@ -8,7 +8,7 @@ use Rattle.std.proofs.lemmas.List.Sorted.{IsPermutation-append_right, IsPermutat
 use Rattle.std.proofs.lemmas.List.Sorted.{IsPermutation-trans}
 use Rattle.std.specs.List.{AllByRecursion, AllPairs, filter, flat_map, list_any, swap}
 use Rattle.std.specs.List.Sorted.{IsPermutation}
-use Rattle.shared_trees.specs.MergedLaw.{IsInOrder}
+use Rattle.tree_laws.specs.MergedLaw.{IsInOrder}
 use Rattle.tree_change.specs.Merging.{IsSortedOf}
 
 -- where the element of an exchanged list was

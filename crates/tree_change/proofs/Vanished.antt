@@ -19,20 +19,20 @@ use Rattle.records.specs.Seen.Seen.{BlockSeen, ItemSeen, PointerSeen}
 use Rattle.records.specs.Walk.{Records, walk_of}
 use Rattle.records.specs.WalkLaw.{visited}
 use Rattle.touched_blocks.specs.Touched.{written_in}
-use Rattle.shared_trees.specs.Keeping.{Comes, Stands, Under, anew_of, starts_of}
-use Rattle.shared_trees.specs.KeepingWalk.{skip_in}
-use Rattle.shared_trees.specs.LivePairs.{Walked, live_in, table_of}
-use Rattle.shared_trees.specs.MergedLaw.{items}
-use Rattle.shared_trees.specs.OldSide.{kept_at}
-use Rattle.shared_trees.specs.SkipLaw.{IsSound}
-use Rattle.shared_trees.specs.Skips.{Kept, nothing, skip_of, unkept}
-use Rattle.shared_trees.specs.TableLaw.{AreApart, Tree}
-use Rattle.shared_trees.specs.Unshared.{is_block_seen, items_in, pair_seen}
-use Rattle.shared_trees.specs.declared.starts.Start.{Start}
-use Rattle.shared_trees.proofs.Forest.{NoneOf, stands_as, tables_stand, walks}
-use Rattle.shared_trees.proofs.OldBlocks.{unshared_are}
-use Rattle.shared_trees.proofs.OldTells.{gone}
-use Rattle.shared_trees.proofs.Skipping.{skips}
+use Rattle.tree_laws.specs.Keeping.{Comes, Stands, Under, anew_of, starts_of}
+use Rattle.tree_laws.specs.KeepingWalk.{skip_in}
+use Rattle.tree_laws.specs.LivePairs.{Walked, live_in, table_of}
+use Rattle.tree_laws.specs.MergedLaw.{items}
+use Rattle.tree_laws.specs.OldSide.{kept_at}
+use Rattle.tree_laws.specs.SkipLaw.{IsSound}
+use Rattle.tree_laws.specs.Skips.{Kept, nothing, skip_of, unkept}
+use Rattle.tree_laws.specs.TableLaw.{AreApart, Tree}
+use Rattle.tree_laws.specs.Unshared.{is_block_seen, items_in, pair_seen}
+use Rattle.tree_laws.specs.declared.told.Start.{Start}
+use Rattle.tree_laws.proofs.Forest.{NoneOf, stands_as, tables_stand, walks}
+use Rattle.tree_laws.proofs.OldBlocks.{unshared_are}
+use Rattle.tree_laws.proofs.OldTells.{gone}
+use Rattle.tree_laws.proofs.Skipping.{skips}
 use Rattle.tree_change.specs.Gathered.{Gathers, blocks_seen}
 use Rattle.tree_change.specs.OneTree.{IsAmong, old_tree, side_of}
 use Rattle.tree_change.specs.Unchanged.{changed_in, is_unchanged, none_touched, stays_unchanged}

@@ -10,15 +10,15 @@ use Rattle.node_reader.specs.Stored.{Stored, block_in}
 use Rattle.node_reader.specs.declared.expect.Expect.{Expect}
 use Rattle.records.specs.Walk.{Records, each, then_records, walk_of}
 use Rattle.records.specs.WalkLaw.{children_in, visited}
-use Rattle.shared_trees.specs.Ending.{Lasts, each_ends, ends_and, ends_below, ends_of, ends_or, read_ends}
-use Rattle.shared_trees.specs.Keeping.{Marks, Under, anew_of, kept_of, last_if_same}
-use Rattle.shared_trees.specs.Meeting.{met_and, met_below, met_of, met_or}
-use Rattle.shared_trees.specs.OldSide.{kept_at}
-use Rattle.shared_trees.specs.Skips.{Anew, Kept, nothing, own_of, part_of, skip_of, unkept, where_new}
-use Rattle.shared_trees.specs.Stops.{is_stop}
-use Rattle.shared_trees.proofs.Sifting.{starts_level}
-use Rattle.shared_trees.proofs.Skipping.{skips}
-use Rattle.shared_trees.proofs.Trails.{walk_is_own}
+use Rattle.tree_laws.specs.Ending.{Lasts, each_ends, ends_and, ends_below, ends_of, ends_or, read_ends}
+use Rattle.tree_laws.specs.Keeping.{Marks, Under, anew_of, kept_of, last_if_same}
+use Rattle.tree_laws.specs.Meeting.{met_and, met_below, met_of, met_or}
+use Rattle.tree_laws.specs.OldSide.{kept_at}
+use Rattle.tree_laws.specs.Skips.{Anew, Kept, nothing, own_of, part_of, skip_of, unkept, where_new}
+use Rattle.tree_laws.specs.Stops.{is_stop}
+use Rattle.tree_laws.proofs.Sifting.{starts_level}
+use Rattle.tree_laws.proofs.Skipping.{skips}
+use Rattle.tree_laws.proofs.Trails.{walk_is_own}
 
 -- no block is kept
 abbrev pub KeepsNone : Kept → Type 0

@@ -8,13 +8,13 @@ use Rattle.node_reader.specs.Stored.{Stored, stored_in}
 use Rattle.node_reader.specs.declared.expect.Expect.{Expect}
 use Rattle.records.specs.Seen.{Seen}
 use Rattle.records.specs.Walk.{walk_of}
-use Rattle.shared_trees.specs.Keeping.{Stands}
-use Rattle.shared_trees.specs.KeepingWalk.{skip_in}
-use Rattle.shared_trees.specs.LivePairs.{Walked, live_in, table_of}
-use Rattle.shared_trees.specs.Meeting.{met_in}
-use Rattle.shared_trees.specs.OldSide.{kept_at}
-use Rattle.shared_trees.specs.Skips.{nothing, unkept}
-use Rattle.shared_trees.specs.TableLaw.{Tree}
+use Rattle.tree_laws.specs.Keeping.{Stands}
+use Rattle.tree_laws.specs.KeepingWalk.{skip_in}
+use Rattle.tree_laws.specs.LivePairs.{Walked, live_in, table_of}
+use Rattle.tree_laws.specs.Meeting.{met_in}
+use Rattle.tree_laws.specs.OldSide.{kept_at}
+use Rattle.tree_laws.specs.Skips.{nothing, unkept}
+use Rattle.tree_laws.specs.TableLaw.{Tree}
 use Rattle.tree_change.specs.Looks.{met_by}
 use Rattle.tree_change.specs.OneTree.{IsOldOf, IsTree, KnowsNothing, KnowsTree, old_tree, unchanged}
 use Rattle.tree_change.specs.Walks.{Known, Side, kept_by, lasts_by, listed_by}

@@ -13,9 +13,9 @@ use Rattle.touched_blocks.specs.Marks.{AreAmong, Marked, in_lives, no_mark}
 use Rattle.touched_blocks.specs.Moves.{AreApart, is_moved}
 use Rattle.touched_blocks.specs.Spots.{at_address}
 use Rattle.touched_blocks.specs.Touched.{touches_block, written_in}
-use Rattle.shared_trees.specs.ArrayLaw.{HasArray}
-use Rattle.shared_trees.specs.LivePairs.{Walked, live_in, table_of, walked}
-use Rattle.shared_trees.specs.Shared.{unshared_in}
+use Rattle.tree_laws.specs.ArrayLaw.{HasArray}
+use Rattle.tree_laws.specs.LivePairs.{Walked, live_in, table_of, walked}
+use Rattle.tree_laws.specs.Shared.{unshared_in}
 
 -- the walks of an image have no finding, and a table has its live pairs
 pub record IsWalked (image : List ℕ) (old : Walked) (pairs : Pairs) : Type 0 where

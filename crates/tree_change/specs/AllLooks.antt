@@ -23,11 +23,11 @@ use Rattle.touched_blocks.specs.Moves.{AreApart, held_and_moved, is_moved}
 use Rattle.touched_blocks.specs.OneTree.{in_tree, of_tree}
 use Rattle.touched_blocks.specs.Spots.{at_address}
 use Rattle.touched_blocks.specs.Touched.{written_in}
-use Rattle.shared_trees.specs.ArrayMoves.{LieApartOrSame}
-use Rattle.shared_trees.specs.Keeping.{Marks, Under}
-use Rattle.shared_trees.specs.Listed.{AreListedBy}
-use Rattle.shared_trees.specs.LivePairs.{Walked, walked}
-use Rattle.shared_trees.specs.Shared.{are_read_alike, unshared_in}
+use Rattle.tree_laws.specs.ArrayMoves.{LieApartOrSame}
+use Rattle.tree_laws.specs.Keeping.{Marks, Under}
+use Rattle.tree_laws.specs.Listed.{AreListedBy}
+use Rattle.tree_laws.specs.LivePairs.{Walked, walked}
+use Rattle.tree_laws.specs.Shared.{are_read_alike, unshared_in}
 use Rattle.tree_change.specs.Compared.{FitsCompared, HasNewArray, IsCompared, judged_by, side_to}
 use Rattle.tree_change.specs.Looks.{gone_all_looks, named_looks, tree_looks}
 use Rattle.tree_change.specs.Merging.{IsSortedOf, named_before, roots_left}

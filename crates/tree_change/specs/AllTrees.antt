@@ -18,14 +18,14 @@ use Rattle.touched_blocks.specs.Moves.{is_moved}
 use Rattle.touched_blocks.specs.Touched.{written_in}
 use Rattle.volume_items.specs.declared.root.RootItem.{RootItem}
 use Rattle.volume_items.specs.declared.root_at.RootAt.{RootAt}
-use Rattle.shared_trees.specs.ArrayLaw.{HasArray}
-use Rattle.shared_trees.specs.Keeping.{Marks}
-use Rattle.shared_trees.specs.LivePairs.{Walked, live_in, table_of}
-use Rattle.shared_trees.specs.MergedLaw.{IsInOrder}
-use Rattle.shared_trees.specs.Shared.{are_read_alike}
-use Rattle.shared_trees.specs.SharedLaw.{HasTrees, touches_old}
-use Rattle.shared_trees.specs.TableLaw.{Tree, trees_in}
-use Rattle.shared_trees.specs.Unshared.{items_in}
+use Rattle.tree_laws.specs.ArrayLaw.{HasArray}
+use Rattle.tree_laws.specs.Keeping.{Marks}
+use Rattle.tree_laws.specs.LivePairs.{Walked, live_in, table_of}
+use Rattle.tree_laws.specs.MergedLaw.{IsInOrder}
+use Rattle.tree_laws.specs.Shared.{are_read_alike}
+use Rattle.tree_laws.specs.SharedLaw.{HasTrees, touches_old}
+use Rattle.tree_laws.specs.TableLaw.{Tree, trees_in}
+use Rattle.tree_laws.specs.Unshared.{items_in}
 use Rattle.tree_change.specs.Change.{is_before, item_before}
 use Rattle.tree_change.specs.Merging.{IsSortedOf, root_at}
 use Rattle.tree_change.specs.OneTree.{KnowsNothing, KnowsTree, side_of}

@@ -17,12 +17,12 @@ use Rattle.accounts.specs.Context.{no_full}
 use Rattle.records.specs.Context.{has_sum_free}
 use Rattle.records.specs.FullCheck.{full_check}
 use Rattle.records.specs.Part.{Located}
-use Rattle.shared_trees.specs.LivePairs.{Walked, live_in, table_of, walked}
-use Rattle.shared_trees.specs.Shared.{unshared_in}
+use Rattle.tree_laws.specs.LivePairs.{Walked, live_in, table_of, walked}
+use Rattle.tree_laws.specs.Shared.{unshared_in}
 use Rattle.touched_blocks.specs.Touched.{Written, written_in}
-use Rattle.shared_trees.specs.MergedLaw.{IsInOrder}
-use Rattle.shared_trees.specs.ShiftedLaw.{shifted_in}
-use Rattle.shared_trees.specs.Unshared.{items_in}
+use Rattle.tree_laws.specs.MergedLaw.{IsInOrder}
+use Rattle.tree_laws.specs.ShiftedLaw.{shifted_in}
+use Rattle.tree_laws.specs.Unshared.{items_in}
 use Rattle.tree_change.specs.Gathered.{located_item}
 use Rattle.tree_change.specs.Merging.{root_at}
 use Rattle.tree_change.specs.declared.change.Change.{Change}

@@ -22,10 +22,10 @@ use Rattle.touched_blocks.specs.Marking.{AreMarked}
 use Rattle.touched_blocks.specs.Marks.{marked_by, no_mark}
 use Rattle.touched_blocks.specs.Spots.{at_address}
 use Rattle.touched_blocks.specs.Touched.{touches_block, written_in}
-use Rattle.shared_trees.specs.LivePairs.{Walked, live_in, table_of, walked}
-use Rattle.shared_trees.specs.Shared.{are_read_alike}
-use Rattle.shared_trees.specs.SharedLaw.{HasTrees}
-use Rattle.shared_trees.specs.TableLaw.{trees_in}
+use Rattle.tree_laws.specs.LivePairs.{Walked, live_in, table_of, walked}
+use Rattle.tree_laws.specs.Shared.{are_read_alike}
+use Rattle.tree_laws.specs.SharedLaw.{HasTrees}
+use Rattle.tree_laws.specs.TableLaw.{trees_in}
 use Rattle.tree_change.specs.AllTrees.{IsOver, gone_all, named_parts, with_parts}
 use Rattle.tree_change.specs.Change.{IsDifference, ReadsFew, is_before, item_before}
 use Rattle.tree_change.specs.Gathered.{located_item}

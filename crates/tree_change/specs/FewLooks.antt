@@ -9,7 +9,7 @@ use Rattle.live_index.specs.Pairs.{Pairs}
 use Rattle.super_reader.specs.declared.Super.{Super}
 use Rattle.volume_items.specs.declared.root_at.RootAt.{RootAt}
 use Rattle.records.specs.Contents.{superblock_in}
-use Rattle.shared_trees.specs.LivePairs.{Walked, walked}
+use Rattle.tree_laws.specs.LivePairs.{Walked, walked}
 use Rattle.tree_change.specs.Change.{BasesStand}
 use Rattle.tree_change.specs.LooksLaw.{entries_of}
 use Rattle.tree_change.specs.OneTree.{side_of}

@@ -7,9 +7,9 @@ use Rattle.verdict.specs.declared.key.Key.{Key}
 use Rattle.node_reader.specs.declared.expect.Expect.{Expect}
 use Rattle.records.specs.Contents.{chunk_tree_root, root_tree_root}
 use Rattle.volume_items.specs.declared.root_at.RootAt.{RootAt}
-use Rattle.shared_trees.specs.Meeting.{met_in}
-use Rattle.shared_trees.specs.OldSide.{kept_at}
-use Rattle.shared_trees.specs.Visits.{visits_in}
+use Rattle.tree_laws.specs.Meeting.{met_in}
+use Rattle.tree_laws.specs.OldSide.{kept_at}
+use Rattle.tree_laws.specs.Visits.{visits_in}
 use Rattle.tree_change.specs.AllTrees.{has_id, named_at, root_named}
 use Rattle.tree_change.specs.Firsts.{first_copies}
 use Rattle.tree_change.specs.Gathered.{Gathers}

@@ -17,7 +17,7 @@ use Rattle.volume_items.specs.declared.root_at.RootAt.{RootAt}
 use Rattle.block_source.specs.declared.halt.Halt.{Halt}
 use Rattle.block_source.specs.declared.halt.Halt.TheVariants.{Found}
 use Rattle.tree_change.specs.AllTrees.{gone_all, named_parts, with_parts}
-use Rattle.shared_trees.specs.MergedLaw.{begins_before}
+use Rattle.tree_laws.specs.MergedLaw.{begins_before}
 use Rattle.tree_change.specs.Gathered.{located_item}
 use Rattle.tree_change.specs.Merging.{IsSortedOf, chunks_left, named_before, root_at, roots_left}
 use Rattle.tree_change.specs.Told.{known_by, side_with}

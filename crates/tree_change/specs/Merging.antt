@@ -7,7 +7,7 @@ use Rattle.verdict.specs.declared.place.Chunk.{Chunk}
 use Rattle.volume_items.specs.declared.root.RootItem.{RootItem}
 use Rattle.volume_items.specs.declared.root_at.RootAt.{RootAt}
 use Rattle.records.specs.Part.{Located}
-use Rattle.shared_trees.specs.MergedLaw.{begins_with, chunk_in, root_in}
+use Rattle.tree_laws.specs.MergedLaw.{begins_with, chunk_in, root_in}
 
 -- a list has these, and none that comes before an earlier one
 pub record IsSortedOf {A : Type 0} (before : A → A → Bool) (whole list : List A) : Type 0 where

@@ -13,15 +13,15 @@ use Rattle.records.specs.Seen.{Seen}
 use Rattle.records.specs.Walk.{walk_in}
 use Rattle.touched_blocks.specs.Moves.{is_moved}
 use Rattle.touched_blocks.specs.Touched.{written_in}
-use Rattle.shared_trees.specs.Keeping.{Marks}
-use Rattle.shared_trees.specs.LivePairs.{Walked, live_in, table_of}
-use Rattle.shared_trees.specs.MergedLaw.{IsInOrder, begins_before, chunks_seen, roots_seen}
-use Rattle.shared_trees.specs.OldSide.{IsRoot}
-use Rattle.shared_trees.specs.Shared.{are_read_alike}
-use Rattle.shared_trees.specs.SharedLaw.{HasTrees, touches_old}
-use Rattle.shared_trees.specs.ShiftedLaw.{is_shifted}
-use Rattle.shared_trees.specs.TableLaw.{Tree}
-use Rattle.shared_trees.specs.Unshared.{items_in}
+use Rattle.tree_laws.specs.Keeping.{Marks}
+use Rattle.tree_laws.specs.LivePairs.{Walked, live_in, table_of}
+use Rattle.tree_laws.specs.MergedLaw.{IsInOrder, begins_before, chunks_seen, roots_seen}
+use Rattle.tree_laws.specs.OldSide.{IsRoot}
+use Rattle.tree_laws.specs.Shared.{are_read_alike}
+use Rattle.tree_laws.specs.SharedLaw.{HasTrees, touches_old}
+use Rattle.tree_laws.specs.ShiftedLaw.{is_shifted}
+use Rattle.tree_laws.specs.TableLaw.{Tree}
+use Rattle.tree_laws.specs.Unshared.{items_in}
 use Rattle.tree_change.specs.Merging.{chunks_left, named_before, root_at, roots_left}
 use Rattle.tree_change.specs.Unchanged.{ChangesListed, is_unchanged}
 use Rattle.tree_change.specs.Walks.{Known, Parts, Side, tree_parts}

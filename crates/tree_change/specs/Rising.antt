@@ -11,13 +11,13 @@ use Rattle.touched_blocks.specs.Marks.{Marked, by_pair, in_lives, marked_in}
 use Rattle.touched_blocks.specs.declared.marks.PairPlace.{PairPlace}
 use Rattle.records.specs.Part.{Located}
 use Rattle.touched_blocks.specs.Touched.{written_in}
-use Rattle.shared_trees.specs.LivePairs.{Walked, live_in, table_of}
-use Rattle.shared_trees.specs.MergedLaw.{IsInOrder}
-use Rattle.shared_trees.specs.Shared.{are_read_alike, unshared_in}
-use Rattle.shared_trees.specs.SharedLaw.{HasTrees, MarksTouched}
-use Rattle.shared_trees.specs.ShiftedLaw.{shifted_in}
-use Rattle.shared_trees.specs.TableLaw.{Tree}
-use Rattle.shared_trees.specs.Unshared.{items_in}
+use Rattle.tree_laws.specs.LivePairs.{Walked, live_in, table_of}
+use Rattle.tree_laws.specs.MergedLaw.{IsInOrder}
+use Rattle.tree_laws.specs.Shared.{are_read_alike, unshared_in}
+use Rattle.tree_laws.specs.SharedLaw.{HasTrees, MarksTouched}
+use Rattle.tree_laws.specs.ShiftedLaw.{shifted_in}
+use Rattle.tree_laws.specs.TableLaw.{Tree}
+use Rattle.tree_laws.specs.Unshared.{items_in}
 use Rattle.tree_change.specs.AllTrees.{AreAllParts}
 use Rattle.tree_change.specs.Change.{is_before, item_before}
 use Rattle.tree_change.specs.Merging.{IsSortedOf}

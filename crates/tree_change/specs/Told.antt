@@ -4,7 +4,7 @@ use Rattle.live_index.specs.Table.{pairs_of}
 use Rattle.touched_blocks.specs.Marks.{marked_by}
 use Rattle.touched_blocks.specs.Moves.{move_passes}
 use Rattle.block_source.specs.declared.read.BlockSource.{BlockSource}
-use Rattle.shared_trees.specs.Known.{blocks_met}
+use Rattle.tree_laws.specs.Known.{blocks_met}
 use Rattle.shared_trees.specs.Under.{under_of}
 use Rattle.tree_change.specs.Gathered.{gathers}
 use Rattle.tree_change.specs.Walks.{Known, NewWalk, Side}

@@ -4,11 +4,11 @@ use Rattle.std.specs.List.{filter}
 use Rattle.verdict.specs.declared.place.Chunk.{Chunk}
 use Rattle.live_index.specs.declared.live.Live.{Live}
 use Rattle.touched_blocks.specs.Touched.{Written, stays_in_place, touches_block}
-use Rattle.shared_trees.specs.Keeping.{AreListed, AreMarked, Marks, Under}
-use Rattle.shared_trees.specs.LivePairs.{Walked, live_in}
-use Rattle.shared_trees.specs.Shared.{is_shared_by}
-use Rattle.shared_trees.specs.ShiftedLaw.{is_shifted}
-use Rattle.shared_trees.specs.TableLaw.{Tree}
+use Rattle.tree_laws.specs.Keeping.{AreListed, AreMarked, Marks, Under}
+use Rattle.tree_laws.specs.LivePairs.{Walked, live_in}
+use Rattle.tree_laws.specs.Shared.{is_shared_by}
+use Rattle.tree_laws.specs.ShiftedLaw.{is_shifted}
+use Rattle.tree_laws.specs.TableLaw.{Tree}
 
 -- no block is touched
 abbrev pub none_touched : ℕ → Bool

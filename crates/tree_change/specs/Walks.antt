@@ -12,16 +12,16 @@ use Rattle.super_reader.specs.declared.Super.{Super}
 use Rattle.node_reader.specs.declared.expect.Expect.{Expect}
 use Rattle.records.specs.Part.{Located}
 use Rattle.records.specs.declared.rec.WalkedBlock.{WalkedBlock}
-use Rattle.shared_trees.specs.Ending.{Lasts, ends_in}
-use Rattle.shared_trees.specs.Keeping.{Marks, Under, anew_of, kept_of}
-use Rattle.shared_trees.specs.KeepingWalk.{skip_in}
-use Rattle.shared_trees.specs.Known.{last_of}
-use Rattle.shared_trees.specs.LivePairs.{first_or_greatest}
-use Rattle.shared_trees.specs.Meeting.{met_in}
-use Rattle.shared_trees.specs.MergedLaw.{items}
-use Rattle.shared_trees.specs.OldSide.{kept_at}
-use Rattle.shared_trees.specs.Skips.{Anew, Kept}
-use Rattle.shared_trees.specs.declared.keeps.Ended.{Ended}
+use Rattle.tree_laws.specs.Ending.{Lasts, ends_in}
+use Rattle.tree_laws.specs.Keeping.{Marks, Under, anew_of, kept_of}
+use Rattle.tree_laws.specs.KeepingWalk.{skip_in}
+use Rattle.tree_laws.specs.Known.{last_of}
+use Rattle.tree_laws.specs.LivePairs.{first_or_greatest}
+use Rattle.tree_laws.specs.Meeting.{met_in}
+use Rattle.tree_laws.specs.MergedLaw.{items}
+use Rattle.tree_laws.specs.OldSide.{kept_at}
+use Rattle.tree_laws.specs.Skips.{Anew, Kept}
+use Rattle.tree_laws.specs.declared.told.Ended.{Ended}
 use Rattle.tree_change.specs.Firsts.{first_copies}
 use Rattle.tree_change.specs.Gathered.{Gathers, blocks_seen}
 

@@ -7,7 +7,7 @@ ghost use Rattle.verdict.specs.declared.place.Chunk.{Chunk as AChunk};
 ghost use Rattle.recon_disk.specs.Keeping.{Kept};
 ghost use Rattle.records.specs.Contents.{chunk_map_in};
 ghost use Rattle.block_source.specs.Gives.{Gives, is_disk_halt};
-ghost use Rattle.shared_trees.specs.ArrayMoves.{LieApartOrSame};
+ghost use Rattle.tree_laws.specs.ArrayMoves.{LieApartOrSame};
 
 use block_source::{BlockSource, Chunks, Halt, chunk_root, walk_into};
 use chunk_map::ChunkMap;

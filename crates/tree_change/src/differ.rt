@@ -6,7 +6,7 @@ ghost use Rattle.recon_disk.specs.Keeping.{Kept};
 ghost use Rattle.live_index.specs.Table.{pairs_of};
 ghost use Rattle.super_reader.specs.Superblock.{IsReadable};
 ghost use Rattle.block_source.specs.Gives.{is_disk_fault, is_disk_halt};
-ghost use Rattle.shared_trees.specs.Shared.{are_read_alike};
+ghost use Rattle.tree_laws.specs.Shared.{are_read_alike};
 ghost use Rattle.tree_change.specs.AllLooks.{LooksFromOld, LooksToCompare};
 ghost use Rattle.tree_change.specs.Change.{GivesDifference};
 ghost use Rattle.tree_change.specs.FewLooks.{LooksFew, MovesFew};

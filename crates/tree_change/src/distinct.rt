@@ -5,7 +5,7 @@ ghost use Rattle.std.specs.List.{AllByRecursion};
 ghost use Rattle.verdict.specs.Chunks.{home, place};
 ghost use Rattle.verdict.specs.declared.place.Chunk.{Chunk as AChunk};
 ghost use Rattle.touched_blocks.specs.Moves.{AreApart};
-ghost use Rattle.shared_trees.specs.ArrayMoves.{LieApartOrSame};
+ghost use Rattle.tree_laws.specs.ArrayMoves.{LieApartOrSame};
 
 use chunk_map::ChunkMap;
 use std::alloc::Global;

@@ -3,8 +3,8 @@
 ghost use Rattle.std.specs.Prelude.{◌≡◌, ◌+◌, ◌≤◌, ◌++◌, true, length, OnOk, option_to_list};
 ghost use Rattle.std.specs.Option.{option_copied};
 ghost use Rattle.live_index.specs.Table.{pairs_of};
-ghost use Rattle.shared_trees.specs.Known.{AreMetBy, blocks_met};
-ghost use Rattle.shared_trees.specs.LivePairs.{first_or_greatest};
+ghost use Rattle.tree_laws.specs.Known.{AreMetBy, blocks_met};
+ghost use Rattle.tree_laws.specs.LivePairs.{first_or_greatest};
 ghost use Rattle.tree_change.specs.Walks.{live_with, lives_of, moved_of, moved_pair, moved_to, pairs_at};
 ghost use Rattle.tree_change.specs.Leaves.{last_in, lives_by, moved_by, moved_by_one};
 

@@ -8,7 +8,7 @@ ghost use Rattle.verdict.specs.declared.key.Key.{Key as AKey};
 ghost use Rattle.verdict.specs.declared.place.Chunk.{Chunk as AChunk};
 ghost use Rattle.volume_items.specs.declared.root_at.RootAt.{RootAt as ARoot};
 ghost use Rattle.live_index.specs.Orders.{by_key};
-ghost use Rattle.shared_trees.specs.MergedLaw.{begins_before, chunk_in, root_in};
+ghost use Rattle.tree_laws.specs.MergedLaw.{begins_before, chunk_in, root_in};
 ghost use Rattle.records.specs.Part.{owned_part};
 ghost use Rattle.tree_change.specs.Gathered.{located_item};
 ghost use Rattle.tree_change.specs.Merging.{

@@ -3,8 +3,8 @@
 ghost use Rattle.std.specs.Prelude.{◌≡◌, ◌+◌, ◌*◌, ◌≤◌, ◌++◌, ℕ, true, length, IfOk, IfSome, OnOk};
 ghost use Rattle.recon_disk.specs.Keeping.{Kept};
 ghost use Rattle.live_index.specs.Table.{pairs_of};
-ghost use Rattle.shared_trees.specs.Known.{AreMetBy, blocks_met};
-ghost use Rattle.shared_trees.specs.Visits.{LooksFew};
+ghost use Rattle.tree_laws.specs.Known.{AreMetBy, blocks_met};
+ghost use Rattle.tree_laws.specs.Visits.{LooksFew};
 ghost use Rattle.block_source.specs.Gives.{Gives, is_disk_halt};
 ghost use Rattle.block_source.specs.Takes.{handing};
 ghost use Rattle.tree_change.specs.AllTrees.{no_parts, with_parts};

@@ -4,8 +4,8 @@ ghost use Rattle.std.specs.Prelude.{◌≡◌, ◌+◌, ◌*◌, ◌≤◌, leng
 ghost use Rattle.verdict.specs.Trees.{is_node_size};
 ghost use Rattle.recon_disk.specs.Keeping.{Kept};
 ghost use Rattle.live_index.specs.Table.{pairs_of};
-ghost use Rattle.shared_trees.specs.Known.{AreMetBy, blocks_met};
-ghost use Rattle.shared_trees.specs.Visits.{LooksFew};
+ghost use Rattle.tree_laws.specs.Known.{AreMetBy, blocks_met};
+ghost use Rattle.tree_laws.specs.Visits.{LooksFew};
 ghost use Rattle.block_source.specs.Gives.{Gives, is_disk_halt};
 ghost use Rattle.block_source.specs.Takes.{handing};
 ghost use Rattle.tree_change.specs.Firsts.{first_copies};

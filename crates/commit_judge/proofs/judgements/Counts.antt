@@ -6,8 +6,8 @@ use Rattle.std.proofs.lemmas.List.Sorted.{length_permutation}
 use Rattle.commit_laws.proofs.other_images.Frame.{same_held}
 use Rattle.live_index.specs.declared.live.Live.{Live}
 use Rattle.records.specs.Contents.{Contents, contents}
-use Rattle.shared_trees.specs.LivePairs.{Walked, live_in, walked}
-use Rattle.shared_trees.specs.Shared.{unshared_in}
+use Rattle.tree_laws.specs.LivePairs.{Walked, live_in, walked}
+use Rattle.tree_laws.specs.Shared.{unshared_in}
 use Rattle.super_reader.specs.declared.Super.{Super}
 use Rattle.touched_blocks.specs.Touched.{Written, stays_in_place, touches_block, written_in}
 use Rattle.verdict.specs.declared.place.Chunk.{Chunk}

@@ -7,7 +7,7 @@ use Rattle.change_records.specs.Affected.{context_with}
 use Rattle.records.specs.Contents.{Contents, contents}
 use Rattle.records.specs.Context.{has_sum_free}
 use Rattle.records.specs.FullCheck.{checked, checked_with, full_check}
-use Rattle.shared_trees.specs.LivePairs.{live_in, table_of}
+use Rattle.tree_laws.specs.LivePairs.{live_in, table_of}
 use Rattle.walk_laws.proofs.Trees.{step_ok}
 use Rattle.span_index.specs.Sectors.{times_of_span}
 use Rattle.tree_change.specs.Merging.{root_at}

@@ -15,7 +15,7 @@ use Rattle.volume_items.specs.declared.root.RootItem.{RootItem}
 use Rattle.records.specs.Contents.{Contents, all_records, chunk_map_in, contents, root_items_in, superblock_in}
 use Rattle.records.specs.FullCheck.{checked, checked_with, full_check, verdict_of}
 use Rattle.records.specs.Seen.{Seen}
-use Rattle.shared_trees.specs.LivePairs.{Walked, live_in, walked}
+use Rattle.tree_laws.specs.LivePairs.{Walked, live_in, walked}
 use Rattle.touched_blocks.specs.Touched.{written_in}
 use Rattle.write_cache.specs.Cache.{overlaid}
 use Rattle.commit_laws.specs.Flags.{hot_of, is_hot}

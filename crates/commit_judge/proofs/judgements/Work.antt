@@ -21,7 +21,7 @@ use Rattle.change_records.specs.SumFree.{flags_after}
 use Rattle.records.specs.Contents.{Contents, contents}
 use Rattle.records.specs.Context.{has_sum_free}
 use Rattle.records.specs.SpacePostings.{is_to_sector}
-use Rattle.shared_trees.specs.LivePairs.{Walked, walked}
+use Rattle.tree_laws.specs.LivePairs.{Walked, walked}
 use Rattle.span_index.specs.Sectors.{counts, has_sector, times_of_span}
 use Rattle.span_index.specs.Spans.{Table, end_of}
 use Rattle.span_index.specs.declared.span.Span.{Span}

@@ -13,7 +13,7 @@ use Rattle.block_source.specs.declared.halt.Halt.{Halt}
 use Rattle.block_source.specs.declared.halt.Halt.TheVariants.{Found as Halted}
 use Rattle.records.specs.Contents.{contents, superblock_in}
 use Rattle.records.proofs.Accepted.{accepted_superblock}
-use Rattle.shared_trees.specs.Shared.{are_read_alike}
+use Rattle.tree_laws.specs.Shared.{are_read_alike}
 use Rattle.touched_blocks.specs.Touched.{written_in}
 use Rattle.tree_change.specs.Change.{BasesStand, IsDifference, ReadsFew}
 use Rattle.tree_change.specs.FewLooks.{LooksFew, MovesFew}

@@ -7,7 +7,7 @@ use Rattle.std.proofs.lemmas.Option.{slice_get_within}
 use Rattle.verdict.specs.OnDisk.{key_below}
 use Rattle.volume_items.specs.declared.root_at.RootAt.{RootAt}
 use Rattle.chunk_map.specs.Roots.{KeysAscend}
-use Rattle.shared_trees.proofs.Bounds.{below_trans}
+use Rattle.tree_laws.proofs.Bounds.{below_trans}
 
 -- the key of a root item is greater than those of all these
 abbrev pub IsBehind : List RootAt → RootAt → Type 0

@@ -27,8 +27,8 @@ use Rattle.records.specs.Seen.Seen.{BlockSeen, PointerSeen, ItemSeen}
 use Rattle.records.specs.SpacePostings.{is_to_sector, space_postings}
 use Rattle.records.specs.Walk.{Records}
 use Rattle.records.specs.declared.rec.WalkedBlock.{WalkedBlock}
-use Rattle.shared_trees.specs.LivePairs.{Walked, live_in, walked}
-use Rattle.shared_trees.specs.Unshared.{item_seen}
+use Rattle.tree_laws.specs.LivePairs.{Walked, live_in, walked}
+use Rattle.tree_laws.specs.Unshared.{item_seen}
 use Rattle.span_index.specs.Sectors.{times_of_span}
 use Rattle.span_index.specs.declared.span.Span.{Span}
 use Rattle.super_reader.specs.declared.Super.{Super}

@@ -12,7 +12,7 @@ use Rattle.volume_items.specs.declared.root.RootItem.{RootItem}
 use Rattle.records.specs.Contents.{all_records, chunk_map_in, chunk_records, root_items_in, root_records, superblock_in, tree_records}
 use Rattle.records.specs.Seen.{Seen}
 use Rattle.records.specs.Walk.{Records, behind, then_records}
-use Rattle.shared_trees.specs.LivePairs.{Walked, walked}
+use Rattle.tree_laws.specs.LivePairs.{Walked, walked}
 use Rattle.plain_check.specs.Opened.{Opened, named_records, opened, top_records}
 use Rattle.plain_check.proofs.Opening.{then_next}
 

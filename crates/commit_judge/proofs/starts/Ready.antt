@@ -49,7 +49,7 @@ use Rattle.records.specs.Postings.{account_fault}
 use Rattle.records.specs.Seen.{Seen}
 use Rattle.records.specs.Seen.Seen.{BlockSeen, PointerSeen, ItemSeen}
 use Rattle.records.specs.Walk.{Records}
-use Rattle.shared_trees.specs.LivePairs.{live_in, walked}
+use Rattle.tree_laws.specs.LivePairs.{live_in, walked}
 use Rattle.recon_disk.specs.Keeping.{Kept}
 use Rattle.recon_disk.specs.declared.disk.Disk.{Ghosts}
 use Rattle.span_index.specs.Sectors.{times_of_span}

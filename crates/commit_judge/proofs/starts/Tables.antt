@@ -27,7 +27,7 @@ use Rattle.records.specs.Seen.{Seen, accounted}
 use Rattle.records.specs.Seen.Seen.{BlockSeen, PointerSeen, ItemSeen}
 use Rattle.records.specs.Takes.{held_after, with_accounted, with_both}
 use Rattle.records.specs.Walk.{Records, behind}
-use Rattle.shared_trees.specs.LivePairs.{live_in, table_of}
+use Rattle.tree_laws.specs.LivePairs.{live_in, table_of}
 use Rattle.span_index.specs.Table.{times_of}
 use Rattle.span_index.specs.declared.span.Span.{Span}
 use Rattle.touched_accounts.specs.Looks.{HaveLooks}

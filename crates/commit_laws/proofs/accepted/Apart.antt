@@ -12,10 +12,10 @@ use Rattle.records.specs.Seen.{Seen}
 use Rattle.records.specs.Seen.Seen.{BlockSeen, ItemSeen, PointerSeen}
 use Rattle.walk_laws.specs.WalkOrder.{AllAbove, Ascend, item_keys}
 use Rattle.walk_laws.proofs.Trees.{walk_ascends}
-use Rattle.shared_trees.specs.MergedLaw.{items}
-use Rattle.shared_trees.specs.TableLaw.{AreApart, Tree}
-use Rattle.shared_trees.proofs.Forest.{others_after, walks}
-use Rattle.shared_trees.proofs.Mixing.{Before, InOrder, pairs_of}
+use Rattle.tree_laws.specs.MergedLaw.{items}
+use Rattle.tree_laws.specs.TableLaw.{AreApart, Tree}
+use Rattle.tree_laws.proofs.Forest.{others_after, walks}
+use Rattle.tree_laws.proofs.Mixing.{Before, InOrder, pairs_of}
 use Rattle.tree_change.specs.Change.{item_before}
 use Rattle.tree_change.proofs.Ordered.{either, order_append, others_of}
 use Rattle.tree_change.proofs.Piece.{item_id}

@@ -39,9 +39,9 @@ use Rattle.records.specs.Postings.{account_fault, all_postings, postings_of}
 use Rattle.records.specs.Seen.{Seen, accounted, block_record}
 use Rattle.records.specs.Seen.Seen.{BlockSeen, ItemSeen, PointerSeen}
 use Rattle.records.specs.SpacePostings.{is_data}
-use Rattle.shared_trees.specs.LivePairs.{Walked, live_in, live_of, table_of, walked}
-use Rattle.shared_trees.specs.MergedLaw.{items}
-use Rattle.shared_trees.proofs.Treed.{steps_of}
+use Rattle.tree_laws.specs.LivePairs.{Walked, live_in, live_of, table_of, walked}
+use Rattle.tree_laws.specs.MergedLaw.{items}
+use Rattle.tree_laws.proofs.Treed.{steps_of}
 use Rattle.change_records.specs.Affected.{NamesBlock, NamesIn}
 use Rattle.change_records.specs.Refs.{ref_to}
 use Rattle.change_records.specs.declared.item_ref.ItemRef.{ItemRef}

@@ -24,11 +24,11 @@ use Rattle.records.specs.Part.{FitsPlace, IsLawful, Located, Part}
 use Rattle.records.specs.Seen.{Seen}
 use Rattle.records.specs.Seen.Seen.{ItemSeen}
 use Rattle.records.specs.Walk.{Records, behind, each, entry_records, just, leaf_record, leaf_records, pointer_records, then_records}
-use Rattle.shared_trees.specs.LivePairs.{Walked, walked}
-use Rattle.shared_trees.specs.MergedLaw.{items}
-use Rattle.shared_trees.proofs.Merged.{read_of}
-use Rattle.shared_trees.proofs.Trails.{Visit}
-use Rattle.shared_trees.proofs.Treed.{steps_of}
+use Rattle.tree_laws.specs.LivePairs.{Walked, walked}
+use Rattle.tree_laws.specs.MergedLaw.{items}
+use Rattle.tree_laws.proofs.Merged.{read_of}
+use Rattle.tree_laws.proofs.Trails.{Visit}
+use Rattle.tree_laws.proofs.Treed.{steps_of}
 use Rattle.change_records.specs.Spans.{IsLawfulIn}
 use Rattle.commit_laws.specs.Items.{ItemsLaw}
 use Rattle.commit_laws.proofs.Found.{Owns, found_of, items_all, items_at, stored_of}

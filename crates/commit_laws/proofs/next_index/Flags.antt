@@ -16,10 +16,10 @@ use Rattle.records.specs.declared.rec.ItemAt.{ItemAt}
 use Rattle.change_records.specs.Changes.{AreChanges, Ascend, IsChange as IsItemChange, is_before}
 use Rattle.change_records.specs.SumFree.{sum_free_after}
 use Rattle.change_records.specs.declared.changes.ItemChange.{ItemChange}
-use Rattle.shared_trees.specs.LivePairs.{Walked}
-use Rattle.shared_trees.specs.MergedLaw.{IsInOrder, items}
-use Rattle.shared_trees.specs.Shared.{are_read_alike, unshared_in}
-use Rattle.shared_trees.specs.Unshared.{items_in}
+use Rattle.tree_laws.specs.LivePairs.{Walked}
+use Rattle.tree_laws.specs.MergedLaw.{IsInOrder, items}
+use Rattle.tree_laws.specs.Shared.{are_read_alike, unshared_in}
+use Rattle.tree_laws.specs.Unshared.{items_in}
 use Rattle.touched_blocks.specs.Touched.{written_in}
 use Rattle.tree_change.specs.Change.{item_before}
 use Rattle.tree_change.specs.Gathered.{located_item}

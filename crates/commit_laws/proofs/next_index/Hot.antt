@@ -9,9 +9,9 @@ use Rattle.verdict.specs.OnDisk.{key_same}
 use Rattle.live_index.specs.declared.live.Live.{Live}
 use Rattle.records.specs.Seen.{Seen}
 use Rattle.records.specs.Seen.Seen.{BlockSeen, ItemSeen, PointerSeen}
-use Rattle.shared_trees.specs.LivePairs.{Walked, live_in, live_of, records_in}
-use Rattle.shared_trees.specs.Shared.{are_alike, are_read_alike, at_or_below, is_block_where, is_shared, is_shared_by, stands_untouched, unshared_in}
-use Rattle.shared_trees.specs.SharedLaw.{touches_old}
+use Rattle.tree_laws.specs.LivePairs.{Walked, live_in, live_of, records_in}
+use Rattle.tree_laws.specs.Shared.{are_alike, are_read_alike, at_or_below, is_block_where, is_shared, is_shared_by, stands_untouched, unshared_in}
+use Rattle.tree_laws.specs.SharedLaw.{touches_old}
 use Rattle.touched_blocks.specs.Touched.{Written, stays_in_place, touches_block}
 use Rattle.commit_laws.specs.Flags.{HotLaw, is_hot}
 

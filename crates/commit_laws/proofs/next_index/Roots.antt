@@ -10,7 +10,7 @@ use Rattle.std.specs.Prelude.{Option, Some, None, Ok, map}
 use Rattle.std.specs.List.{AllByRecursion, AllPairs, cons_option, filter, filter_map}
 use Rattle.std.specs.List.Sorted.{IsPermutation}
 use Rattle.walk_laws.proofs.Trees.{step_ok}
-use Rattle.shared_trees.proofs.Mixing.{same_itself, apart_first}
+use Rattle.tree_laws.proofs.Mixing.{same_itself, apart_first}
 use Rattle.verdict.proofs.Lists.{all_later, filter_alike as filter_same, all_map as each_map}
 use Rattle.verdict.specs.OnDisk.{key_below, key_same}
 use Rattle.verdict.specs.Rules.{and_then, finding_or}
@@ -28,14 +28,14 @@ use Rattle.records.specs.Part.Part.{RootPart}
 use Rattle.records.specs.Seen.{Seen, accounted}
 use Rattle.records.specs.Seen.Seen.{BlockSeen, ItemSeen, PointerSeen}
 use Rattle.records.specs.Walk.{Records, walk_in, walk_of}
-use Rattle.shared_trees.specs.LivePairs.{Walked, walked}
-use Rattle.shared_trees.specs.MergedLaw.{items, root_in, roots_seen}
-use Rattle.shared_trees.specs.Shared.{unshared_in}
-use Rattle.shared_trees.specs.TableLaw.{trees_in}
-use Rattle.shared_trees.specs.Unshared.{items_in}
-use Rattle.shared_trees.proofs.MergedLists.{roots_are_seen}
-use Rattle.shared_trees.proofs.Picking.{each_both}
-use Rattle.shared_trees.proofs.Treed.{has_trees, steps_of, trees_walk}
+use Rattle.tree_laws.specs.LivePairs.{Walked, walked}
+use Rattle.tree_laws.specs.MergedLaw.{items, root_in, roots_seen}
+use Rattle.tree_laws.specs.Shared.{unshared_in}
+use Rattle.tree_laws.specs.TableLaw.{trees_in}
+use Rattle.tree_laws.specs.Unshared.{items_in}
+use Rattle.tree_laws.proofs.MergedLists.{roots_are_seen}
+use Rattle.tree_laws.proofs.Picking.{each_both}
+use Rattle.tree_laws.proofs.Treed.{has_trees, steps_of, trees_walk}
 use Rattle.touched_blocks.specs.Touched.{written_in}
 use Rattle.tree_change.specs.Gathered.{located_item}
 use Rattle.tree_change.specs.Merging.{has_named, named_before, root_at, root_at_of, roots_among, roots_left}

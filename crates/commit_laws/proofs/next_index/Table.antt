@@ -8,7 +8,7 @@ use Rattle.std.specs.Ordering.{nat_cmp}
 use Rattle.std.specs.FinMap.{FinMap}
 use Rattle.commit_laws.proofs.Alike.{shared_is}
 use Rattle.live_index.proofs.PlaceLaws.{same_name}
-use Rattle.shared_trees.proofs.Shifting.{alike_some}
+use Rattle.tree_laws.proofs.Shifting.{alike_some}
 use Rattle.verdict.proofs.Lists.{all_map as each_map}
 use Rattle.verdict.specs.OnDisk.{key_same}
 use Rattle.write_cache.specs.Cache.{overlaid}
@@ -17,14 +17,14 @@ use Rattle.live_index.specs.declared.live.Live.{Live}
 use Rattle.node_reader.specs.Stored.{Stored, stored_in}
 use Rattle.records.specs.Seen.{Seen}
 use Rattle.records.specs.Seen.Seen.{BlockSeen, ItemSeen, PointerSeen}
-use Rattle.shared_trees.specs.Keeping.{owner_in}
-use Rattle.shared_trees.specs.LivePairs.{Walked, live_in, live_of, table_of, walked}
-use Rattle.shared_trees.specs.Shared.{are_alike, at_or_below, is_shared, stands_untouched}
-use Rattle.shared_trees.specs.SharedLaw.{touches_old}
-use Rattle.shared_trees.specs.ShiftedLaw.{is_shifted}
-use Rattle.shared_trees.proofs.Images.{stored_alike}
-use Rattle.shared_trees.proofs.KeptImage.{nodesize_same}
-use Rattle.shared_trees.proofs.Picking.{each_both, is_there, one_of, table_some}
+use Rattle.tree_laws.specs.Keeping.{owner_in}
+use Rattle.tree_laws.specs.LivePairs.{Walked, live_in, live_of, table_of, walked}
+use Rattle.tree_laws.specs.Shared.{are_alike, at_or_below, is_shared, stands_untouched}
+use Rattle.tree_laws.specs.SharedLaw.{touches_old}
+use Rattle.tree_laws.specs.ShiftedLaw.{is_shifted}
+use Rattle.tree_laws.proofs.Images.{stored_alike}
+use Rattle.tree_laws.proofs.KeptImage.{nodesize_same}
+use Rattle.tree_laws.proofs.Picking.{each_both, is_there, one_of, table_some}
 use Rattle.touched_blocks.specs.Touched.{stays_in_place, written_in}
 use Rattle.tree_change.specs.Change.{IsChange}
 use Rattle.tree_change.specs.declared.change.Change.{Change}

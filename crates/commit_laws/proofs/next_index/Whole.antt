@@ -14,13 +14,13 @@ use Rattle.node_reader.specs.Stored.{Stored, stored_in}
 use Rattle.node_reader.specs.declared.expect.Expect.{Expect}
 use Rattle.records.specs.WalkLaw.{visited}
 use Rattle.verdict.specs.declared.key.Key.{Key}
-use Rattle.shared_trees.specs.Keeping.{Stands, live_at, owner_in}
-use Rattle.shared_trees.specs.LivePairs.{Walked, live_in, table_of, walked}
-use Rattle.shared_trees.specs.TableLaw.{Tree, trees_in}
-use Rattle.shared_trees.proofs.Forest.{all_lives, lives_all, lives_of, tables_stand}
-use Rattle.shared_trees.proofs.KeptImage.{IsOfImage, of_image}
-use Rattle.shared_trees.proofs.Picking.{each_both}
-use Rattle.shared_trees.proofs.Treed.{has_trees, steps_of, trees_walk}
+use Rattle.tree_laws.specs.Keeping.{Stands, live_at, owner_in}
+use Rattle.tree_laws.specs.LivePairs.{Walked, live_in, table_of, walked}
+use Rattle.tree_laws.specs.TableLaw.{Tree, trees_in}
+use Rattle.tree_laws.proofs.Forest.{all_lives, lives_all, lives_of, tables_stand}
+use Rattle.tree_laws.proofs.KeptImage.{IsOfImage, of_image}
+use Rattle.tree_laws.proofs.Picking.{each_both}
+use Rattle.tree_laws.proofs.Treed.{has_trees, steps_of, trees_walk}
 
 -- a table has a pair, and what is stored at its address names its owner
 pub record IsLive (table : Pairs) (stored : Stored) (live : Live) : Type 0 where

@@ -25,14 +25,14 @@ use Rattle.records.specs.Takes.{held_after, with_chunk, with_root}
 use Rattle.records.specs.Walk.{then_records, walk_in}
 use Rattle.records.specs.WalkLaw.{StoredAlike, visited}
 use Rattle.records.proofs.Alike.{walk_alike}
-use Rattle.shared_trees.specs.ArrayLaw.{IsAsByAll}
-use Rattle.shared_trees.specs.Keeping.{Stands, live_at}
-use Rattle.shared_trees.specs.LivePairs.{Walked, live_in, table_of, walked}
-use Rattle.shared_trees.specs.TableLaw.{Tree}
-use Rattle.shared_trees.proofs.ArrayPlaces.{as_by_all}
-use Rattle.shared_trees.proofs.Picking.{each_both}
-use Rattle.shared_trees.proofs.Rooted.{table_stands}
-use Rattle.shared_trees.proofs.Treed.{Steps, steps_of}
+use Rattle.tree_laws.specs.ArrayLaw.{IsAsByAll}
+use Rattle.tree_laws.specs.Keeping.{Stands, live_at}
+use Rattle.tree_laws.specs.LivePairs.{Walked, live_in, table_of, walked}
+use Rattle.tree_laws.specs.TableLaw.{Tree}
+use Rattle.tree_laws.proofs.ArrayPlaces.{as_by_all}
+use Rattle.tree_laws.proofs.Picking.{each_both}
+use Rattle.tree_laws.proofs.Rooted.{table_stands}
+use Rattle.tree_laws.proofs.Treed.{Steps, steps_of}
 use Rattle.commit_laws.specs.Frame.{FrameLaw, HaveSame, HaveSameCopies}
 use Rattle.commit_laws.proofs.Held.{holds}
 

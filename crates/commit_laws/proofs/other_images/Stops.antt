@@ -10,7 +10,7 @@ use Rattle.verdict.specs.declared.place.Place.{Place}
 use Rattle.verdict.specs.declared.place.Place.TheVariants.{Nowhere, One, Two}
 use Rattle.write_cache.proofs.CacheLaws.{get-range, length-range}
 use Rattle.live_index.specs.declared.live.Live.{Live}
-use Rattle.shared_trees.specs.LivePairs.{Walked, live_in, table_of}
+use Rattle.tree_laws.specs.LivePairs.{Walked, live_in, table_of}
 use Rattle.touched_blocks.specs.Touched.{Written, any_written, copy_written, stays_in_place, touches_block}
 use Rattle.commit_laws.specs.Commit.{Known}
 use Rattle.commit_laws.specs.Flags.{hot_of, is_hot}

@@ -17,8 +17,8 @@ use Rattle.accounts.proofs.Kept.{total_joined}
 use Rattle.change_records.specs.Spans.{IsLawfulIn}
 use Rattle.records.specs.Contents.{superblock_in}
 use Rattle.records.specs.Part.{IsLawful, Located}
-use Rattle.shared_trees.specs.LivePairs.{Walked}
-use Rattle.shared_trees.proofs.Treed.{steps_of}
+use Rattle.tree_laws.specs.LivePairs.{Walked}
+use Rattle.tree_laws.proofs.Treed.{steps_of}
 use Rattle.span_index.specs.Order.{is_same}
 use Rattle.span_index.specs.Sectors.{times_of_span}
 use Rattle.span_index.specs.declared.span.Span.{Span}

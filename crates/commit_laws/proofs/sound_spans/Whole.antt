@@ -12,7 +12,7 @@ use Rattle.fs_items.specs.SumsRow.{SumFields}
 use Rattle.fs_items.specs.declared.file_extent.FileExtent.{FileExtent}
 use Rattle.records.specs.Part.{AreSectors, IsLawful, Located, Part}
 use Rattle.records.specs.Part.Part.{ExtentPart, FileExtentPart, SumsPart}
-use Rattle.shared_trees.specs.LivePairs.{Walked}
+use Rattle.tree_laws.specs.LivePairs.{Walked}
 use Rattle.span_index.specs.Sectors.{times_of_span}
 use Rattle.span_index.specs.Spans.{Table}
 use Rattle.span_index.specs.declared.span.Span.{Span}

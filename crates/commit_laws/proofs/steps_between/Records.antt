@@ -13,11 +13,11 @@ use Rattle.live_index.specs.declared.live.Live.{Live}
 use Rattle.records.specs.Contents.{super_record}
 use Rattle.records.specs.Part.{Located}
 use Rattle.touched_blocks.specs.Touched.{Written, stays_in_place, touches_block, written_in}
-use Rattle.shared_trees.specs.LivePairs.{Walked, live_in, walked}
-use Rattle.shared_trees.specs.MergedLaw.{items}
-use Rattle.shared_trees.specs.Shared.{are_alike, are_read_alike, is_shared, is_shared_by, stands_untouched, unshared_in}
-use Rattle.shared_trees.specs.Unshared.{items_in}
-use Rattle.shared_trees.proofs.Trails.{Visit}
+use Rattle.tree_laws.specs.LivePairs.{Walked, live_in, walked}
+use Rattle.tree_laws.specs.MergedLaw.{items}
+use Rattle.tree_laws.specs.Shared.{are_alike, are_read_alike, is_shared, is_shared_by, stands_untouched, unshared_in}
+use Rattle.tree_laws.specs.Unshared.{items_in}
+use Rattle.tree_laws.proofs.Trails.{Visit}
 use Rattle.commit_laws.specs.Items.{items_of}
 use Rattle.commit_laws.specs.Same.{live_record, records_at, records_of}
 use Rattle.commit_laws.specs.Steps.{change_records}

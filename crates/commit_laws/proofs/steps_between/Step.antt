@@ -22,10 +22,10 @@ use Rattle.change_records.specs.Refs.{is_named}
 use Rattle.change_records.specs.Spans.{StandApart}
 use Rattle.change_records.specs.declared.changes.ItemChange.{ItemChange}
 use Rattle.change_records.specs.declared.item_ref.ItemRef.{ItemRef}
-use Rattle.shared_trees.specs.LivePairs.{Walked}
-use Rattle.shared_trees.specs.Shared.{unshared_in}
-use Rattle.shared_trees.specs.Unshared.{items_in}
-use Rattle.shared_trees.proofs.KeptImage.{nodesize_same}
+use Rattle.tree_laws.specs.LivePairs.{Walked}
+use Rattle.tree_laws.specs.Shared.{unshared_in}
+use Rattle.tree_laws.specs.Unshared.{items_in}
+use Rattle.tree_laws.proofs.KeptImage.{nodesize_same}
 use Rattle.touched_blocks.specs.Touched.{written_in}
 use Rattle.tree_change.specs.Change.{item_before}
 use Rattle.tree_change.specs.Gathered.{located_item}

@@ -10,9 +10,9 @@ use Rattle.records.specs.Part.{Located}
 use Rattle.records.specs.Postings.{postings_of}
 use Rattle.records.specs.SpacePostings.{rest_postings}
 use Rattle.write_cache.specs.Cache.{overlaid}
-use Rattle.shared_trees.specs.LivePairs.{Walked}
-use Rattle.shared_trees.specs.Shared.{is_shared, unshared_in}
-use Rattle.shared_trees.specs.Unshared.{items_in}
+use Rattle.tree_laws.specs.LivePairs.{Walked}
+use Rattle.tree_laws.specs.Shared.{is_shared, unshared_in}
+use Rattle.tree_laws.specs.Unshared.{items_in}
 use Rattle.touched_blocks.specs.Touched.{written_in}
 use Rattle.tree_change.specs.Gathered.{located_item}
 use Rattle.commit_laws.specs.Kept.{placed_postings}

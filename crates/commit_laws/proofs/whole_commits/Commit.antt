@@ -23,8 +23,8 @@ use Rattle.records.specs.Context.{context_of, has_sum_free}
 use Rattle.records.specs.FullCheck.{checked_with, full_check, verdict_of}
 use Rattle.records.specs.Part.{Located}
 use Rattle.records.specs.Postings.{account_fault, all_postings}
-use Rattle.shared_trees.specs.LivePairs.{Walked, live_in, table_of, walked}
-use Rattle.shared_trees.proofs.Treed.{steps_of}
+use Rattle.tree_laws.specs.LivePairs.{Walked, live_in, table_of, walked}
+use Rattle.tree_laws.proofs.Treed.{steps_of}
 use Rattle.span_index.specs.Sectors.{IsFirstBad, is_bad, is_inside, times_of_span}
 use Rattle.span_index.specs.declared.span.Run.{Run}
 use Rattle.touched_accounts.proofs.LeastTouched.{touched}

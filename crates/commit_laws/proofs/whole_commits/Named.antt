@@ -29,8 +29,8 @@ use Rattle.records.specs.Seen.{Seen, accounted, block_record}
 use Rattle.records.specs.Seen.Seen.{BlockSeen, ItemSeen, PointerSeen}
 use Rattle.records.specs.SpacePostings.{is_data, space_postings}
 use Rattle.records.specs.declared.rec.WalkedBlock.{WalkedBlock}
-use Rattle.shared_trees.specs.LivePairs.{Walked}
-use Rattle.shared_trees.specs.Unshared.{item_seen}
+use Rattle.tree_laws.specs.LivePairs.{Walked}
+use Rattle.tree_laws.specs.Unshared.{item_seen}
 use Rattle.span_index.specs.Order.{is_same}
 use Rattle.span_index.specs.Sectors.{is_inside, times_of_span}
 use Rattle.span_index.specs.Spans.{Table}

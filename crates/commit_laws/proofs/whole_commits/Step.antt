@@ -18,8 +18,8 @@ use Rattle.change_records.proofs.Merge.{contains_none}
 use Rattle.records.specs.Context.{has_sum_free}
 use Rattle.records.specs.FullCheck.{full_check}
 use Rattle.records.specs.Part.{Located}
-use Rattle.shared_trees.specs.LivePairs.{Walked, live_in, table_of, walked}
-use Rattle.shared_trees.specs.Shared.{are_read_alike}
+use Rattle.tree_laws.specs.LivePairs.{Walked, live_in, table_of, walked}
+use Rattle.tree_laws.specs.Shared.{are_read_alike}
 use Rattle.span_index.specs.Sectors.{times_of_span}
 use Rattle.super_reader.specs.declared.Super.{Super}
 use Rattle.touched_blocks.specs.Touched.{written_in}

@@ -1,18 +1,15 @@
 use Rattle.std.proofs.Common.{◌∙◌, ◌++◌, ◌∷◌, [], ap}
 use Rattle.accounts.proofs.Apart.{adds_listed}
-use Rattle.records.specs.ExtentPostings.{reference_account}
-use Rattle.records.specs.Post.{to}
+use Rattle.accounts.specs.Lent.{to, user_account}
 use Rattle.extent_tally.specs.Held.{class_sums}
 use Rattle.extent_tally.proofs.Lists.{adds_more}
 use Rattle.extent_tally.proofs.tally.give_reference.Goals as goal
 
 pub returns-in-Some-clause-sums : goal.returns-in-Some-clause-sums
 returns-in-Some-clause-sums c =
-    let r = c.args.reference.now in
-    adds_more (class_sums c.args.class) (class_sums c.in-Some.more) c.args.into.now (to (reference_account c.args.class.address r) 0 r.count ∷ []) c.in-Some.ensures.sums
+    adds_more (class_sums c.args.class) (class_sums c.in-Some.more) c.args.into.now (to (user_account c.args.class.address c.args.user.now) 0 c.args.count ∷ []) c.in-Some.ensures.sums
 
 pub returns-clause-sums : goal.returns-clause-sums
 returns-clause-sums c =
-    let r = c.args.reference.now in
-    adds_listed (class_sums c.args.class) c.args.into.now c.push.new.self (to (reference_account c.args.class.address r) 0 r.count ∷ [])
-    (c.in_ok-push.ensures.ok ∙ ap (λ p. c.args.into.now ++ p ∷ []) (c.to.ensures ∙ (λ i. to (c.reference_account-user.ensures i) 0 (c.from.ensures i))))
+    adds_listed (class_sums c.args.class) c.args.into.now c.push.new.self (to (user_account c.args.class.address c.args.user.now) 0 c.args.count ∷ [])
+    (c.in_ok-push.ensures.ok ∙ ap (λ p. c.args.into.now ++ p ∷ []) (c.to.ensures ∙ ap (λ x. to x 0 c.args.count) c.account-account.ensures))

@@ -1,5 +1,5 @@
 use Rattle.std.proofs.Common.{◌≡◌, ◌-◌, length, reverse, take, slice_get, Some, false, ap, sym, ◌∙◌}
-use Rattle.shared_trees.specs.LivePairs.{greater_key}
+use Rattle.tree_laws.specs.LivePairs.{greater_key}
 use Rattle.live_maker.specs.Opened.{closes, last_below}
 use Rattle.live_maker.proofs.Closing.{Done, done_closed, done_live, done_none, hand_more, left_less}
 use Rattle.live_maker.proofs.lives.closed.Goals as goal

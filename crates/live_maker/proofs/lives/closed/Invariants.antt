@@ -1,5 +1,5 @@
 use Rattle.std.proofs.Common.{◌≡◌, reverse}
-use Rattle.shared_trees.specs.LivePairs.{greater_key}
+use Rattle.tree_laws.specs.LivePairs.{greater_key}
 use Rattle.live_maker.specs.Closing.{left_of}
 use Rattle.live_maker.specs.Opened.{last_below}
 use Rattle.live_maker.proofs.lives.closed.Given as goal

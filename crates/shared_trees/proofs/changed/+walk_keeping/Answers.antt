@@ -1,16 +1,16 @@
 use Rattle.std.proofs.Common.{◌≡◌, ◌≤◌, ◌+◌, ◌-◌, [], ◌∷◌, drop, rules, arith, ap, refl, subst, sym, ◌∙◌}
 use Rattle.records.specs.Walk.{children_of, walk_in}
 use Rattle.block_source.specs.Private.{pointers_from}
-use Rattle.shared_trees.specs.KeepingWalk.{skip_in}
+use Rattle.tree_laws.specs.KeepingWalk.{skip_in}
 use Rattle.verdict.specs.Rules.{no_key}
-use Rattle.shared_trees.specs.Ending.{Lasts}
-use Rattle.shared_trees.specs.Meeting.{Meets, met_in, with_met}
-use Rattle.shared_trees.proofs.Keepings.{skip_steps}
-use Rattle.shared_trees.proofs.KeepCounting.{keep_leaf_counted, keep_node_counted}
-use Rattle.shared_trees.proofs.EndWalk.{ends_start, ends_step, kept_ends, leaf_ends, leaf_read_ends, left_ends, read_node_ends, whole_ends}
-use Rattle.shared_trees.proofs.MetWalk.{leaf_meets, leaf_read, met_all, met_step, node_met, node_read, whole_meets}
-use Rattle.shared_trees.proofs.VisitWalk.{looks_all, looks_step, node_looks, one_looks, read_looks}
-use Rattle.shared_trees.specs.Visits.{visits_in}
+use Rattle.tree_laws.specs.Ending.{Lasts}
+use Rattle.tree_laws.specs.Meeting.{Meets, met_in, with_met}
+use Rattle.tree_laws.proofs.Keepings.{skip_steps}
+use Rattle.tree_laws.proofs.KeepCounting.{keep_leaf_counted, keep_node_counted}
+use Rattle.tree_laws.proofs.EndWalk.{ends_start, ends_step, kept_ends, leaf_ends, leaf_read_ends, left_ends, read_node_ends, whole_ends}
+use Rattle.tree_laws.proofs.MetWalk.{leaf_meets, leaf_read, met_all, met_step, node_met, node_read, whole_meets}
+use Rattle.tree_laws.proofs.VisitWalk.{looks_all, looks_step, node_looks, one_looks, read_looks}
+use Rattle.tree_laws.specs.Visits.{visits_in}
 use Rattle.shared_trees.proofs.changed.+walk_keeping.Goals as goal
 
 -- src/changed.rt:61:9

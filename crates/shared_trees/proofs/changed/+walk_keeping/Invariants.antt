@@ -3,14 +3,14 @@ use Rattle.node_reader.specs.Stored.{stored_in}
 use Rattle.records.specs.Walk.{children_of, each}
 use Rattle.block_source.specs.Private.{pointers_from}
 use Rattle.block_source.proofs.Walking.{ReadSoFar, SoFar}
-use Rattle.shared_trees.specs.KeepingWalk.{skip_in}
+use Rattle.tree_laws.specs.KeepingWalk.{skip_in}
 use Rattle.verdict.specs.Rules.{no_key}
-use Rattle.shared_trees.proofs.EndWalk.{EndsSoFar, left_ends}
-use Rattle.shared_trees.proofs.MetWalk.{MetSoFar, left_of}
-use Rattle.shared_trees.proofs.VisitWalk.{LooksSoFar, left_visits}
-use Rattle.shared_trees.specs.Meeting.{met_in}
-use Rattle.shared_trees.specs.Visits.{visits_in}
-use Rattle.shared_trees.specs.Skips.{nothing, skip_and, skip_below}
+use Rattle.tree_laws.proofs.EndWalk.{EndsSoFar, left_ends}
+use Rattle.tree_laws.proofs.MetWalk.{MetSoFar, left_of}
+use Rattle.tree_laws.proofs.VisitWalk.{LooksSoFar, left_visits}
+use Rattle.tree_laws.specs.Meeting.{met_in}
+use Rattle.tree_laws.specs.Visits.{visits_in}
+use Rattle.tree_laws.specs.Skips.{nothing, skip_and, skip_below}
 use Rattle.shared_trees.proofs.changed.+walk_keeping.Given as goal
 
 abbrev pub decreases-walk_keeping : goal.decreases-walk_keeping

@@ -1,5 +1,5 @@
 use Rattle.std.proofs.Common.{◌≡◌, drop}
-use Rattle.shared_trees.specs.Keeping.{bound_of}
+use Rattle.tree_laws.specs.Keeping.{bound_of}
 use Rattle.shared_trees.proofs.known.bound.Given as goal
 
 -- the children that are left decide

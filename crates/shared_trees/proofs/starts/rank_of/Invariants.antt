@@ -1,5 +1,5 @@
 use Rattle.std.proofs.Common.{◌≡◌, ◌+◌, drop}
-use Rattle.shared_trees.specs.Listing.{rank_of}
+use Rattle.tree_laws.specs.Listing.{rank_of}
 use Rattle.shared_trees.proofs.starts.rank_of.Given as goal
 
 -- all that were looked at come before it

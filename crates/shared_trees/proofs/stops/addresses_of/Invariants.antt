@@ -1,5 +1,5 @@
 use Rattle.std.proofs.Common.{◌≡◌, take}
-use Rattle.shared_trees.specs.Stopping.{addresses_of}
+use Rattle.tree_laws.specs.Stopping.{addresses_of}
 use Rattle.shared_trees.proofs.stops.addresses_of.Given as goal
 
 -- the addresses of the blocks so far

@@ -2,7 +2,7 @@ use Rattle.std.proofs.Common.{◌++◌, ap, ◌∙◌, arith}
 use Rattle.std.specs.List.{filter_map}
 use Rattle.std.proofs.lemmas.List.{take_all}
 use Rattle.live_index.specs.Table.{pairs_of}
-use Rattle.shared_trees.specs.declared.keeps.Met.{Met}
+use Rattle.tree_laws.specs.declared.told.Met.{Met}
 use Rattle.tree_change.specs.Leaves.{last_in, moved_by_one}
 use Rattle.tree_change.proofs.Leaving.{moved_met, some_more}
 use Rattle.tree_change.proofs.lives.add_moved.Goals as goal

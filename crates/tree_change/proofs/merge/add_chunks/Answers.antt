@@ -2,7 +2,7 @@ use Rattle.std.proofs.Common.{ap, ◌∙◌}
 use Rattle.records.specs.Part.{owned_part}
 use Rattle.records.specs.Part.{Located}
 use Rattle.records.specs.declared.rec.ItemAt.{ItemAt}
-use Rattle.shared_trees.specs.MergedLaw.{chunk_in}
+use Rattle.tree_laws.specs.MergedLaw.{chunk_in}
 use Rattle.tree_change.specs.Gathered.{located_item}
 use Rattle.tree_change.proofs.Merges.{added_more}
 use Rattle.tree_change.proofs.merge.add_chunks.Goals as goal

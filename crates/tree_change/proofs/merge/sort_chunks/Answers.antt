@@ -1,7 +1,7 @@
 use Rattle.std.proofs.Common.{rules}
 use Rattle.std.specs.Cmp.{nat_cmp_total}
 use Rattle.verdict.specs.declared.place.Chunk.{Chunk}
-use Rattle.shared_trees.specs.MergedLaw.{begins_before}
+use Rattle.tree_laws.specs.MergedLaw.{begins_before}
 use Rattle.tree_change.proofs.Merges.{sorted_of, start_before}
 use Rattle.tree_change.proofs.merge.sort_chunks.Goals as goal
 

@@ -5,7 +5,7 @@ use Rattle.verdict.specs.declared.place.Chunk.{Chunk}
 use Rattle.records.specs.Part.{owned_part}
 use Rattle.records.specs.Part.{Located}
 use Rattle.records.specs.declared.rec.ItemAt.{ItemAt}
-use Rattle.shared_trees.specs.MergedLaw.{chunk_in}
+use Rattle.tree_laws.specs.MergedLaw.{chunk_in}
 use Rattle.tree_change.specs.Gathered.{located_item}
 use Rattle.tree_change.proofs.Merges.{has_more}
 use Rattle.tree_change.proofs.merge.starts_of.Goals as goal

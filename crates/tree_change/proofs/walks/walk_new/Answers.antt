@@ -1,8 +1,8 @@
 use Rattle.std.proofs.Common.{ap}
-use Rattle.shared_trees.specs.KeepingWalk.{skip_in}
-use Rattle.shared_trees.specs.Known.{blocks_met}
+use Rattle.tree_laws.specs.KeepingWalk.{skip_in}
+use Rattle.tree_laws.specs.Known.{blocks_met}
 use Rattle.live_index.specs.Table.{pairs_of}
-use Rattle.shared_trees.proofs.Stopping.{met_none}
+use Rattle.tree_laws.proofs.Stopping.{met_none}
 use Rattle.tree_change.specs.Gathered.{gathers}
 use Rattle.tree_change.specs.Told.{known_by}
 use Rattle.tree_change.specs.Walks.{kept_by, listed_by}

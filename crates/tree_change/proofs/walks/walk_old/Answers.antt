@@ -1,9 +1,9 @@
 use Rattle.std.proofs.Common.{rules}
 use Rattle.block_source.specs.declared.read.BlockSource.{BlockSource}
-use Rattle.shared_trees.specs.KeepingWalk.{skip_in}
-use Rattle.shared_trees.specs.Known.{blocks_met}
+use Rattle.tree_laws.specs.KeepingWalk.{skip_in}
+use Rattle.tree_laws.specs.Known.{blocks_met}
 use Rattle.shared_trees.specs.OldTrees.{is_stopped}
-use Rattle.shared_trees.specs.Stopping.{kept_among}
+use Rattle.tree_laws.specs.Stopping.{kept_among}
 use Rattle.tree_change.specs.Gathered.{gathers}
 use Rattle.tree_change.specs.Told.{known_by}
 use Rattle.tree_change.specs.Walks.{listed_by}

@@ -1,5 +1,5 @@
 use Rattle.live_index.specs.Table.{pairs_of}
-use Rattle.shared_trees.proofs.Stopping.{met_none}
+use Rattle.tree_laws.proofs.Stopping.{met_none}
 use Rattle.whole_runs.proofs.tree_tests.known_by.Goals as goal
 
 pub invariant_of-result : goal.invariant_of-result

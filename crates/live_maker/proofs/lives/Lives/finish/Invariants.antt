@@ -1,7 +1,7 @@
 use Rattle.std.proofs.Common.{◌≡◌, ◌+◌, ◌≤◌, List, ◌++◌, length, reverse}
 use Rattle.live_index.specs.Table.{pairs_of}
 use Rattle.live_index.specs.declared.live.Live.{Live}
-use Rattle.shared_trees.specs.LivePairs.{table_of}
+use Rattle.tree_laws.specs.LivePairs.{table_of}
 use Rattle.live_maker.specs.Opened.{finished}
 use Rattle.live_maker.proofs.Behind.{Alike}
 use Rattle.live_maker.proofs.lives.Lives.finish.Given as goal

@@ -1,7 +1,7 @@
 use Rattle.live_index.specs.Table.{pairs_of}
 use Rattle.shared_trees.specs.OldTrees.{is_stopped}
 use Rattle.shared_trees.specs.Under.{under_of}
-use Rattle.shared_trees.proofs.Stopping.{kept_stop}
+use Rattle.tree_laws.proofs.Stopping.{kept_stop}
 use Rattle.shared_trees.proofs.old.OldTreeKeeps.kept.Goals as goal
 
 pub returns-clause-value : goal.returns-clause-value

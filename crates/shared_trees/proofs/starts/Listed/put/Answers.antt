@@ -1,6 +1,6 @@
 use Rattle.std.proofs.Common.{◌≡◌, ◌≤◌, ◌∙◌, ap, sym, subst, arith, true, vec_len}
-use Rattle.shared_trees.specs.Listed.{is_before}
-use Rattle.shared_trees.specs.Listing.{rank_of}
+use Rattle.tree_laws.specs.Listed.{is_before}
+use Rattle.tree_laws.specs.Listing.{rank_of}
 use Rattle.shared_trees.proofs.Listed.{put_at}
 use Rattle.shared_trees.proofs.starts.Listed.put.Goals as goal
 use Rattle.shared_trees.proofs.starts.Listed.put.Goals.{else-rank-len-via-then-rank-len+else-not-is_before, else-rank-len-via-else-rank-len}

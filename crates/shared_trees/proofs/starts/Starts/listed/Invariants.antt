@@ -1,7 +1,7 @@
 use Rattle.std.proofs.Common.{◌+◌, ◌*◌, ◌≤◌, take}
 use Rattle.live_index.specs.Table.{pairs_of}
 use Rattle.touched_blocks.specs.Marks.{marked_in}
-use Rattle.shared_trees.specs.Listed.{AreListedBy}
+use Rattle.tree_laws.specs.Listed.{AreListedBy}
 use Rattle.shared_trees.specs.Under.{under_of}
 use Rattle.shared_trees.proofs.starts.Starts.listed.Given as goal
 

@@ -2,7 +2,7 @@ use Rattle.std.proofs.Common.{◌≡◌, ◌∙◌, ap, sym}
 use Rattle.std.specs.BTreeMap as map
 use Rattle.touched_blocks.specs.Marks.{by_pair, pair_place}
 use Rattle.shared_trees.specs.declared.starts.Listed.{Listed}
-use Rattle.shared_trees.specs.Listing.{with_start}
+use Rattle.tree_laws.specs.Listing.{with_start}
 use Rattle.shared_trees.specs.Under.{starts_or, under_of}
 use Rattle.shared_trees.proofs.Listed.{put_child}
 use Rattle.shared_trees.proofs.starts.Starts.put.Goals as goal

@@ -1,5 +1,5 @@
 use Rattle.std.proofs.Common.{◌∙◌}
-use Rattle.shared_trees.proofs.Stopping.{stop_at}
+use Rattle.tree_laws.proofs.Stopping.{stop_at}
 use Rattle.shared_trees.proofs.stops.Stops.at.Goals as goal
 
 pub returns-then-number-self-clause-stop : goal.returns-then-number-self-clause-stop

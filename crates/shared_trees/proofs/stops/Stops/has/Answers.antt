@@ -1,7 +1,7 @@
 use Rattle.std.proofs.Common.{◌∙◌, subst}
 use Rattle.std.specs.Ordering.{nat_cmp}
 use Rattle.std.specs.List.Sorted.{IsBinarySearchResult}
-use Rattle.shared_trees.proofs.Stopping.{search_has}
+use Rattle.tree_laws.proofs.Stopping.{search_has}
 use Rattle.shared_trees.proofs.stops.Stops.has.Goals as goal
 
 pub returns : goal.returns

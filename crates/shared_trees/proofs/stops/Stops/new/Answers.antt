@@ -1,7 +1,7 @@
 use Rattle.std.proofs.Common.{subst}
 use Rattle.std.proofs.lemmas.List.Sorted.{IsNonDecreasingBy-from_sort}
 use Rattle.std.specs.List.Sorted.{IsPermutation}
-use Rattle.shared_trees.proofs.Stopping.{same_in_order}
+use Rattle.tree_laws.proofs.Stopping.{same_in_order}
 use Rattle.shared_trees.proofs.stops.Stops.new.Goals as goal
 
 pub invariant_of-result : goal.invariant_of-result

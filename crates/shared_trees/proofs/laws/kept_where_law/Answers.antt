@@ -1,5 +1,0 @@
-use Rattle.shared_trees.proofs.Merged.{kept_where_just}
-use Rattle.shared_trees.proofs.laws.kept_where_law.Goals as goal
-
-pub returns : goal.returns
-returns c = kept_where_just
