@@ -233,7 +233,8 @@ left_event first bytes rs new t t' checker checker' disk disk' left left' before
 pub adds_taken : {L : Type 0} (first : MachineState) (bytes : List ℕ) (rs : ReaderState) (t : Counts) (checker : Checker L) (disk left : Option (List ℕ)) (before now : Option (List Moment))
     → IfSome before (λ moments. IsFlushedAs first.image moments → LeftSoFar first bytes rs t checker disk left moments now)
     → IsBytes bytes → StopsInEvents first bytes before now
-adds_taken first bytes rs t checker disk left before now so whole events ending spelled = each_moments before (λ moments left_by flushed.
+unfolding StopsInEvents
+adds_taken first bytes rs t checker disk left before now so whole = λ events ending spelled. each_moments before (λ moments left_by flushed.
     let so = left_by flushed in
     let more = took_events first bytes rs t checker disk left so.took whole events ending spelled in
     record {
@@ -249,7 +250,8 @@ pub adds_next : {L : Type 0} (first : MachineState) (bytes : List ℕ) (rs new :
     → IfSome left (λ b. Tells rs b (Ok (an_event e)) new left')
     → ((s : MachineState) → StandsFor checker s → disk ≡ Some s.image → TurnStopsIn s e now now')
     → IsBytes bytes → StopsInEvents first bytes before now'
-adds_next first bytes rs new t checker disk left left' before now now' e so told turn whole events ending spelled = each_moments before (λ moments left_by flushed.
+unfolding StopsInEvents
+adds_next first bytes rs new t checker disk left left' before now now' e so told turn whole = λ events ending spelled. each_moments before (λ moments left_by flushed.
     let so = left_by flushed in
     let done : List Event = so.took.done in
     let s : MachineState = state_after first done in
@@ -266,5 +268,6 @@ adds_next first bytes rs new t checker disk left left' before now now' e so told
 
 -- nothing came
 pub adds_none : (first : MachineState) (bytes : List ℕ) (before now : Option (List Moment)) → now ≡ before → StopsInEvents first bytes before now
-adds_none first bytes None now same events ending spelled = tt
-adds_none first bytes (Some moments) now same events ending spelled = λ flushed. record { added = []; moments = same; each = All-nil (LeavesOfOne first events) }
+unfolding StopsInEvents
+adds_none first bytes None now same = λ events ending spelled. tt
+adds_none first bytes (Some moments) now same = λ events ending spelled flushed. record { added = []; moments = same; each = All-nil (LeavesOfOne first events) }

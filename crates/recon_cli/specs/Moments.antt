@@ -31,7 +31,7 @@ pub record AddsMoments (first : MachineState) (events : List Event) (before : Li
 
 -- The moments before and after a replay of these bytes over the state, of a disk that tells them and is settled before: those that it adds
 -- come in the events that the bytes spell.
-abbrev pub StopsInEvents : MachineState → List ℕ → Option (List Moment) → Option (List Moment) → Type 0
+unfoldable pub StopsInEvents : MachineState → List ℕ → Option (List Moment) → Option (List Moment) → Type 0
 StopsInEvents first bytes before now =
     (events : List Event) (ending : Ending) → IsTrace record_limit bytes events ending
     → IfSome before (λ moments. IsFlushedAs first.image moments → AddsMoments first events moments now)
