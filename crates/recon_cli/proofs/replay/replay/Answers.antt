@@ -42,3 +42,11 @@ returns-in-Ok-Ok-clause-moments g c image bytes told lawful left =
 pub returns-in-Ok-Err-clause-moments : goal.returns-in-Ok-Err-clause-moments
 returns-in-Ok-Err-clause-moments g c image bytes told lawful left =
     adds_none (first_state image) bytes (g.D.Disk.moments c.args.lent.now.disk.now) (g.D.Disk.moments c.begin.new.disk) c.in-Ok-Err.ensures.kept.moments
+
+pub returns-in-Err-DiskFault-clause-moments : goal.returns-in-Err-DiskFault-clause-moments
+returns-in-Err-DiskFault-clause-moments g c image bytes told lawful left =
+    adds_none (first_state image) bytes (g.D.Disk.moments c.args.lent.now.disk.now) (g.D.Disk.moments c.begin.new.disk) c.in-Err-DiskFault.ensures.kept.moments
+
+pub returns-in-Err-NoMemory-clause-moments : goal.returns-in-Err-NoMemory-clause-moments
+returns-in-Err-NoMemory-clause-moments g c image bytes told lawful left =
+    adds_none (first_state image) bytes (g.D.Disk.moments c.args.lent.now.disk.now) (g.D.Disk.moments c.begin.new.disk) c.in-Err-NoMemory.ensures.kept.moments

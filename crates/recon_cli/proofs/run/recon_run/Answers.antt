@@ -1,5 +1,5 @@
 use Rattle.std.proofs.Common.{map, string_bytes, sym, subst, arith, rules}
-use Rattle.recon_cli.specs.declared.words.Form.TheVariants.{Check, Make}
+use Rattle.recon_cli.specs.declared.words.Form.TheVariants.{Check, Make, Replay}
 use Rattle.recon_cli.specs.Run.{HasStatusCause, faults_of}
 use Rattle.recon_cli.proofs.Made.{stops_with_cause}
 use Rattle.recon_cli.proofs.OneForm.{one_style}
@@ -53,3 +53,6 @@ returns-in-Err-replay-clause-stops g c style form image bytes told left lawful =
     let run = c.in-Err-replay.ensures.moments image bytes told lawful left in
     let same = c.in-Err-replay.ensures.same in
     search rules
+
+pub returns-in-None-clause-stops : goal.returns-in-None-clause-stops
+returns-in-None-clause-stops g c style form = absurd (c.in-None.ensures (Replay style) form)
