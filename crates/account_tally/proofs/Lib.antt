@@ -4,7 +4,6 @@ pub mod Joined
 pub mod Inodes
 pub mod ShownSums
 pub mod Decided
-pub mod Straight
 pub mod Parts
 pub mod KindsApart
 pub mod Led

@@ -11,7 +11,8 @@ use Rattle.accounts.specs.Tally.{Sums, kept, no_sums, sums_in, with_postings}
 use Rattle.accounts.proofs.Apart.{adds_beside, adds_listed, adds_the_same, adds_then, more_alike}
 use Rattle.accounts.proofs.First.{broken_kept}
 use Rattle.accounts.proofs.Kept.{kept_more, kept_nothing, total_joined}
-use Rattle.account_tally.specs.Kept.{held_sums, three}
+use Rattle.account_tally.specs.Apart.{three}
+use Rattle.account_tally.specs.Kept.{held_sums}
 
 -- nothing is held yet
 pub none_held : (rest apart : Sums) (waiting : List Posting) → rest ≡ no_sums → ((a : Account) (n : ℕ) → apart a n ≡ 0) → waiting ≡ []
@@ -60,10 +61,10 @@ held_added rest next apart waiting left is none = fun_ext (λ a.
 -- ---- one record
 
 -- what one of the three adds, the others beside it
-adds_extents : (e f n i : Sums) (before after given : List Posting) → AddsUp e f before after given → AddsUp (three e n i) (three f n i) before after given
+pub adds_extents : (e f n i : Sums) (before after given : List Posting) → AddsUp e f before after given → AddsUp (three e n i) (three f n i) before after given
 adds_extents e f n i before after given adds = adds_beside e f (λ a k. n a k + i a k) before after given adds
 
-adds_both : (e n m i j : Sums) (before after given : List Posting) → AddsUp (λ a k. n a k + i a k) (λ a k. m a k + j a k) before after given
+pub adds_both : (e n m i j : Sums) (before after given : List Posting) → AddsUp (λ a k. n a k + i a k) (λ a k. m a k + j a k) before after given
     → AddsUp (three e n i) (three e m j) before after given
 adds_both e n m i j before after given adds =
     let turned : (s t : Sums) → ◌≡◌ {A = Sums} (λ a k. (s a k + t a k) + e a k) (three e s t) =
@@ -72,7 +73,7 @@ adds_both e n m i j before after given adds =
     (subst (λ (x : Sums). AddsUp (λ a k. (n a k + i a k) + e a k) x before after given) (turned m j)
     (adds_beside (λ a k. n a k + i a k) (λ a k. m a k + j a k) e before after given adds))
 
-adds_inodes : (e n i j : Sums) (before after given : List Posting) → AddsUp i j before after given → AddsUp (three e n i) (three e n j) before after given
+pub adds_inodes : (e n i j : Sums) (before after given : List Posting) → AddsUp i j before after given → AddsUp (three e n i) (three e n j) before after given
 adds_inodes e n i j before after given adds =
     let turned : (s : Sums) → ◌≡◌ {A = Sums} (λ a k. s a k + (e a k + n a k)) (three e n s) =
     (λ s. fun_ext (λ a. fun_ext (λ k. (let w : s a k + (e a k + n a k) ≡ e a k + (n a k + s a k) = omega arith in w)))) in
@@ -80,18 +81,17 @@ adds_inodes e n i j before after given adds =
     (subst (λ (x : Sums). AddsUp (λ a k. i a k + (e a k + n a k)) x before after given) (turned j) (adds_beside i j (λ a k. e a k + n a k) before after given adds))
 
 -- four families, one after the other; what entries say of inodes comes with the names
-pub adds_record : (e f n m i j l : Sums) (w0 w1 w2 w3 w4 extents names led space own inodes : List Posting)
-    → AddsUp e f w0 w1 extents → AddsUp (λ a k. n a k + i a k) (λ a k. m a k + j a k) w1 w2 (names ++ led) → w3 ≡ w2 ++ space → AddsUp j l w3 w4 own
+pub adds_record : (s0 s1 s2 s3 s4 : Sums) (w0 w1 w2 w3 w4 extents names led space own inodes : List Posting)
+    → AddsUp s0 s1 w0 w1 extents → AddsUp s1 s2 w1 w2 (names ++ led) → AddsUp s2 s3 w2 w3 space → AddsUp s3 s4 w3 w4 own
     → ((a : Account) (k : ℕ) → total_of own a k + total_of led a k ≡ total_of inodes a k)
-    → AddsUp (three e n i) (three f m l) w0 w4 (extents ++ (inodes ++ (names ++ space)))
-adds_record e f n m i j l w0 w1 w2 w3 w4 extents names led space own inodes first second third last whole =
-    adds_the_same (three e n i) (three f m l) w0 w4 (((extents ++ (names ++ led)) ++ space) ++ own) (extents ++ (inodes ++ (names ++ space)))
-    (adds_then (three e n i) (three f m j) (three f m l) w0 w3 w4 ((extents ++ (names ++ led)) ++ space) own
-    (adds_then (three e n i) (three f m j) (three f m j) w0 w2 w3 (extents ++ (names ++ led)) space
-    (adds_then (three e n i) (three f n i) (three f m j) w0 w1 w2 extents (names ++ led)
-    (adds_extents e f n i w0 w1 extents first) (adds_both f n m i j w1 w2 (names ++ led) second))
-    (adds_listed (three f m j) w2 w3 space third))
-    (adds_inodes f m j l w3 w4 own last))
+    → AddsUp s0 s4 w0 w4 (extents ++ (inodes ++ (names ++ space)))
+adds_record s0 s1 s2 s3 s4 w0 w1 w2 w3 w4 extents names led space own inodes first second third last whole =
+    adds_the_same s0 s4 w0 w4 (((extents ++ (names ++ led)) ++ space) ++ own) (extents ++ (inodes ++ (names ++ space)))
+    (adds_then s0 s3 s4 w0 w3 w4 ((extents ++ (names ++ led)) ++ space) own
+    (adds_then s0 s2 s3 w0 w2 w3 (extents ++ (names ++ led)) space
+    (adds_then s0 s1 s2 w0 w1 w2 extents (names ++ led) first second)
+    third)
+    last)
     (λ a k. (let
     x = total_joined ((extents ++ (names ++ led)) ++ space) own a k in let
     y = total_joined (extents ++ (names ++ led)) space a k in let

@@ -4,14 +4,13 @@ use Rattle.std.specs.List.{list_any}
 use Rattle.accounts.specs.declared.account.Account.{Account}
 use Rattle.accounts.specs.declared.postings.Posting.{Posting}
 use Rattle.accounts.specs.Kinds.{sector}
+use Rattle.accounts.specs.declared.kind.TheConstants.{SECTOR}
 use Rattle.accounts.specs.Sums.{is_same, total_of}
 use Rattle.accounts.specs.Tally.{Sums, kept, sums_in}
-use Rattle.extent_tally.specs.Held.{extents_apart}
-use Rattle.name_tally.specs.Names.{names_apart}
-use Rattle.inode_tally.specs.Held.{inodes_apart}
 use Rattle.sector_runs.specs.Runs.{SectorSums, amount_of}
 use Rattle.sector_runs.specs.Edges.{sums_of}
 use Rattle.records.specs.Context.{is_inode}
+use Rattle.account_tally.specs.Apart.{sums_apart}
 use Rattle.account_tally.specs.Sums.{Frees, Summed, SumsByFree}
 use Rattle.account_tally.specs.Ranges.{range_run}
 use Rattle.account_tally.specs.declared.summing.Accounts.{Accounts}
@@ -36,18 +35,10 @@ sectors_in tally free address field = sums_of tally.sectors address field + show
 -- Some postings' sums are those of others, which go to no sector, and of sectors: an account of another kind has the sums of the others,
 -- a sector has its own, and no other account of its kind has any.
 pub record AreSumsOf (all rest : List Posting) (sectors : SectorSums) : Type 0 where
-  pub others : (account : Account) → (account.kind == 5) ≡ false → (field : ℕ) → total_of all account field ≡ total_of rest account field
-  pub none : (account : Account) → (account.kind == 5) ≡ true → (field : ℕ) → total_of rest account field ≡ 0
+  pub others : (account : Account) → (account.kind == SECTOR) ≡ false → (field : ℕ) → total_of all account field ≡ total_of rest account field
+  pub none : (account : Account) → (account.kind == SECTOR) ≡ true → (field : ℕ) → total_of rest account field ≡ 0
   pub of_sectors : (address field : ℕ) → total_of all (sector address) field ≡ sectors address field
-  pub no_more : (account : Account) → (account.kind == 5) ≡ true → is_same account (sector account.block) ≡ false → (field : ℕ) → total_of all account field ≡ 0
-
--- the sums of three parts, each kept apart
-abbrev pub three : Sums → Sums → Sums → Sums
-three extents names inodes account field = extents account field + (names account field + inodes account field)
-
--- what is kept apart
-abbrev pub apart_in : Accounts → Sums
-apart_in accounts = three (extents_apart accounts.extents) (names_apart accounts.names) (inodes_apart accounts.inodes)
+  pub no_more : (account : Account) → (account.kind == SECTOR) ≡ true → is_same account (sector account.block) ≡ false → (field : ℕ) → total_of all account field ≡ 0
 
 -- what is kept in a tally, apart from it, and as a list of postings
 unfoldable pub held_sums : Sums → Sums → List Posting → Sums
@@ -58,7 +49,7 @@ abbrev pub summed_in : Accounts → Summed
 summed_in accounts = record {
   chunks = accounts.context.map.now;
   nodesize = accounts.context.nodesize;
-  sums = held_sums (sums_in accounts.rest) (apart_in accounts) accounts.waiting;
+  sums = held_sums (sums_in accounts.rest) (sums_apart accounts.apart) accounts.apart.waiting;
   sectors = sectors_in accounts.sectors;
   free = free_in accounts.sectors.free;
 }
@@ -67,4 +58,4 @@ summed_in accounts = record {
 abbrev pub chosen : Option ℕ → Option Account → Option Account
 chosen None least = least
 chosen (Some address) None = Some (sector address)
-chosen (Some address) (Some account) = if nat_lt account.kind 5 then Some account else Some (sector address)
+chosen (Some address) (Some account) = if nat_lt account.kind SECTOR then Some account else Some (sector address)

@@ -1,4 +1,5 @@
 pub mod Sums
 pub mod Ranges
+pub mod Apart
+pub mod ApartLaws
 pub mod Kept
-pub mod Own

@@ -1,8 +1,8 @@
 //! The sums of all accounts of an image: what its records say, and whether others say it too.
 #![tactic(auto)]
 
+mod apart;
 mod context;
-mod inode_posts;
 mod shown;
 mod summing;
 

@@ -102,7 +102,7 @@ impl SectorTally {
     ghost use Rattle.records.specs.Context.{sum_free_inode};
     ghost use Rattle.records.specs.Part.{IsLawful, located};
     ghost use Rattle.account_tally.specs.Kept.{free_in, sectors_in};
-    ghost use Rattle.account_tally.specs.Sums.{Frees, none_free, or_free, with_sectors};
+    ghost use Rattle.account_tally.specs.Sums.{Frees, context_with, none_free, or_free, with_sectors};
 
     // The sums of no records. They take their memory from this allocator.
     pub fn new(alloc: Global) -> SectorTally
@@ -120,7 +120,8 @@ impl SectorTally {
     // checksums.
     pub fn take<C: Ctx>(&mut self, context: &C, one: &RecAt<'_>) -> Result<(), NoMemory>
         requires lawful { IsLawful (part_of one.now.part) }
-        requires all { (C.context context.now).sum_free ≡ none_free }
+        requires all { let context = C.context context.now in
+            context ≡ context_with context.chunks context.nodesize none_free }
         ensures sums { let context = C.context context.now in OnOk result
             (sectors_in self.new ≡ with_sectors context.chunks context.nodesize
             (sectors_in self.old) (located one.now)) }

@@ -1,6 +1,6 @@
 //! The accounts of an image: what its records say and others must say too.
 
-ghost use Rattle.std.specs.Prelude.{ℕ, ◌≡◌, ◌+◌, List, IfOk, OnOk, option_map};
+ghost use Rattle.std.specs.Prelude.{ℕ, ◌≡◌, List, IfOk, OnOk, option_map};
 ghost use Rattle.std.specs.Option.{option_copied};
 ghost use Rattle.verdict.specs.declared.place.Chunk.{Chunk as AChunk};
 ghost use Rattle.accounts.specs.Broken.{broken_finding};
@@ -12,20 +12,14 @@ ghost use Rattle.records.specs.Takes.{with_accounted};
 ghost use Rattle.account_tally.specs.Kept.{chosen, summed_in};
 ghost use Rattle.account_tally.specs.Sums.{Summed, context_with, of_none, with_record};
 
+use crate::apart::{Apart, WithTargets};
 use crate::context::ImageContext;
-use crate::inode_posts::post_inodes;
 use crate::shown::SectorTally;
-use accounts::{Account, Postings, Tally, finding_of};
+use accounts::{Account, Tally, finding_of, kind};
 use chunk_map::ChunkMap;
-use extent_tally::ExtentTally;
-use inode_tally::InodeTally;
-use name_tally::NameTally;
 use records::{RecAt, Record, Taker};
 use std::alloc::Global;
 use verdict::{Finding, NoMemory};
-
-/// The kind of the account of a sector.
-const SECTOR_KIND: u8 = 5;
 
 /// What the records say that were taken, as sums of accounts, in the context of an image.
 #[derive(Debug, Drop)]
@@ -33,24 +27,15 @@ pub struct Accounts<'a> {
     alloc: Global,
     // The context.
     context: ImageContext<'a>,
-    // The sums of extents, of names and of inodes, each in a form of its own.
-    extents: ExtentTally,
-    names: NameTally,
-    inodes: InodeTally,
+    // The sums of extents, of names and of inodes, each in a form of its own, and what is not yet added to the rest.
+    apart: Apart,
     // All others, but for those of sectors.
     rest: Tally,
-    // What is not yet added to the rest.
-    waiting: Postings,
     // The sums of sectors.
     sectors: SectorTally,
 }
 
 impl<'a> Accounts<'a> {
-    ghost use Rattle.accounts.specs.Broken.{is_broken};
-    ghost use Rattle.accounts.specs.Tally.{sums_in};
-    ghost use Rattle.accounts.specs.declared.account.Account.{Account as AnAccount};
-    ghost use Rattle.account_tally.specs.Kept.{apart_in};
-
     /// Those of no records, of an image with these chunks and this size of a tree block in bytes. They take their
     /// memory from this allocator.
     pub fn new(alloc: Global, map: &'a ChunkMap, nodesize: u32) -> Accounts<'a>
@@ -59,11 +44,8 @@ impl<'a> Accounts<'a> {
         Accounts {
             alloc,
             context: ImageContext { map, nodesize },
-            extents: ExtentTally::new(alloc),
-            names: NameTally::new(alloc),
-            inodes: InodeTally::new(alloc),
+            apart: Apart::new(alloc),
             rest: Tally::new(alloc),
-            waiting: Postings::new(alloc),
             sectors: SectorTally::new(alloc),
         }
     }
@@ -75,21 +57,10 @@ impl<'a> Accounts<'a> {
             fold with_record (of_none chunks nodesize) records ≡ summed_in self.old →
             found ≡ account_fault (context_with chunks nodesize (has_sum_free records)) records) }
     {
-        self.rest.add_all(&mut self.waiting)?;
+        self.rest.add_all(&mut self.apart.waiting)?;
         let sector = self.sectors.least_broken()?;
-        self.settle()?;
+        self.apart.settle(&mut self.rest)?;
         Ok(least_finding(self.alloc, sector, self.rest.least_broken()))
-    }
-
-    // Brings the sums of the accounts together that may be broken.
-    fn settle(&mut self) -> Result<(), NoMemory>
-        ensures { OnOk result ((account : AnAccount) →
-            is_broken account (sums_in self.new.rest account) ≡ is_broken account
-            (λ n. sums_in self.old.rest account n + apart_in self.old account n)) }
-    {
-        self.names.settle(&mut self.rest)?;
-        self.extents.settle(&mut self.rest)?;
-        self.inodes.settle(&mut self.rest)
     }
 
     // Adds what a record posts.
@@ -98,13 +69,13 @@ impl<'a> Accounts<'a> {
         ensures { OnOk result (summed_in self.new ≡
             with_record (summed_in self.old) (located one.now)) }
     {
-        let into = &mut self.waiting;
-        self.extents.take(one.tree, &one.part, into)?;
-        self.names
-            .take(one.tree, &one.part, &mut self.inodes, into)?;
-        space_rules::post_rest(self.alloc, &self.context, one.tree, &one.part, into)?;
-        post_inodes(&mut self.inodes, one.tree, &one.part, into)?;
-        self.rest.add_all(into)?;
+        let (alloc, tree, part) = (self.alloc, one.tree, &one.part);
+        let into = &mut self.apart;
+        extent_rules::post(alloc, &self.context, tree, part, into)?;
+        dir_rules::post_by(alloc, &WithTargets, tree, part, into)?;
+        space_rules::post_rest(alloc, &self.context, tree, part, into)?;
+        inode_rules::post_own(alloc, tree, part, into)?;
+        self.rest.add_all(&mut into.waiting)?;
         self.sectors.take(&self.context, one)
     }
 }
@@ -125,7 +96,7 @@ pub fn least_finding(
         };
     };
     match account {
-        Some(account) if account.kind < SECTOR_KIND => Some(finding_of(account)),
+        Some(account) if account.kind < kind::SECTOR => Some(finding_of(account)),
         _ => Some(finding_of(&Account::sector(alloc, address))),
     }
 }

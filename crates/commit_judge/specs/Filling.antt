@@ -30,7 +30,8 @@ use Rattle.span_index.specs.Spans.{Table, no_spans, with_span}
 use Rattle.span_index.specs.Table.{times_of}
 use Rattle.span_index.specs.declared.span.Run.{Run}
 use Rattle.span_index.specs.declared.span.Span.{Span}
-use Rattle.touched_accounts.specs.Looks.{HaveLooks, counted_times}
+use Rattle.ledger_index.specs.Looks.{counted_times}
+use Rattle.touched_accounts.specs.Looks.{HaveLooks}
 use Rattle.touched_accounts.specs.Sums.{with_all}
 use Rattle.lookup_bounds.specs.Work.{starting_work}
 use Rattle.commit_judge.specs.Flags.{free_in}

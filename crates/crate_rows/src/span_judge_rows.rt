@@ -14,7 +14,7 @@ const EDGE: u64 = 0x150_0000;
 struct TwoChunks;
 
 impl Ctx for TwoChunks {
-    ghost use Rattle.std.specs.Prelude.{[], ◌∷◌, None, ◌==◌};
+    ghost use Rattle.std.specs.Prelude.{[], ◌∷◌, None, ◌==◌, false};
 
     ghost context = { λ _. record {
       chunks = record { start = 13631488; length = 8388608; class = 1; first = 0; second = None }
@@ -22,6 +22,7 @@ impl Ctx for TwoChunks {
           ∷ [];
       nodesize = 16384;
       sum_free = λ _ ino. ino == 258;
+      full = λ _. false;
     } };
 
     fn home(&self, addr: u64, len: u64) -> Option<Home> {

@@ -7,6 +7,7 @@ ghost use Rattle.fs_items.specs.Lent.{dir_in, entry_fields, inode_ref_in, name_f
 ghost use Rattle.records.specs.DirPostings.{dir_entry_postings, entry_posting, indexed_postings, is_root_name, link_postings, names_postings};
 ghost use Rattle.records.specs.Post.{to};
 
+use crate::way::NameWay;
 use accounts::sum::{
     ENTRIES_BY_HASH, ENTRIES_BY_INDEX, LINK_ENTRIES, LINK_NAMES, SUBVOLUME_ENTRIES,
 };
@@ -34,8 +35,9 @@ pub fn add<P: Poster>(
 }
 
 // The names of an inode, but for those of a tree's root directory, which no directory of the tree has.
-pub fn post_names<P: Poster>(
+pub fn post_names<P: Poster, W: NameWay<P>>(
     alloc: Global,
+    way: &W,
     tree: u64,
     item: &InodeRef<'_>,
     into: &mut P,
@@ -45,19 +47,20 @@ pub fn post_names<P: Poster>(
     if is_root_name(item.key) {
         return Ok(());
     }
-    post_links(alloc, tree, item, into)
+    post_links(alloc, way, tree, item, into)
 }
 
-/// Whether this is the key of the names of a tree's root directory, which no directory of the tree has.
-pub fn is_root_name(key: Key) -> bool
+// Whether this is the key of the names of a tree's root directory, which no directory of the tree has.
+fn is_root_name(key: Key) -> bool
     ensures { result ≡ is_root_name key }
 {
     key.objectid == 256 && key.kind == INODE_REF && key.offset == 256
 }
 
 // The names of an inode.
-fn post_links<P: Poster>(
+fn post_links<P: Poster, W: NameWay<P>>(
     alloc: Global,
+    way: &W,
     tree: u64,
     item: &InodeRef<'_>,
     into: &mut P,
@@ -66,7 +69,7 @@ fn post_links<P: Poster>(
         (flat_map (link_postings tree item.now.key.objectid) (inode_ref_in item.now).names) }
 {
     for name in item.names() {
-        post_link(alloc, tree, item.key.objectid, &name, into)?;
+        way.put_link(alloc, tree, item.key.objectid, &name, into)?;
     }
     Ok(())
 }
@@ -92,17 +95,18 @@ pub fn post_link<P: Poster>(
 }
 
 // The entries of a directory.
-pub fn post_entries<P: Poster>(
+pub fn post_entries<P: Poster, W: NameWay<P>>(
     alloc: Global,
+    way: &W,
     tree: u64,
     item: &DirItem<'_>,
     into: &mut P,
 ) -> Result<(), NoMemory>
     ensures { P.Leaves into.old into.new result
-        (flat_map (dir_entry_postings tree item.now.key) (dir_in item.now).entries) }
+        (flat_map (W.of_entry tree item.now.key) (dir_in item.now).entries) }
 {
     for entry in item.entries() {
-        post_entry(alloc, tree, item.key, &entry, into)?;
+        way.put_entry(alloc, tree, item.key, &entry, into)?;
     }
     Ok(())
 }

@@ -4,7 +4,8 @@
 mod entries;
 mod subvolumes;
 mod table;
+mod way;
 
-pub use entries::{is_root_name, post_entry, post_link};
-pub use subvolumes::{post_root, post_root_link};
-pub use table::post;
+pub use entries::{post_entry, post_link};
+pub use table::{post, post_by};
+pub use way::{NameWay, OneByOne};

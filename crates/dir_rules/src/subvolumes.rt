@@ -8,16 +8,14 @@ ghost use Rattle.records.specs.Post.{to};
 ghost use Rattle.volume_items.specs.RootLinkItems.{link_fields_in};
 
 use crate::entries::add;
-use accounts::sum::{
-    FROM_CHILD, FROM_PARENT, ROOT_REFS_FOUND, ROOT_REFS_SAID, SUBVOLUME_REFS,
-};
+use accounts::sum::{FROM_CHILD, FROM_PARENT, ROOT_REFS_FOUND, ROOT_REFS_SAID, SUBVOLUME_REFS};
 use accounts::{Account, Poster};
 use std::alloc::Global;
 use verdict::kinds::ROOT_REF;
 use verdict::{NoMemory, is_free_id};
 use volume_items::{RootItem, RootLink};
 
-/// Posts what a root item says: how often its tree is named, where that is a subvolume.
+// Posts what a root item says: how often its tree is named, where that is a subvolume.
 pub fn post_root<P: Poster>(alloc: Global, item: &RootItem, into: &mut P) -> Result<(), NoMemory>
     ensures { P.Leaves into.old into.new result (root_postings item.now) }
 {
@@ -25,11 +23,16 @@ pub fn post_root<P: Poster>(alloc: Global, item: &RootItem, into: &mut P) -> Res
     if !is_free_id(id) {
         return Ok(());
     }
-    add(Account::subvolume(alloc, id), ROOT_REFS_SAID, u64::from(item.refs), into)
+    add(
+        Account::subvolume(alloc, id),
+        ROOT_REFS_SAID,
+        u64::from(item.refs),
+        into,
+    )
 }
 
-/// Posts the name of a subvolume, from one of its two sides: the key has the parent and then the child, or the
-/// reverse. Out of memory, a first part of the postings may be handed on.
+// Posts the name of a subvolume, from one of its two sides: the key has the parent and then the child, or the
+// reverse. Out of memory, a first part of the postings may be handed on.
 pub fn post_root_link<P: Poster>(
     alloc: Global,
     item: &RootLink<'_>,

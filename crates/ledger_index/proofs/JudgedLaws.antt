@@ -21,20 +21,20 @@ use Rattle.accounts.specs.Sums.{is_same}
 use Rattle.accounts.specs.Tally.{Sums}
 use Rattle.accounts.proofs.First.{unposted}
 use Rattle.accounts.proofs.Same.{is_Equal, same_account}
-use Rattle.ledger_index.specs.declared.kept.Kept.{Kept}
+use Rattle.ledger_keys.specs.declared.kept.Kept.{Kept}
 use Rattle.ledger_index.specs.declared.singles.Singles.{Singles}
-use Rattle.ledger_index.specs.declared.place.Place.{Place}
-use Rattle.ledger_index.specs.declared.long_place.LongPlace.{LongPlace}
-use Rattle.ledger_index.specs.Entries.{Within, by_account, entries_in, in_part}
+use Rattle.ledger_keys.specs.declared.place.Place.{Place}
+use Rattle.ledger_keys.specs.declared.long_place.LongPlace.{LongPlace}
+use Rattle.ledger_maps.specs.Entries.{Within, by_account, entries_in, in_part}
 use Rattle.ledger_index.specs.Judged.{IsLeastBut, breaks, is_later, lesser_of, stands_before}
-use Rattle.ledger_index.specs.Kept.{kept_sum, sums_at}
+use Rattle.ledger_keys.specs.Kept.{kept_sum, sums_at}
 use Rattle.ledger_index.specs.Singles.{entry_at, entry_of, long_in, short_in, sums_of}
-use Rattle.ledger_index.specs.LongPlace as longer
-use Rattle.ledger_index.specs.LongPlaceLaws.{same_long}
-use Rattle.ledger_index.specs.Place.{account_of, is_same_place, part_of, place_of}
-use Rattle.ledger_index.specs.PlaceLaws.{same_place}
+use Rattle.ledger_keys.specs.LongPlace as longer
+use Rattle.ledger_keys.specs.LongPlaceLaws.{same_long}
+use Rattle.ledger_keys.specs.Place.{account_of, is_same_place, part_of, place_of}
+use Rattle.ledger_keys.specs.PlaceLaws.{same_place}
 use Rattle.ledger_index.proofs.SinglesLaws.{at_long, at_place, at_whole}
-use Rattle.ledger_index.proofs.PlaceLaws.{of_long_place, of_place}
+use Rattle.ledger_keys.proofs.PlaceLaws.{of_long_place, of_place}
 
 -- ---- an account is judged
 

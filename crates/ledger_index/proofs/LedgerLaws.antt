@@ -6,20 +6,20 @@ use Rattle.accounts.specs.declared.account.Account.{Account}
 use Rattle.accounts.specs.Sums.{is_same}
 use Rattle.accounts.specs.Tally.{Sums, no_sums}
 use Rattle.ledger_index.specs.declared.ledger.LedgerIndex.{LedgerIndex}
-use Rattle.ledger_index.specs.declared.seat.Seat.{Seat}
+use Rattle.ledger_keys.specs.declared.seat.Seat.{Seat}
 use Rattle.ledger_index.specs.declared.unpaged.Unpaged.{Unpaged}
 use Rattle.ledger_index.specs.Apart.{AreApart}
-use Rattle.ledger_index.specs.Entries.{Changes, Entries, Stays}
-use Rattle.ledger_index.specs.Kept.{sums_at}
+use Rattle.ledger_maps.specs.Entries.{Changes, Entries, Stays}
+use Rattle.ledger_keys.specs.Kept.{sums_at}
 use Rattle.ledger_index.specs.Ledger.{IsTidy, entry_from, has_entry, sums_from, sums_of}
-use Rattle.ledger_index.specs.Pages.{seats_in}
-use Rattle.ledger_index.specs.Seat.{is_same_seat, seat_of}
+use Rattle.ledger_maps.specs.Pages.{seats_in}
+use Rattle.ledger_keys.specs.Seat.{is_same_seat, seat_of}
 use Rattle.ledger_index.specs.Unpaged as unpaged
-use Rattle.ledger_index.specs.Sums.{changed}
-use Rattle.ledger_index.proofs.EntryLaws.{other_amount}
-use Rattle.ledger_index.proofs.KeptLaws.{stands_law}
-use Rattle.ledger_index.proofs.PlaceLaws.{apart, apart'}
-use Rattle.ledger_index.proofs.SeatLaws.{seats_alike}
+use Rattle.ledger_keys.specs.Sums.{changed}
+use Rattle.ledger_keys.proofs.SumLaws.{other_amount}
+use Rattle.ledger_keys.proofs.KeptLaws.{stands_law}
+use Rattle.ledger_keys.proofs.PlaceLaws.{apart, apart'}
+use Rattle.ledger_keys.proofs.SeatLaws.{seats_alike}
 use Rattle.ledger_index.proofs.UnpagedLaws.{is_tidy as unpaged_tidy}
 
 module _ (how : ℕ → ℕ → ℕ) (none : (sum : ℕ) → how 0 sum ≡ sum) (account : Account) (field amount : ℕ) where

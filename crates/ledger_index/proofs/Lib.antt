@@ -1,16 +1,6 @@
-pub mod KeptLaws
-pub mod SideLaws
-pub mod EntryLaws
-pub mod PartLaws
-pub mod PlaceLaws
-pub mod PagesLaws
+pub mod LooksLaws
 pub mod SinglesLaws
 pub mod JudgedLaws
-pub mod PlacedLaws
-pub mod NameLaws
-pub mod LentLaws
-pub mod NamesLaws
-pub mod SeatLaws
 pub mod UnpagedLaws
 pub mod NamedLaws
 pub mod LedgerLaws

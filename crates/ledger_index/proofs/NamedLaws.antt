@@ -4,34 +4,32 @@ use Rattle.std.specs.Prelude.{Option, Some, None, is_some}
 use Rattle.std.specs.Map.{lookup}
 use Rattle.std.proofs.Math.Path.{fun_ext}
 use Rattle.std.proofs.lemmas.Bool.{eq-eqb}
+use Rattle.verdict.proofs.Answers.{some_is}
 use Rattle.accounts.specs.declared.account.Account.{Account}
 use Rattle.accounts.specs.Broken.{is_broken}
 use Rattle.accounts.specs.Least.{IsLeastBroken}
-use Rattle.ledger_index.specs.declared.kept.Kept.{Kept}
-use Rattle.ledger_index.specs.declared.long_place.LongPlace.{LongPlace}
-use Rattle.ledger_index.specs.declared.name.Name.{Name}
-use Rattle.ledger_index.specs.declared.name.Side.{Side}
-use Rattle.ledger_index.specs.declared.name.Side.TheVariants.{Entry, Link}
+use Rattle.ledger_keys.specs.declared.kept.Kept.{Kept}
+use Rattle.ledger_keys.specs.declared.long_place.LongPlace.{LongPlace}
+use Rattle.ledger_keys.specs.declared.name.Name.{Name}
+use Rattle.ledger_keys.specs.declared.name.Side.{Side}
+use Rattle.ledger_keys.specs.declared.name.Side.TheVariants.{Entry, Link}
 use Rattle.ledger_index.specs.declared.unpaged.Unpaged.{Unpaged}
-use Rattle.ledger_index.specs.Entries.{by_parts, entries_in}
+use Rattle.ledger_maps.specs.Entries.{by_parts, entries_in}
 use Rattle.ledger_index.specs.Judged.{IsLeastBut, lesser_of}
-use Rattle.ledger_index.specs.Kept.{kept_sum, sums_at}
-use Rattle.ledger_index.specs.LongPlace.{is_same_long, part_of}
-use Rattle.ledger_index.specs.LongPlaceLaws.{same_long}
-use Rattle.ledger_index.specs.Name.{account_at, name_of}
+use Rattle.ledger_keys.specs.Kept.{kept_sum, sums_at}
+use Rattle.ledger_keys.specs.LongPlace.{is_same_long, part_of}
+use Rattle.ledger_keys.specs.LongPlaceLaws.{same_long}
+use Rattle.ledger_keys.specs.Name.{account_at, name_of}
 use Rattle.ledger_index.specs.Named.{IsHere, is_link, is_link_at, is_within, left_links, left_names}
-use Rattle.ledger_index.specs.Names.{names_in}
-use Rattle.ledger_index.specs.Side.{has_sums, side_of}
+use Rattle.ledger_maps.specs.Names.{names_in}
+use Rattle.ledger_keys.specs.Side.{has_sums, side_of}
 use Rattle.ledger_index.specs.Singles as single
 use Rattle.ledger_index.specs.Unpaged.{sums_of}
 use Rattle.ledger_index.proofs.JudgedLaws.{judged, none_in, unbroken}
-use Rattle.ledger_index.proofs.NameLaws.{of_name, small_number}
-use Rattle.ledger_index.proofs.NamesLaws.{nothing_had}
-use Rattle.ledger_index.proofs.SideLaws.{side_is, stands_number}
+use Rattle.ledger_keys.proofs.NameLaws.{of_name, small_number}
+use Rattle.ledger_maps.proofs.NamesLaws.{nothing_had}
+use Rattle.ledger_keys.proofs.SideLaws.{side_is, stands_number}
 use Rattle.ledger_index.proofs.UnpagedLaws.{at_free, at_has, at_none, rule_of}
-
-some_is : {A : Type 0} (a b : A) → Some a ≡ Some b → a ≡ b
-some_is a b is = cc is
 
 even_keeps : (x y : ℕ) → x ≡ y → not (x == y) ≡ false
 even_keeps x y is = ap not (eq-eqb x y is)

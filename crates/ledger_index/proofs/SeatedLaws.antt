@@ -9,21 +9,21 @@ use Rattle.accounts.specs.Broken.{is_broken}
 use Rattle.accounts.specs.Least.{IsLeastBroken}
 use Rattle.accounts.proofs.First.{unposted}
 use Rattle.ledger_index.specs.declared.ledger.LedgerIndex.{LedgerIndex}
-use Rattle.ledger_index.specs.declared.page.Page.{Page}
-use Rattle.ledger_index.specs.declared.seat.PageKey.{PageKey}
-use Rattle.ledger_index.specs.declared.seat.Seat.{Seat}
-use Rattle.ledger_index.specs.Entries.{by_key}
+use Rattle.ledger_maps.specs.declared.page.Page.{Page}
+use Rattle.ledger_keys.specs.declared.seat.PageKey.{PageKey}
+use Rattle.ledger_keys.specs.declared.seat.Seat.{Seat}
+use Rattle.ledger_maps.specs.Entries.{by_key}
 use Rattle.ledger_index.specs.Judged.{IsLeastBut, breaks, lesser_of}
-use Rattle.ledger_index.specs.Kept.{sums_at}
+use Rattle.ledger_keys.specs.Kept.{sums_at}
 use Rattle.ledger_index.specs.Ledger.{sums_of}
-use Rattle.ledger_index.specs.Pages.{seats_in, slots_of}
-use Rattle.ledger_index.specs.Seat.{account_at, is_same_page, kind_at, seat_of}
-use Rattle.ledger_index.specs.SeatLaws.{same_page}
+use Rattle.ledger_maps.specs.Pages.{seats_in, slots_of}
+use Rattle.ledger_keys.specs.Seat.{account_at, is_same_page, kind_at, seat_of}
+use Rattle.ledger_keys.specs.SeatLaws.{same_page}
 use Rattle.ledger_index.specs.Seated.{is_within, is_within_from, left_pages, left_slots}
 use Rattle.ledger_index.specs.Unpaged as unpaged
 use Rattle.ledger_index.proofs.JudgedLaws.{judged, unbroken}
 use Rattle.ledger_index.proofs.LedgerLaws.{at_seat, at_unpaged}
-use Rattle.ledger_index.proofs.SeatLaws.{of_seat, slot_within}
+use Rattle.ledger_keys.proofs.SeatLaws.{of_seat, slot_within}
 
 or_first : (b : Bool) (slot : ℕ) → (b || (true && nat_le 0 slot)) ≡ true
 or_first true slot = refl

@@ -6,19 +6,19 @@ use Rattle.std.proofs.lemmas.Bool.{eqb-true, ltb-false}
 use Rattle.accounts.specs.declared.account.Account.{Account}
 use Rattle.accounts.specs.Sums.{is_same}
 use Rattle.accounts.specs.Tally.{Sums, no_sums}
-use Rattle.ledger_index.specs.declared.kept.Kept.{Kept}
+use Rattle.ledger_keys.specs.declared.kept.Kept.{Kept}
 use Rattle.ledger_index.specs.declared.singles.Singles.{Singles}
-use Rattle.ledger_index.specs.Sums.{changed}
-use Rattle.ledger_index.specs.Kept.{IsZero, sums_at}
-use Rattle.ledger_index.specs.Entries.{AreTidy, Changes, Entries, Stays, by_account}
-use Rattle.ledger_index.specs.declared.place.Place.{Place}
-use Rattle.ledger_index.specs.declared.long_place.LongPlace.{LongPlace}
-use Rattle.ledger_index.specs.Place.{is_same_place, part_of, place_of}
-use Rattle.ledger_index.specs.LongPlace.{is_same_long, long_of, part_of as long_part}
+use Rattle.ledger_keys.specs.Sums.{changed}
+use Rattle.ledger_keys.specs.Kept.{IsZero, sums_at}
+use Rattle.ledger_maps.specs.Entries.{AreTidy, Changes, Entries, Stays, by_account}
+use Rattle.ledger_keys.specs.declared.place.Place.{Place}
+use Rattle.ledger_keys.specs.declared.long_place.LongPlace.{LongPlace}
+use Rattle.ledger_keys.specs.Place.{is_same_place, part_of, place_of}
+use Rattle.ledger_keys.specs.LongPlace.{is_same_long, long_of, part_of as long_part}
 use Rattle.ledger_index.specs.Singles.{IsTidy, entry_at, entry_of, has_entry, long_in, short_in, sums_of}
-use Rattle.ledger_index.proofs.EntryLaws.{other_amount}
-use Rattle.ledger_index.proofs.PartLaws.{tidy_parts}
-use Rattle.ledger_index.proofs.PlaceLaws.{apart, apart', longs_alike, places_alike}
+use Rattle.ledger_keys.proofs.SumLaws.{other_amount}
+use Rattle.ledger_maps.proofs.PartLaws.{tidy_parts}
+use Rattle.ledger_keys.proofs.PlaceLaws.{apart, apart', longs_alike, places_alike}
 
 module _ (how : ℕ → ℕ → ℕ) (none : (sum : ℕ) → how 0 sum ≡ sum) where
   nothing_above : (s : Bool) (field k amount : ℕ) → 8 < field → ◌≡◌ {A = ℕ} (cond (s && (field == k && nat_lt k 9)) amount 0) 0

@@ -9,26 +9,27 @@ use Rattle.accounts.specs.Broken.{is_broken}
 use Rattle.accounts.specs.Sums.{is_same}
 use Rattle.accounts.specs.Tally.{Sums, no_sums}
 use Rattle.indexmap.specs.IndexMap.{IndexMap}
-use Rattle.ledger_index.specs.declared.kept.Kept.{Kept}
-use Rattle.ledger_index.specs.declared.long_place.LongPlace.{LongPlace}
-use Rattle.ledger_index.specs.declared.name.Name.{Name}
-use Rattle.ledger_index.specs.declared.name.Side.{Side}
-use Rattle.ledger_index.specs.declared.name.Side.TheVariants.{Entry, Link}
+use Rattle.ledger_keys.specs.declared.kept.Kept.{Kept}
+use Rattle.ledger_keys.specs.declared.long_place.LongPlace.{LongPlace}
+use Rattle.ledger_keys.specs.declared.name.Name.{Name}
+use Rattle.ledger_keys.specs.declared.name.Side.{Side}
+use Rattle.ledger_keys.specs.declared.name.Side.TheVariants.{Entry, Link}
 use Rattle.ledger_index.specs.declared.unpaged.Unpaged.{Unpaged}
-use Rattle.ledger_index.specs.Entries.{Entries, by_parts}
-use Rattle.ledger_index.specs.Kept.{sums_at}
-use Rattle.ledger_index.specs.LongPlace.{is_same_long, part_of}
-use Rattle.ledger_index.specs.Name.{account_at, is_same_name, name_of}
-use Rattle.ledger_index.specs.Names.{names_by, names_in}
-use Rattle.ledger_index.specs.PlaceLaws.{both}
-use Rattle.ledger_index.specs.Shifts.{Rests, Shifts}
-use Rattle.ledger_index.specs.Side.{first_of, has_sums, mark_of, number_of, side_of}
+use Rattle.ledger_maps.specs.Entries.{Entries, by_parts}
+use Rattle.ledger_keys.specs.Kept.{sums_at}
+use Rattle.ledger_keys.specs.LongPlace.{is_same_long, part_of}
+use Rattle.ledger_keys.specs.Name.{account_at, is_same_name, name_of}
+use Rattle.ledger_maps.specs.Names.{names_by, names_in}
+use Rattle.ledger_keys.specs.PlaceLaws.{both}
+use Rattle.ledger_keys.specs.Shifts.{Rests, Shifts}
+use Rattle.ledger_keys.specs.Side.{first_of, has_sums, mark_of, number_of, side_of}
 use Rattle.ledger_index.specs.Singles as single
-use Rattle.ledger_index.specs.Sums.{changed, greatest, lower, raise}
+use Rattle.ledger_keys.specs.Sums.{changed, greatest, lower, raise}
 use Rattle.ledger_index.specs.Unpaged.{entry_from, has_entry, sums_from, sums_of}
-use Rattle.ledger_index.proofs.EntryLaws.{full_as, lower_none, other_amount, raise_none}
-use Rattle.ledger_index.proofs.NameLaws.{names_alike, of_name, same_name}
-use Rattle.ledger_index.proofs.PlaceLaws.{apart}
+use Rattle.ledger_keys.proofs.SumLaws.{lower_none, other_amount, raise_none}
+use Rattle.ledger_maps.proofs.EntryLaws.{full_as}
+use Rattle.ledger_keys.proofs.NameLaws.{names_alike, of_name, same_name}
+use Rattle.ledger_keys.proofs.PlaceLaws.{apart}
 use Rattle.ledger_index.proofs.SinglesLaws.{is_tidy as singles_tidy}
 
 -- the sums of all accounts, by those of names and those of entries of their own

@@ -2,13 +2,13 @@
 use Rattle.std.specs.Prelude.{◌≡◌, ℕ, ◌+◌, ◌<◌, Bool, true, false, not, ◌==◌, Option, Some, None}
 use Rattle.accounts.specs.declared.account.Account.{Account}
 use Rattle.accounts.specs.Broken.{is_broken}
-use Rattle.ledger_index.specs.declared.name.Name.{Name}
+use Rattle.ledger_keys.specs.declared.name.Name.{Name}
 use Rattle.ledger_index.specs.declared.unpaged.Unpaged.{Unpaged}
-use Rattle.ledger_index.specs.Name.{name_of}
-use Rattle.ledger_index.specs.Names.{names_in}
-use Rattle.ledger_index.specs.Side.{has_sums}
+use Rattle.ledger_keys.specs.Name.{name_of}
+use Rattle.ledger_maps.specs.Names.{names_in}
+use Rattle.ledger_keys.specs.Side.{has_sums}
 use Rattle.ledger_index.specs.Singles as single
-use Rattle.ledger_index.specs.Sums.{changed, greatest, raise}
+use Rattle.ledger_keys.specs.Sums.{changed, greatest, raise}
 use Rattle.ledger_index.specs.Unpaged.{sums_of}
 
 -- an account has no sums in the entry of its name, if it is of one and the field is of one of the two

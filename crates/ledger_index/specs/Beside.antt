@@ -2,13 +2,13 @@
 use Rattle.std.specs.Prelude.{◌≡◌, ℕ, ◌<◌, true, List, Some}
 use Rattle.indexmap.specs.IndexMap.{IndexMap}
 use Rattle.accounts.specs.declared.account.Account.{Account}
-use Rattle.ledger_index.specs.declared.kept.Kept.{Kept}
-use Rattle.ledger_index.specs.declared.long_place.LongPlace.{LongPlace}
-use Rattle.ledger_index.specs.declared.name.Name.{Name}
+use Rattle.ledger_keys.specs.declared.kept.Kept.{Kept}
+use Rattle.ledger_keys.specs.declared.long_place.LongPlace.{LongPlace}
+use Rattle.ledger_keys.specs.declared.name.Name.{Name}
 use Rattle.ledger_index.specs.declared.singles.Singles.{Singles}
-use Rattle.ledger_index.specs.Name.{name_of}
-use Rattle.ledger_index.specs.Names.{names_in}
-use Rattle.ledger_index.specs.Side.{has_sums}
+use Rattle.ledger_keys.specs.Name.{name_of}
+use Rattle.ledger_maps.specs.Names.{names_in}
+use Rattle.ledger_keys.specs.Side.{has_sums}
 use Rattle.ledger_index.specs.Singles.{sums_of}
 
 -- an account with sums in the entry of its name has neither of the two in an entry of its own

@@ -8,13 +8,13 @@ use Rattle.accounts.specs.Broken.{is_broken, line_of, lines}
 use Rattle.accounts.specs.Order.{account_cmp}
 use Rattle.accounts.specs.Tally.{Sums}
 use Rattle.accounts.specs.declared.account.Account.{Account}
-use Rattle.ledger_index.specs.declared.kept.Kept.{Kept}
+use Rattle.ledger_keys.specs.declared.kept.Kept.{Kept}
 use Rattle.ledger_index.specs.declared.singles.Singles.{Singles}
-use Rattle.ledger_index.specs.declared.place.Place.{Place}
-use Rattle.ledger_index.specs.declared.long_place.LongPlace.{LongPlace}
-use Rattle.ledger_index.specs.LongPlace.{is_same_long, long_of}
-use Rattle.ledger_index.specs.Place.{is_same_place, place_of}
-use Rattle.ledger_index.specs.Entries.{entries_in}
+use Rattle.ledger_keys.specs.declared.place.Place.{Place}
+use Rattle.ledger_keys.specs.declared.long_place.LongPlace.{LongPlace}
+use Rattle.ledger_keys.specs.LongPlace.{is_same_long, long_of}
+use Rattle.ledger_keys.specs.Place.{is_same_place, place_of}
+use Rattle.ledger_maps.specs.Entries.{entries_in}
 use Rattle.ledger_index.specs.Singles.{entry_at}
 
 -- whether sums break an account of a kind

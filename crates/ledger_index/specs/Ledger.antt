@@ -4,12 +4,12 @@ use Rattle.indexmap.specs.IndexMap.{index_map_len}
 use Rattle.accounts.specs.declared.account.Account.{Account}
 use Rattle.accounts.specs.Tally.{Sums}
 use Rattle.ledger_index.specs.declared.ledger.LedgerIndex.{LedgerIndex}
-use Rattle.ledger_index.specs.declared.seat.Seat.{Seat}
-use Rattle.ledger_index.specs.Entries.{Entries}
-use Rattle.ledger_index.specs.Kept.{stands, sums_at}
-use Rattle.ledger_index.specs.Names.{CountedIn}
-use Rattle.ledger_index.specs.Pages.{StandIn, seats_in}
-use Rattle.ledger_index.specs.Seat.{seat_of}
+use Rattle.ledger_keys.specs.declared.seat.Seat.{Seat}
+use Rattle.ledger_maps.specs.Entries.{Entries}
+use Rattle.ledger_keys.specs.Kept.{stands, sums_at}
+use Rattle.ledger_maps.specs.Names.{CountedIn}
+use Rattle.ledger_maps.specs.Pages.{StandIn, seats_in}
+use Rattle.ledger_keys.specs.Seat.{seat_of}
 use Rattle.ledger_index.specs.Unpaged as unpaged
 
 -- the sums of an account: those of its seat in a page, if it has one, or else those that stand in no page

@@ -2,18 +2,18 @@
 use Rattle.std.specs.Prelude.{ℕ, ◌≡◌, Bool, true, false, ◌&&◌, ◌||◌, List, Option, Some, None, is_some}
 use Rattle.std.specs.Map.{lookup}
 use Rattle.accounts.specs.declared.account.Account.{Account}
-use Rattle.ledger_index.specs.declared.kept.Kept.{Kept}
-use Rattle.ledger_index.specs.declared.long_place.LongPlace.{LongPlace}
-use Rattle.ledger_index.specs.declared.name.Name.{Name}
-use Rattle.ledger_index.specs.declared.name.Side.{Side}
-use Rattle.ledger_index.specs.declared.name.Side.TheVariants.{Entry, Link}
+use Rattle.ledger_keys.specs.declared.kept.Kept.{Kept}
+use Rattle.ledger_keys.specs.declared.long_place.LongPlace.{LongPlace}
+use Rattle.ledger_keys.specs.declared.name.Name.{Name}
+use Rattle.ledger_keys.specs.declared.name.Side.{Side}
+use Rattle.ledger_keys.specs.declared.name.Side.TheVariants.{Entry, Link}
 use Rattle.ledger_index.specs.declared.unpaged.Unpaged.{Unpaged}
-use Rattle.ledger_index.specs.Entries.{Entries, by_parts}
-use Rattle.ledger_index.specs.Kept.{kept_sum}
-use Rattle.ledger_index.specs.LongPlace.{is_same_long, part_of}
-use Rattle.ledger_index.specs.Name.{name_of}
-use Rattle.ledger_index.specs.Names.{names_in}
-use Rattle.ledger_index.specs.Side.{has_sums, side_of}
+use Rattle.ledger_maps.specs.Entries.{Entries, by_parts}
+use Rattle.ledger_keys.specs.Kept.{kept_sum}
+use Rattle.ledger_keys.specs.LongPlace.{is_same_long, part_of}
+use Rattle.ledger_keys.specs.Name.{name_of}
+use Rattle.ledger_maps.specs.Names.{names_in}
+use Rattle.ledger_keys.specs.Side.{has_sums, side_of}
 
 -- whether an account of a name has sums, in one of these entries
 abbrev pub is_within : (Name → ℕ → ℕ) → List (LongPlace × Kept) → Option Name → Bool

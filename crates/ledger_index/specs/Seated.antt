@@ -2,10 +2,10 @@
 use Rattle.std.specs.Prelude.{ℕ, Bool, false, ◌&&◌, ◌||◌, nat_le, List, Option, Some, None, is_some}
 use Rattle.std.specs.Map.{lookup}
 use Rattle.accounts.specs.declared.account.Account.{Account}
-use Rattle.ledger_index.specs.declared.page.Page.{Page}
-use Rattle.ledger_index.specs.declared.seat.PageKey.{PageKey}
-use Rattle.ledger_index.specs.declared.seat.Seat.{Seat}
-use Rattle.ledger_index.specs.Seat.{is_same_page, seat_of}
+use Rattle.ledger_maps.specs.declared.page.Page.{Page}
+use Rattle.ledger_keys.specs.declared.seat.PageKey.{PageKey}
+use Rattle.ledger_keys.specs.declared.seat.Seat.{Seat}
+use Rattle.ledger_keys.specs.Seat.{is_same_page, seat_of}
 
 -- whether a seat is in one of these pages
 abbrev pub is_within : List (PageKey × Page) → Option Seat → Bool

@@ -4,14 +4,14 @@ use Rattle.std.specs.Prelude.{◌≡◌, ◌↔◌, ℕ, ◌+◌, Bool, false, O
 use Rattle.std.specs.BTreeMap.{btree_map_len}
 use Rattle.accounts.specs.declared.account.Account.{Account}
 use Rattle.accounts.specs.Tally.{Sums}
-use Rattle.ledger_index.specs.declared.kept.Kept.{Kept}
+use Rattle.ledger_keys.specs.declared.kept.Kept.{Kept}
 use Rattle.ledger_index.specs.declared.singles.Singles.{Singles}
-use Rattle.ledger_index.specs.declared.place.Place.{Place}
-use Rattle.ledger_index.specs.declared.long_place.LongPlace.{LongPlace}
-use Rattle.ledger_index.specs.Entries.{Entries, by_account, by_parts, count_in}
-use Rattle.ledger_index.specs.LongPlace.{is_same_long, long_of, part_of as long_part}
-use Rattle.ledger_index.specs.Place.{is_same_place, part_of, place_of}
-use Rattle.ledger_index.specs.Kept.{sums_at}
+use Rattle.ledger_keys.specs.declared.place.Place.{Place}
+use Rattle.ledger_keys.specs.declared.long_place.LongPlace.{LongPlace}
+use Rattle.ledger_maps.specs.Entries.{Entries, by_account, by_parts, count_in}
+use Rattle.ledger_keys.specs.LongPlace.{is_same_long, long_of, part_of as long_part}
+use Rattle.ledger_keys.specs.Place.{is_same_place, part_of, place_of}
+use Rattle.ledger_keys.specs.Kept.{sums_at}
 
 -- what is kept of an account, if anything is: under its place, or where it has none under its long place, or else under
 -- the account itself

@@ -2,12 +2,12 @@
 use Rattle.std.specs.Prelude.{ℕ, ◌+◌, Bool, ◌||◌, Option, Some, None}
 use Rattle.accounts.specs.declared.account.Account.{Account}
 use Rattle.accounts.specs.Tally.{Sums}
-use Rattle.ledger_index.specs.declared.name.Name.{Name}
+use Rattle.ledger_keys.specs.declared.name.Name.{Name}
 use Rattle.ledger_index.specs.declared.unpaged.Unpaged.{Unpaged}
-use Rattle.ledger_index.specs.Entries.{count_in}
-use Rattle.ledger_index.specs.Name.{name_of}
-use Rattle.ledger_index.specs.Names.{names_in}
-use Rattle.ledger_index.specs.Side.{has_sums}
+use Rattle.ledger_maps.specs.Entries.{count_in}
+use Rattle.ledger_keys.specs.Name.{name_of}
+use Rattle.ledger_maps.specs.Names.{names_in}
+use Rattle.ledger_keys.specs.Side.{has_sums}
 use Rattle.ledger_index.specs.Singles as singles
 
 -- the sums of an account: those in the entry of its name, if it is of one, and those in an entry of its own

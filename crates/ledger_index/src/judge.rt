@@ -1,16 +1,16 @@
 //! The least broken account of the entries of a table.
 
-ghost use Rattle.std.specs.Prelude.{◌≡◌, ◌+◌, ◌≤◌, ◌++◌, List, [], IfOk};
+ghost use Rattle.std.specs.Prelude.{◌≡◌, ◌+◌, ◌≤◌, ◌++◌, ◌∷◌, List, [], Some, IfOk, OnOk};
 ghost use Rattle.indexmap.specs.IndexMap.{index_map_len};
-ghost use Rattle.ledger_index.specs.declared.kept.Kept.{Kept as AKept};
-ghost use Rattle.ledger_index.specs.Entries.{Within, by_key, by_parts, count_in, entries_in};
+ghost use Rattle.recon_disk.specs.Outside.{counted};
+ghost use Rattle.ledger_keys.specs.declared.kept.Kept.{Kept as AKept};
+ghost use Rattle.ledger_maps.specs.Entries.{Within, by_key, by_parts, count_in, entries_in};
+ghost use Rattle.ledger_index.specs.Looks.{counted_times};
 
-use crate::kept::Kept;
-use crate::part::Exact;
-use crate::seeded::Seeded;
 use crate::table::Table;
 use accounts::Account;
 use indexmap::IndexMap;
+use ledger_keys::{Exact, Kept, Seeded};
 use recon_disk::Steps;
 use verdict::NoMemory;
 
@@ -48,6 +48,8 @@ impl<K: Exact> Table<K> {
         requires { J.entry judge.now ≡ by_parts K.eq K.part_of self.now.parts.items }
         ensures least { J.IsLeast judge.now (entries_in self.now.parts.items) first →
             IfOk result (J.IsLeast judge.now []) }
+        ensures counts { OnOk result
+            (steps.new ≡ counted_times (count_in self.now.parts.items) steps.old) }
         ensures looks { steps.new ≤ steps.old + count_in self.now.parts.items }
     {
         let mut least = first;
@@ -69,12 +71,30 @@ fn least_of_part<K: Exact, J: Judge<K>, L>(
     ensures least { (rest : List (K × AKept)) →
         J.IsLeast judge.now (part.now.entries ++ rest) first →
         IfOk result (J.IsLeast judge.now rest) }
+    ensures counts { OnOk result (steps.new ≡ counted_times (index_map_len part.now) steps.old) }
     ensures looks { steps.new ≤ steps.old + index_map_len part.now }
 {
     let mut least = first;
     for (key, kept) in part {
-        steps.look();
-        least = judge.least_of_entry(key, kept, least)?;
+        least = look_at(key, kept, judge, least, steps)?;
     }
     Ok(least)
+}
+
+// Looks at an entry: the least broken one of its accounts, and of an account that is the least of those before.
+fn look_at<K: Exact, J: Judge<K>, L>(
+    key: &K,
+    kept: &Kept,
+    judge: &J,
+    first: Option<Account>,
+    steps: &mut Steps<L>,
+) -> Result<Option<Account>, NoMemory>
+    requires { J.entry judge.now key.now ≡ Some kept.now }
+    ensures least { (rest : List (K × AKept)) →
+        J.IsLeast judge.now ((key.now, kept.now) ∷ rest) first →
+        IfOk result (J.IsLeast judge.now rest) }
+    ensures looks { steps.new ≡ counted steps.old }
+{
+    steps.look();
+    judge.least_of_entry(key, kept, first)
 }

@@ -2,12 +2,12 @@
 
 ghost use Rattle.std.specs.Prelude.{◌≡◌, slice_index, IfSome};
 ghost use Rattle.accounts.specs.Broken.{inode_keeps, is_broken};
-ghost use Rattle.ledger_index.specs.declared.kept.Kept.TheVariants.{Long};
+ghost use Rattle.ledger_keys.specs.declared.kept.Kept.TheVariants.{Long};
 ghost use Rattle.ledger_index.specs.Judged.{breaks, lesser_of, stands_before};
-ghost use Rattle.ledger_index.specs.Kept.{kept_sum};
+ghost use Rattle.ledger_keys.specs.Kept.{kept_sum};
 
-use crate::kept::Kept;
 use accounts::{Account, broken};
+use ledger_keys::Kept;
 use std::alloc::Global;
 use verdict::{Bytes, Key};
 
@@ -47,7 +47,7 @@ pub(crate) fn is_broken(account: &Account, kept: &Kept) -> bool
 
 // The same by the kind, where the sums are small and the account is of an inode, of its type or of its names, as most accounts of an image
 // are. The sums are looked at where they are kept.
-#[tactic(auto, unfolding(crate::specs::Judged::breaks, crate::specs::Kept::kept_sum))]
+#[tactic(auto, unfolding(crate::specs::Judged::breaks, ledger_keys::specs::Kept::kept_sum))]
 fn small_breaks(kind: u8, kept: &Kept) -> Option<bool>
     ensures { IfSome result (λ is. is ≡ breaks kind (kept_sum kept.now)) }
 {
@@ -73,7 +73,7 @@ fn inode_keeps(f: &[u8; 9]) -> bool
 }
 
 // The same of seven small sums and two longer ones.
-#[tactic(auto, unfolding(crate::specs::Kept::kept_sum))]
+#[tactic(auto, unfolding(ledger_keys::specs::Kept::kept_sum))]
 fn long_inode_keeps(f: &[u8; 7], long: &[u32; 2]) -> bool
     ensures { result ≡ inode_keeps (kept_sum (Long f.now long.now)) }
 {

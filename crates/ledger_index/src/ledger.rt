@@ -8,23 +8,23 @@ ghost use Rattle.accounts.specs.Lent.{account_lent};
 ghost use Rattle.accounts.specs.Sums.{sum_in};
 ghost use Rattle.accounts.specs.Tally.{no_sums};
 ghost use Rattle.recon_disk.specs.Outside.{counted};
-ghost use Rattle.ledger_index.specs.declared.page.Page.{Page as APage};
-ghost use Rattle.ledger_index.specs.declared.seat.PageKey.{PageKey as APageKey};
+ghost use Rattle.ledger_maps.specs.declared.page.Page.{Page as APage};
+ghost use Rattle.ledger_keys.specs.declared.seat.PageKey.{PageKey as APageKey};
 ghost use Rattle.ledger_index.specs.Apart.{AreApart};
-ghost use Rattle.ledger_index.specs.Entries.{by_key};
+ghost use Rattle.ledger_maps.specs.Entries.{by_key};
 ghost use Rattle.ledger_index.specs.Judged.{IsLeastBut, breaks as rule_breaks, lesser_of};
-ghost use Rattle.ledger_index.specs.Kept.{sums_at};
-ghost use Rattle.ledger_index.specs.Seat.{is_same_page, kind_at};
+ghost use Rattle.ledger_keys.specs.Kept.{sums_at};
+ghost use Rattle.ledger_index.specs.Looks.{counted_times};
+ghost use Rattle.ledger_keys.specs.Seat.{is_same_page, kind_at};
 ghost use Rattle.ledger_index.specs.Seated.{left_pages};
-ghost use Rattle.ledger_index.specs.Sums.{changed, greatest, lower, raise};
+ghost use Rattle.ledger_keys.specs.Sums.{changed, greatest, lower, raise};
 ghost use Rattle.ledger_index.specs.Unpaged as unpaged;
 
 use crate::judged::{breaks, is_broken, lesser};
-use crate::page::Page;
-use crate::pages::Pages;
-use crate::seat::{PageKey, Seat, kind_at};
 use crate::unpaged::Unpaged;
 use accounts::{Account, NameAccount, Totals, broken};
+use ledger_keys::{PageKey, Seat, kind_at};
+use ledger_maps::{Page, Pages};
 use recon_disk::Steps;
 use std::alloc::Global;
 use std::marker::PhantomData;
@@ -34,7 +34,7 @@ use verdict::NoMemory;
 /// with numbers next to each other to a page. Those of the names of regular files stand two to an entry: that of the entry of
 /// the directory, and that of the link of the inode. The other accounts have an entry each. A page or an entry stands only
 /// where some total is not zero. Each call looks once into the tables and counts that, but for `new`, which does not look,
-/// and `least_broken`, which looks at most once for each page and entry.
+/// and `least_broken`, which looks once for each page and entry.
 ///
 /// The mark `L` ties the table to its counter: code that is generic in `L` can make no counter of its own.
 #[derive(Drop)]
@@ -206,11 +206,14 @@ impl<L> LedgerIndex<L> {
     }
 
     /// The least account that its totals break, `None` exactly where no account is broken. It goes through all pages and
-    /// entries, each of which is a look. The account takes its memory from the ledger's allocator.
+    /// entries, each of which is one look. The account takes its memory from the ledger's allocator. Out of memory, some
+    /// pages and entries were not looked at.
     #[tactic(auto, unfolding(crate::specs::Ledger::entries_of))]
     pub fn least_broken(&self, steps: &mut Steps<L>) -> Result<Option<Account>, NoMemory>
         ensures least { IfOk result (IsLeastBroken
             (λ account. is_broken account (sums_of self.now account))) }
+        ensures counts { OnOk result
+            (steps.new ≡ counted_times (entries_of self.now) steps.old) }
         ensures looks { steps.new ≤ steps.old + entries_of self.now }
     {
         let least = self.unpaged.least_broken(steps)?;
@@ -222,7 +225,7 @@ impl<L> LedgerIndex<L> {
         ensures least { IsLeastBroken
             (λ account. is_broken account (unpaged.sums_of self.now.unpaged account)) first →
             IsLeastBroken (λ account. is_broken account (sums_of self.now account)) result }
-        ensures looks { steps.new ≤ steps.old + index_map_len self.now.pages.map }
+        ensures counts { steps.new ≡ counted_times (index_map_len self.now.pages.map) steps.old }
     {
         let mut least = first;
         for (key, page) in self.pages.map() {

@@ -7,19 +7,18 @@ ghost use Rattle.accounts.specs.Broken.{is_broken};
 ghost use Rattle.accounts.specs.Least.{IsLeastBroken};
 ghost use Rattle.accounts.specs.Sums.{sum_in};
 ghost use Rattle.accounts.specs.Tally.{no_sums};
-ghost use Rattle.ledger_index.specs.Sums.{changed, greatest, lower, raise};
+ghost use Rattle.ledger_keys.specs.Sums.{changed, greatest, lower, raise};
 ghost use Rattle.ledger_index.specs.Judged.{IsLeastBut, is_later, left_long, left_short, lesser_of};
+ghost use Rattle.ledger_index.specs.Looks.{counted_times};
 ghost use Rattle.ledger_index.specs.Singles.{entry_of, long_in, short_in};
-ghost use Rattle.ledger_index.specs.Place.{place_of};
+ghost use Rattle.ledger_keys.specs.Place.{place_of};
 
 use crate::judge::Judge;
 use crate::judged::{breaks, is_broken, lesser};
-use crate::kept::Kept;
-use crate::long_place::LongPlace;
-use crate::place::{Place, mixed_by, part_by};
 use crate::table::Table;
-use crate::whole::{Whole, copy_of};
 use accounts::{Account, Totals, broken};
+use ledger_keys::{Kept, LongPlace, Place, mixed_by, part_by};
+use ledger_maps::{Whole, copy_of};
 use recon_disk::Steps;
 use std::alloc::Global;
 use verdict::NoMemory;
@@ -169,6 +168,8 @@ impl Singles {
     pub(crate) fn least_broken<L>(&self, steps: &mut Steps<L>) -> Result<Option<Account>, NoMemory>
         ensures least { IfOk result (IsLeastBroken
             (λ account. is_broken account (sums_of self.now account))) }
+        ensures counts { OnOk result
+            (steps.new ≡ counted_times (entries_of self.now) steps.old) }
         ensures looks { steps.new ≤ steps.old + entries_of self.now }
     {
         let least = self.short.least(self, None, steps)?;
@@ -184,6 +185,8 @@ impl Singles {
     ) -> Result<Option<Account>, NoMemory>
         ensures least { IsLeastBut (sums_of self.now) (left_long self.now []) first →
             IfOk result (IsLeastBut (sums_of self.now) (is_later [] [] [])) }
+        ensures counts { OnOk result
+            (steps.new ≡ counted_times (btree_map_len self.now.whole.entries) steps.old) }
         ensures looks { steps.new ≤ steps.old + btree_map_len self.now.whole.entries }
     {
         let mut least = first;

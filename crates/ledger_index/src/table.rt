@@ -2,28 +2,26 @@
 
 ghost use Rattle.std.specs.Prelude.{◌≡◌, ◌+◌, ◌<◌, ◌≤◌, false, None, Some, [], IfSome, IfOk, OnOk, OnErr};
 ghost use Rattle.std.specs.Option.{option_copied};
-ghost use Rattle.ledger_index.specs.Sums.{greatest, lower, raise};
-ghost use Rattle.ledger_index.specs.Kept.{sums_at};
-ghost use Rattle.ledger_index.specs.LongPlace.{is_same_long, part_of as long_part};
-ghost use Rattle.ledger_index.specs.Link.{name_said, place_said};
-ghost use Rattle.ledger_index.specs.Name.{is_same_name};
-ghost use Rattle.ledger_index.specs.Names.{CountedIn, names_in};
-ghost use Rattle.ledger_index.specs.Place.{is_same_place, part_of as place_part, place_of};
-ghost use Rattle.ledger_index.specs.Shifts.{Posted, Rests, Shifts};
-ghost use Rattle.ledger_index.specs.Side.{has_sums};
-ghost use Rattle.ledger_index.specs.Entries.{AreEmpty, AreFit, Changes, StandsIn, Stays, by_parts, count_in};
+ghost use Rattle.ledger_keys.specs.Sums.{greatest, lower, raise};
+ghost use Rattle.ledger_keys.specs.Kept.{sums_at};
+ghost use Rattle.ledger_keys.specs.LongPlace.{is_same_long, part_of as long_part};
+ghost use Rattle.ledger_keys.specs.Link.{name_said, place_said};
+ghost use Rattle.ledger_keys.specs.Name.{is_same_name};
+ghost use Rattle.ledger_maps.specs.Names.{CountedIn, names_in};
+ghost use Rattle.ledger_keys.specs.Place.{is_same_place, part_of as place_part, place_of};
+ghost use Rattle.ledger_keys.specs.Shifts.{Posted, Rests, Shifts};
+ghost use Rattle.ledger_keys.specs.Side.{has_sums};
+ghost use Rattle.ledger_maps.specs.Entries.{AreEmpty, AreFit, Changes, StandsIn, Stays, by_parts, count_in};
 
-use crate::hint::{HINTS, Hint, bits_of, hint_of, slot_of};
-use crate::kept::Kept;
-use crate::link::Link;
-use crate::long_place::LongPlace;
-use crate::name::{LINK, Name};
-use crate::name_part::{post_at, post_to, take_from};
-use crate::part::{Exact, add_at, add_by_hash, find_in, is_at, kept_at, take_at};
-use crate::place::{Place, mixed_of, part_at};
-use crate::seeded::Seeded;
 use accounts::Account;
 use indexmap::IndexMap;
+use ledger_keys::{
+    Exact, HINTS, Hint, Kept, LINK, Link, LongPlace, Name, Place, Seeded, bits_of, hint_of,
+    mixed_of, part_at, slot_of,
+};
+use ledger_maps::{
+    add_at, add_by_hash, find_in, is_at, kept_at, post_at, post_to, take_at, take_from,
+};
 use std::alloc::Global;
 use verdict::NoMemory;
 

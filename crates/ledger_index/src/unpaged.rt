@@ -7,25 +7,23 @@ ghost use Rattle.accounts.specs.Least.{IsLeastBroken};
 ghost use Rattle.accounts.specs.Lent.{account_lent};
 ghost use Rattle.accounts.specs.Sums.{sum_in};
 ghost use Rattle.accounts.specs.Tally.{no_sums};
-ghost use Rattle.ledger_index.specs.declared.kept.Kept.{Kept as AKept};
-ghost use Rattle.ledger_index.specs.declared.long_place.LongPlace.{LongPlace as ALongPlace};
+ghost use Rattle.ledger_keys.specs.declared.kept.Kept.{Kept as AKept};
+ghost use Rattle.ledger_keys.specs.declared.long_place.LongPlace.{LongPlace as ALongPlace};
 ghost use Rattle.ledger_index.specs.Beside.{AreNamed, AreOnce};
 ghost use Rattle.ledger_index.specs.Judged.{IsLeastBut, lesser_of};
-ghost use Rattle.ledger_index.specs.Link.{name_said};
-ghost use Rattle.ledger_index.specs.Name.{name_of};
-ghost use Rattle.ledger_index.specs.Names.{CountedIn};
+ghost use Rattle.ledger_keys.specs.Link.{name_said};
+ghost use Rattle.ledger_index.specs.Looks.{counted_times};
+ghost use Rattle.ledger_keys.specs.Name.{name_of};
+ghost use Rattle.ledger_maps.specs.Names.{CountedIn};
 ghost use Rattle.ledger_index.specs.Singles as single;
-ghost use Rattle.ledger_index.specs.Sums.{changed, greatest, lower, raise};
+ghost use Rattle.ledger_keys.specs.Sums.{changed, greatest, lower, raise};
 
 use crate::judge::Judge;
 use crate::judged::lesser;
-use crate::kept::Kept;
-use crate::link::Link;
-use crate::long_place::LongPlace;
-use crate::name::{Name, Side};
 use crate::singles::Singles;
 use crate::table::Table;
 use accounts::{Account, NameAccount, Totals, broken};
+use ledger_keys::{Kept, Link, LongPlace, Name, Side};
 use recon_disk::Steps;
 use std::alloc::Global;
 use verdict::NoMemory;
@@ -251,6 +249,8 @@ impl Unpaged {
     pub(crate) fn least_broken<L>(&self, steps: &mut Steps<L>) -> Result<Option<Account>, NoMemory>
         ensures least { IfOk result (IsLeastBroken
             (λ account. is_broken account (sums_of self.now account))) }
+        ensures counts { OnOk result
+            (steps.new ≡ counted_times (entries_of self.now) steps.old) }
         ensures looks { steps.new ≤ steps.old + entries_of self.now }
     {
         let least = self.singles.least_broken(steps)?;

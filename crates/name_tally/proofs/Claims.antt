@@ -1,27 +1,20 @@
 -- What was given to a slot that is of its name.
-use Rattle.std.proofs.Common.{◌≡◌, ◌==◌, ℕ, Bool, cond, List, [], ◌∷◌, ◌++◌, append-nil, refl, ap, sym, ◌∙◌, subst}
-use Rattle.std.specs.List.{flat_map}
+use Rattle.std.proofs.Common.{◌≡◌, ◌==◌, ℕ, Bool, cond, List, [], ◌∷◌, ◌++◌, refl, ap, sym, ◌∙◌, subst}
 use Rattle.std.proofs.lemmas.Bool.{eq-eqb}
 use Rattle.verdict.specs.declared.kinds.TheConstants.{INODE_ITEM, ROOT_ITEM}
 use Rattle.recon_crc.specs.Checksum.{name_hash_of}
-use Rattle.volume_items.specs.declared.root.RootItem.{RootItem}
-use Rattle.volume_items.specs.RootLinkRow.{RootLinkFields}
-use Rattle.fs_items.specs.DirRow.{DirFields, EntryFields}
-use Rattle.fs_items.specs.InodeRefRow.{InodeRefFields, NameFields}
+use Rattle.fs_items.specs.DirRow.{EntryFields}
+use Rattle.fs_items.specs.InodeRefRow.{NameFields}
 use Rattle.accounts.specs.declared.postings.Posting.{Posting}
 use Rattle.accounts.specs.Kinds.{key_by, link, name_entry, subvolume_entry}
 use Rattle.accounts.specs.Tally.{Sums}
-use Rattle.accounts.specs.Apart.{AddsUp}
-use Rattle.accounts.proofs.Apart.{adds_the_same}
-use Rattle.records.specs.DirPostings.{dir_entry_postings, dir_postings, entry_posting, hashed_postings, indexed_postings, link_postings, names_postings, root_link_postings, root_postings}
+use Rattle.records.specs.DirPostings.{entry_posting, hashed_postings, indexed_postings, link_postings}
 use Rattle.records.specs.InodePostings.{target_postings}
-use Rattle.records.specs.Part.{Part}
-use Rattle.records.specs.Part.Part.{EntriesPart, LinkPart, NamesPart, RootPart}
 use Rattle.records.specs.Post.{to}
 use Rattle.name_tally.specs.declared.slot.NameSlot.{NameSlot}
-use Rattle.name_tally.specs.Names.{entry_of, leads, led_postings, link_of, name_of, name_postings}
-use Rattle.name_tally.specs.Slots.{AreSame, IsAt, KeepsUp, entry_row}
-use Rattle.name_tally.proofs.Sums.{halves, keeps_none, keeps_same}
+use Rattle.name_tally.specs.Names.{entry_of, leads, link_of, name_of}
+use Rattle.name_tally.specs.Slots.{AreSame, IsAt, KeepsUp}
+use Rattle.name_tally.proofs.Sums.{keeps_none, keeps_same}
 
 pub keeps_nothing : (sums : Sums) → KeepsUp sums sums []
 keeps_nothing sums = keeps_none sums sums (λ a n. refl)
@@ -85,38 +78,3 @@ pub indexed_is : (slot : NameSlot) (tree dir index : ℕ) (entry : EntryFields) 
     (indexed_postings tree dir index entry ++ target_postings tree entry)
 indexed_is slot tree dir index entry is sort at kind =
     λ i. only_indexed slot tree dir index entry is sort at kind i ++ led_is slot tree dir entry is sort kind i
-
--- ---- what a record posts
-
-pub names_said : (tree : ℕ) (part : Part) (item : InodeRefFields) → part ≡ NamesPart item
-    → names_postings tree item ≡ name_postings tree part
-unfolding dir_postings led_postings
-names_said tree part item is = sym (append-nil (names_postings tree item)) ∙ ap (name_postings tree) (sym is)
-
-pub entries_said : (tree : ℕ) (part : Part) (item : DirFields) → part ≡ EntriesPart item
-    → flat_map (dir_entry_postings tree item.key) item.entries ++ flat_map (target_postings tree) item.entries ≡ name_postings tree part
-unfolding dir_postings led_postings
-entries_said tree part item is = ap (name_postings tree) (sym is)
-
-pub root_said : (tree : ℕ) (part : Part) (item : RootItem) → part ≡ RootPart item → root_postings item ≡ name_postings tree part
-unfolding dir_postings led_postings
-root_said tree part item is = sym (append-nil (root_postings item)) ∙ ap (name_postings tree) (sym is)
-
-pub root_link_said : (tree : ℕ) (part : Part) (item : RootLinkFields) → part ≡ LinkPart item
-    → root_link_postings item ≡ name_postings tree part
-unfolding dir_postings led_postings
-root_link_said tree part item is = sym (append-nil (root_link_postings item)) ∙ ap (name_postings tree) (sym is)
-
-pub adds_said : (old new : Sums) (before after given said : List Posting) → given ≡ said → AddsUp old new before after given
-    → AddsUp old new before after said
-adds_said old new before after given said is adds = subst (AddsUp old new before after) is adds
-
--- rows of entries as what is said of names and what is said of inodes
-pub adds_entries : (old new : Sums) (before after : List Posting) (tree : ℕ) (part : Part) (item : DirFields) → part ≡ EntriesPart item
-    → AddsUp old new before after (flat_map (entry_row tree item.key) item.entries)
-    → AddsUp old new before after (name_postings tree part)
-adds_entries old new before after tree part item is adds =
-    adds_said old new before after _ (name_postings tree part) (entries_said tree part item is)
-    (adds_the_same old new before after (flat_map (entry_row tree item.key) item.entries)
-    (flat_map (dir_entry_postings tree item.key) item.entries ++ flat_map (target_postings tree) item.entries) adds
-    (halves (dir_entry_postings tree item.key) (target_postings tree) item.entries))

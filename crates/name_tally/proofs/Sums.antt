@@ -393,33 +393,6 @@ slot_left ss i inside = at_drop_more (λ xs. xs) ss i none inside
 pub none_left : (ss : List NameSlot) (i : ℕ) → length ss ≤ i → drop i ss ≡ []
 none_left ss i end = at_drop_all (λ xs. xs) ss i end
 
--- ---- loops: what some rows post is added so far, and these are left
-
-pub record Takes {A : Type 0} (row : A → List Posting) (old now : Sums) (before after : List Posting) (left all : List A) : Type 0 where
-  pub done : List Posting
-  pub adds : AddsUp old now before after done
-  pub whole : done ++ flat_map row left ≡ flat_map row all
-
-pub takes_start : {A : Type 0} (row : A → List Posting) (sums : Sums) (list : List Posting) (left all : List A) → left ≡ all
-    → Takes row sums sums list list left all
-takes_start row sums list left all is = record { done = []; adds = adds_nothing sums list; whole = ap (flat_map row) is }
-
-pub takes_more : {A : Type 0} (row : A
-    → List Posting) (old now next : Sums) (before between after : List Posting) (left rest all : List A) (one : A)
-    → Takes row old now before between left all → left ≡ one ∷ rest → AddsUp now next between after (row one)
-    → Takes row old next before after rest all
-takes_more row old now next before between after left rest all one takes step is = record {
-  done = takes.done ++ row one;
-  adds = adds_then old now next before between after takes.done (row one) takes.adds is;
-  whole = append_assoc takes.done (row one) (flat_map row rest) ∙ ap (λ xs. takes.done ++ flat_map row xs) (sym step) ∙ takes.whole;
-}
-
-pub takes_all : {A : Type 0} (row : A → List Posting) (old now : Sums) (before after : List Posting) (left all : List A)
-    → Takes row old now before after left all → left ≡ [] → AddsUp old now before after (flat_map row all)
-takes_all row old now before after left all takes none =
-    subst (AddsUp old now before after) (sym (append-nil takes.done) ∙ ap (λ xs. takes.done ++ flat_map row xs) (sym none)
-    ∙ takes.whole) takes.adds
-
 -- ---- a tally
 
 plus_none : (f : ℕ → ℕ) → f ≡ (λ n. f n + 0)

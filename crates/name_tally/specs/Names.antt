@@ -1,7 +1,9 @@
 -- The sums of names in directories and of links that are kept apart, with the entries that lead to inodes: what slots come to.
 use Rattle.std.specs.Prelude.{ℕ, ◌+◌, List, [], ◌∷◌, ◌++◌, take}
 use Rattle.std.specs.List.{flat_map}
+use Rattle.verdict.specs.declared.key.Key.{Key}
 use Rattle.verdict.specs.declared.kinds.TheConstants.{INODE_ITEM}
+use Rattle.fs_items.specs.DirRow.{EntryFields}
 use Rattle.recon_crc.specs.Checksum.{name_hash_of}
 use Rattle.accounts.specs.declared.account.Account.{Account}
 use Rattle.accounts.specs.declared.postings.Posting.{Posting}
@@ -11,10 +13,8 @@ use Rattle.accounts.specs.Sums.{total_of}
 use Rattle.accounts.specs.Tally.{Sums}
 use Rattle.inode_tally.specs.Held.{inodes_apart}
 use Rattle.inode_tally.specs.declared.tally.InodeTally.{InodeTally}
-use Rattle.records.specs.DirPostings.{dir_postings}
+use Rattle.records.specs.DirPostings.{dir_entry_postings}
 use Rattle.records.specs.InodePostings.{target_postings}
-use Rattle.records.specs.Part.{Part}
-use Rattle.records.specs.Part.Part.{EntriesPart}
 use Rattle.records.specs.Post.{to}
 use Rattle.name_tally.specs.declared.slot.NameSlot.{NameSlot}
 use Rattle.name_tally.specs.declared.tally.NameTally.{NameTally}
@@ -55,11 +55,6 @@ names_apart tally = slots_sums tally.slots.items
 abbrev pub both : NameTally → InodeTally → Sums
 both names inodes account field = names_apart names account field + inodes_apart inodes account field
 
--- what a record of a tree posts to the inodes that its entries lead to, A9 and A10
-unfoldable pub led_postings : ℕ → Part → List Posting
-led_postings tree (EntriesPart item) = flat_map (target_postings tree) item.entries
-led_postings tree other = []
-
--- what a record of a tree posts to names and subvolumes, and to the inodes that its entries lead to
-abbrev pub name_postings : ℕ → Part → List Posting
-name_postings tree part = dir_postings tree part ++ led_postings tree part
+-- what an entry of a directory of a tree posts to names and to the inode that it leads to
+abbrev pub entry_row : ℕ → Key → EntryFields → List Posting
+entry_row tree key entry = dir_entry_postings tree key entry ++ target_postings tree entry

@@ -1,13 +1,9 @@
 -- These words serve private functions alone: a slot, and slots, with more.
-use Rattle.std.specs.Prelude.{◌≡◌, ℕ, ◌+◌, List, [], ◌++◌, Option, Some, None}
-use Rattle.verdict.specs.declared.key.Key.{Key}
-use Rattle.fs_items.specs.DirRow.{EntryFields}
+use Rattle.std.specs.Prelude.{◌≡◌, ℕ, ◌+◌, List, [], Option, Some, None}
 use Rattle.accounts.specs.declared.account.Account.{Account}
 use Rattle.accounts.specs.declared.postings.Posting.{Posting}
 use Rattle.accounts.specs.Sums.{total_of}
 use Rattle.accounts.specs.Tally.{Sums, kept}
-use Rattle.records.specs.DirPostings.{dir_entry_postings}
-use Rattle.records.specs.InodePostings.{target_postings}
 use Rattle.name_tally.specs.declared.slot.Led.{Led}
 use Rattle.name_tally.specs.declared.slot.NameSlot.{NameSlot}
 use Rattle.name_tally.specs.Names.{leads, name_of, slot_postings}
@@ -30,10 +26,6 @@ abbrev pub KeepsBut : Sums → Sums → List Posting → List Posting → Type 0
 KeepsBut old new out given =
     (account : Account)
     → kept account.kind (λ n. new account n + total_of out account n) ≡ kept account.kind (λ n. old account n + total_of given account n)
-
--- what an entry posts to names and to the inode that it leads to
-abbrev pub entry_row : ℕ → Key → EntryFields → List Posting
-entry_row tree key entry = dir_entry_postings tree key entry ++ target_postings tree entry
 
 -- entries that lead to an inode, as postings
 abbrev pub led_in : Led → List Posting

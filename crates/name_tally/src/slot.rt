@@ -363,7 +363,11 @@ pub fn post_slot(alloc: Global, slot: &NameSlot, into: &mut Postings) -> Result<
             LINK_NAMES,
             u64::from(slot.linked),
         ),
-        Posting::to(Account::inode(alloc, tree, ino), INODE_OTHERS, u64::from(slot.led)),
+        Posting::to(
+            Account::inode(alloc, tree, ino),
+            INODE_OTHERS,
+            u64::from(slot.led),
+        ),
         Posting::to(
             Account::inode_type(alloc, tree, ino, sort),
             TYPE_ENTRIES,

@@ -6,20 +6,18 @@ ghost use Rattle.accounts.specs.declared.account.Account.{Account as AAccount};
 ghost use Rattle.accounts.specs.Apart.{AddsUp};
 ghost use Rattle.accounts.specs.Tally.{kept, sums_in, with_postings};
 ghost use Rattle.inode_tally.specs.Held.{inodes_apart};
-ghost use Rattle.fs_items.specs.Lent.{dir_in, entry_fields, inode_ref_in, name_fields};
-ghost use Rattle.records.specs.DirPostings.{dir_entry_postings, link_postings, names_postings};
+ghost use Rattle.fs_items.specs.Lent.{entry_fields, name_fields};
+ghost use Rattle.records.specs.DirPostings.{link_postings};
 ghost use Rattle.records.specs.InodePostings.{target_postings};
-ghost use Rattle.records.specs.Part.{part_of};
-ghost use Rattle.name_tally.specs.Names.{both, name_postings, names_apart, slot_postings};
-ghost use Rattle.name_tally.specs.Slots.{AreSame, KeepsBut, entry_row, kept_of, led_in, led_of};
+ghost use Rattle.name_tally.specs.Names.{both, entry_row, names_apart, slot_postings};
+ghost use Rattle.name_tally.specs.Slots.{AreSame, KeepsBut, kept_of, led_in, led_of};
 
 use crate::index::{NameIndex, Spot, hash_of};
 use crate::slot::{Led, NAME_SIZE, NameSlot, post_slot};
 use accounts::{Postings, Tally};
-use dir_rules::{is_root_name, post_entry, post_link, post_root, post_root_link};
-use fs_items::{DirEntry, DirItem, InodeRef, NameAt};
+use dir_rules::{post_entry, post_link};
+use fs_items::{DirEntry, NameAt};
 use inode_tally::InodeTally;
-use records::Rec;
 use std::alloc::Global;
 use verdict::kinds::INODE_ITEM;
 use verdict::{Key, NoMemory};
@@ -46,29 +44,6 @@ impl NameTally {
         }
     }
 
-    /// Adds what a record of a tree, by the tree's id, says of names, and of the inodes that entries of directories lead
-    /// to. The inodes are told when all is said of the name. What has no compact form, and what is said of subvolumes,
-    /// is put behind the postings. Out of memory, any part of it may be added.
-    #[tactic(auto, using(accounts::proofs::Apart::adds_nothing), unfolding(records::specs::DirPostings::dir_postings, crate::specs::Names::led_postings))]
-    pub fn take(
-        &mut self,
-        tree: u64,
-        part: &Rec<'_>,
-        inodes: &mut InodeTally,
-        into: &mut Postings,
-    ) -> Result<(), NoMemory>
-        ensures { OnOk result (AddsUp (both self.old inodes.old) (both self.new inodes.new)
-            into.old into.new (name_postings tree (part_of part.now))) }
-    {
-        match *part {
-            Rec::InodeRef(item) => self.take_names(tree, &item, inodes, into),
-            Rec::DirItem(item) => self.take_entries(tree, &item, inodes, into),
-            Rec::RootItem(item) => post_root(self.alloc, &item, into),
-            Rec::RootLink(item) => post_root_link(self.alloc, &item, into),
-            _ => Ok(()),
-        }
-    }
-
     /// Moves all to a tally. Nothing may be added behind it. Out of memory, any part of it may be there.
     pub fn settle(&mut self, rest: &mut Tally) -> Result<(), NoMemory>
         ensures { OnOk result ((account : AAccount) →
@@ -78,43 +53,9 @@ impl NameTally {
         settle_all(self.alloc, &self.slots, rest)
     }
 
-    // Adds the names of an inode, but for those of a tree's root directory.
-    fn take_names(
-        &mut self,
-        tree: u64,
-        item: &InodeRef<'_>,
-        inodes: &mut InodeTally,
-        into: &mut Postings,
-    ) -> Result<(), NoMemory>
-        ensures { OnOk result (AddsUp (both self.old inodes.old) (both self.new inodes.new)
-            into.old into.new (names_postings tree (inode_ref_in item.now))) }
-    {
-        if is_root_name(item.key) {
-            return Ok(());
-        }
-        self.take_links(tree, item, inodes, into)
-    }
-
-    // Adds the names of an inode.
-    fn take_links(
-        &mut self,
-        tree: u64,
-        item: &InodeRef<'_>,
-        inodes: &mut InodeTally,
-        into: &mut Postings,
-    ) -> Result<(), NoMemory>
-        ensures { OnOk result (AddsUp (both self.old inodes.old) (both self.new inodes.new)
-            into.old into.new
-            (flat_map (link_postings tree item.now.key.objectid) (inode_ref_in item.now).names)) }
-    {
-        for name in item.names() {
-            self.take_link(tree, item.key.objectid, &name, inodes, into)?;
-        }
-        Ok(())
-    }
-
-    // Adds a name of an inode.
-    fn take_link(
+    /// Adds a name of an inode of a tree. The inode is told of the entries that lead to it when all is said of the name.
+    /// What has no compact form is put behind the postings. Out of memory, any part of it may be added.
+    pub fn take_link(
         &mut self,
         tree: u64,
         ino: u64,
@@ -161,25 +102,10 @@ impl NameTally {
         Some(led)
     }
 
-    // Adds the entries of a directory.
-    fn take_entries(
-        &mut self,
-        tree: u64,
-        item: &DirItem<'_>,
-        inodes: &mut InodeTally,
-        into: &mut Postings,
-    ) -> Result<(), NoMemory>
-        ensures { OnOk result (AddsUp (both self.old inodes.old) (both self.new inodes.new)
-            into.old into.new (flat_map (entry_row tree item.now.key) (dir_in item.now).entries)) }
-    {
-        for entry in item.entries() {
-            self.take_entry(tree, item.key, &entry, inodes, into)?;
-        }
-        Ok(())
-    }
-
-    // Adds an entry of a directory in the item with this key.
-    fn take_entry(
+    /// Adds an entry of a directory of a tree in the item with this key, and what it says of the inode that it leads to,
+    /// which is told when all is said of the name. What has no compact form, and what is said of subvolumes, is put
+    /// behind the postings. Out of memory, any part of it may be added.
+    pub fn take_entry(
         &mut self,
         tree: u64,
         key: Key,

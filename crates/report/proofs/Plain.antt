@@ -8,7 +8,7 @@ use Rattle.hex.specs.Hex.{encode_with, encode_lower, lower_digits}
 use Rattle.json.specs.Print.{escape, escape_byte}
 use Rattle.verdict.specs.declared.finding.Rule.{Rule}
 use Rattle.verdict.specs.declared.finding.Family.{Family}
-use Rattle.verdict.specs.declared.finding.Family.TheVariants.{S, U, N, I, M, X, A}
+use Rattle.verdict.specs.declared.finding.Family.TheVariants.{S, U, N, I, M, X, A, D, F, L}
 use Rattle.verdict.specs.Letter.{letter_of}
 use Rattle.report.specs.Lines.{event_word, fault_name, rule_text}
 
@@ -37,6 +37,9 @@ letter_plain I = refl
 letter_plain M = refl
 letter_plain X = refl
 letter_plain A = refl
+letter_plain D = refl
+letter_plain F = refl
+letter_plain L = refl
 
 -- a rule's text
 pub rule_plain : (rule : Rule) → rule.number < 2 ^ 64 → escape (rule_text rule) ≡ rule_text rule

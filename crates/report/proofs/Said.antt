@@ -2,7 +2,7 @@
 use Rattle.std.proofs.Common.{◌≡◌, ℕ, List, [], ◌∷◌, Result, Ok, Err, IfOk, refl, ◌∙◌}
 use Rattle.verdict.specs.Letter.{letter_of}
 use Rattle.verdict.specs.declared.finding.Family.{Family}
-use Rattle.verdict.specs.declared.finding.Family.TheVariants.{S, U, N, I, M, X, A}
+use Rattle.verdict.specs.declared.finding.Family.TheVariants.{S, U, N, I, M, X, A, D, F, L}
 use lib.Utf8.{encode}
 
 pub said : {T E : Type 0} (f : T → List ℕ) (r : Result T E) (bytes text : List ℕ)
@@ -20,3 +20,6 @@ letter_printed I = refl
 letter_printed M = refl
 letter_printed X = refl
 letter_printed A = refl
+letter_printed D = refl
+letter_printed F = refl
+letter_printed L = refl

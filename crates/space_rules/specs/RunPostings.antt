@@ -6,6 +6,7 @@ use Rattle.accounts.specs.Context.{Context, home_of}
 use Rattle.accounts.specs.declared.context.Home.{Home}
 use Rattle.accounts.specs.declared.postings.Posting.{Posting}
 use Rattle.accounts.specs.Kinds.{sector, group_class, group_of, outside}
+use Rattle.accounts.specs.declared.sum.TheConstants.{SECTOR_EXTENTS, SECTOR_DATA, SECTOR_SUMS, SECTOR_SHOWN, GROUP_TAKEN, OTHER_CLASS, OUTSIDE_CHUNKS}
 use Rattle.sector_runs.specs.declared.run.SectorRun.{SectorRun}
 use Rattle.sector_runs.specs.declared.run.SectorUse.{SectorUse}
 use Rattle.sector_runs.specs.declared.run.SectorUse.TheVariants.{Data, Block, Summed, Shown}
@@ -42,10 +43,10 @@ run_in context tree other = None
 
 -- the postings of a sector that is used so
 abbrev pub use_postings : SectorUse → ℕ → List Posting
-use_postings Data address = to (sector address) 0 1 ∷ to (sector address) 1 1 ∷ []
-use_postings Block address = to (sector address) 0 1 ∷ []
-use_postings Summed address = to (sector address) 2 1 ∷ []
-use_postings Shown address = to (sector address) 3 1 ∷ []
+use_postings Data address = to (sector address) SECTOR_EXTENTS 1 ∷ to (sector address) SECTOR_DATA 1 ∷ []
+use_postings Block address = to (sector address) SECTOR_EXTENTS 1 ∷ []
+use_postings Summed address = to (sector address) SECTOR_SUMS 1 ∷ []
+use_postings Shown address = to (sector address) SECTOR_SHOWN 1 ∷ []
 
 -- the postings of a run
 abbrev pub run_postings : SectorRun → List Posting
@@ -58,5 +59,6 @@ run_postings_in (Some run) = run_postings run
 -- the place of an extent without its sectors
 abbrev pub rest_of_place : Bool → ℕ → ℕ → Option Home → List Posting
 rest_of_place of_data address bytes (Some home) =
-    to (group_of home) 3 bytes ∷ (if is_other_class of_data home.class then to (group_class address) 0 1 ∷ [] else [])
-rest_of_place of_data address bytes None = to (outside address) 0 1 ∷ []
+    to (group_of home) GROUP_TAKEN bytes
+    ∷ (if is_other_class of_data home.class then to (group_class address) OTHER_CLASS 1 ∷ [] else [])
+rest_of_place of_data address bytes None = to (outside address) OUTSIDE_CHUNKS 1 ∷ []

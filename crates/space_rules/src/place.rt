@@ -4,18 +4,20 @@ ghost use Rattle.std.specs.Prelude.{◌≡◌, ◌+◌, ◌<◌, ◌^◌, [], �
 ghost use Rattle.accounts.specs.Posts.{Posts};
 ghost use Rattle.accounts.specs.Context.{home_of};
 ghost use Rattle.accounts.specs.Kinds.{group_class, group_of, outside};
+ghost use Rattle.accounts.specs.declared.sum.TheConstants.{GROUP_TAKEN, OTHER_CLASS, OUTSIDE_CHUNKS};
 ghost use Rattle.extent_items.specs.ExtentItems.{extent_fields_in};
 ghost use Rattle.records.specs.Post.{to};
 ghost use Rattle.records.specs.SpacePostings.{extent_length, is_data, is_other_class, place_postings};
 ghost use Rattle.space_rules.specs.RunPostings.{owned_run, rest_of_place, where_home};
 
 use crate::sectors::post_run;
+use accounts::sum::{GROUP_TAKEN, OTHER_CLASS, OUTSIDE_CHUNKS};
 use accounts::{Account, Ctx, Home, Poster, Posting, Postings};
 use extent_items::ExtentItem;
-use sector_runs::{SECTOR, SectorRun, SectorUse};
+use sector_runs::{SectorRun, SectorUse};
 use std::alloc::Global;
-use verdict::NoMemory;
 use verdict::kinds::EXTENT_ITEM;
+use verdict::{NoMemory, SECTOR};
 
 /// The type bit of chunks with file data.
 const DATA: u64 = 1;
@@ -136,7 +138,7 @@ impl Place {
     fn post_class<P: Poster>(&self, alloc: Global, class: u64, into: &mut P) -> Result<(), NoMemory>
         ensures { P.Leaves into.old into.new result
             (if is_other_class self.now.of_data class then
-            to (group_class self.now.address) 0 1 ∷ [] else []) }
+            to (group_class self.now.address) OTHER_CLASS 1 ∷ [] else []) }
     {
         if !is_other_class(self.of_data, class) {
             return Ok(());
@@ -146,23 +148,23 @@ impl Place {
 
     // What it takes of the group of its home.
     fn taken(&self, alloc: Global, home: &Home) -> Posting
-        ensures { result ≡ to (group_of home.now) 3 self.now.length }
+        ensures { result ≡ to (group_of home.now) GROUP_TAKEN self.now.length }
     {
-        Posting::to(Account::group_of(alloc, home), 3, self.length)
+        Posting::to(Account::group_of(alloc, home), GROUP_TAKEN, self.length)
     }
 
     // That its group is of another class.
     fn other_class(&self, alloc: Global) -> Posting
-        ensures { result ≡ to (group_class self.now.address) 0 1 }
+        ensures { result ≡ to (group_class self.now.address) OTHER_CLASS 1 }
     {
-        Posting::to(Account::group_class(alloc, self.address), 0, 1)
+        Posting::to(Account::group_class(alloc, self.address), OTHER_CLASS, 1)
     }
 
     // That no chunk has it.
     fn post_outside<P: Poster>(&self, alloc: Global, into: &mut P) -> Result<(), NoMemory>
-        ensures { P.Leaves into.old into.new result (to (outside self.now.address) 0 1 ∷ []) }
+        ensures { P.Leaves into.old into.new result (to (outside self.now.address) OUTSIDE_CHUNKS 1 ∷ []) }
     {
-        into.put(Posting::to(Account::outside(alloc, self.address), 0, 1))
+        into.put(Posting::to(Account::outside(alloc, self.address), OUTSIDE_CHUNKS, 1))
     }
 }
 

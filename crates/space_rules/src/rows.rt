@@ -22,13 +22,17 @@ ghost use Rattle.space_rules.specs.RunPostings.{run_in, summed_run};
 
 use crate::place::place_of;
 use crate::sectors::{post_run_in, sectors_at};
+use accounts::sum::{
+    BYTES_IN_GROUPS, BYTES_SAID, CHUNK_STRIPES, DEVICE_RANGES, DEVICE_SAID, DEVICE_TAKEN,
+    GROUP_CHUNKS, GROUP_ITEMS, GROUP_USED,
+};
 use accounts::{Account, Ctx, Poster, Posting, Postings};
 use extent_items::GroupItem;
 use fs_items::{FileExtent, SumRun};
 use records::Rec;
-use sector_runs::{SECTOR, SectorRun, SectorUse};
+use sector_runs::{SectorRun, SectorUse};
 use std::alloc::Global;
-use verdict::NoMemory;
+use verdict::{NoMemory, SECTOR};
 use volume_items::{ChunkItem, DevExtent};
 
 /// The type of a range of a file that is written.
@@ -72,11 +76,15 @@ pub fn post_rest<C: Ctx, P: Poster>(
 {
     match part {
         Rec::Super { bytes_used } => {
-            into.put(Posting::to(Account::bytes_used(alloc), 0, *bytes_used))
+            into.put(Posting::to(Account::bytes_used(alloc), BYTES_SAID, *bytes_used))
         }
         Rec::ChunkItem(item) => post_chunk(alloc, item, into),
         Rec::DeviceItem(item) => {
-            into.put(Posting::to(Account::device(alloc, item.devid), 0, item.bytes_used))
+            into.put(Posting::to(
+                Account::device(alloc, item.devid),
+                DEVICE_SAID,
+                item.bytes_used,
+            ))
         }
         Rec::DevExtent(item) => post_dev_extent(alloc, item, into),
         Rec::GroupItem(item) => post_group(alloc, item, into),
@@ -110,10 +118,10 @@ fn post_chunk<P: Poster>(alloc: Global, item: &ChunkItem<'_>, into: &mut P) -> R
 {
     let start = item.key.offset;
     let group = Account::group(alloc, start, item.length, item.class);
-    into.put(Posting::to(group, 1, 1))?;
+    into.put(Posting::to(group, GROUP_CHUNKS, 1))?;
     for stripe in item.stripes() {
         let stripe = Account::stripe(alloc, start, stripe.devid, stripe.physical, item.length);
-        into.put(Posting::to(stripe, 0, 1))?;
+        into.put(Posting::to(stripe, CHUNK_STRIPES, 1))?;
     }
     Ok(())
 }
@@ -130,8 +138,8 @@ fn post_dev_extent<P: Poster>(alloc: Global, item: &DevExtent, into: &mut P) -> 
         item.key.offset,
         item.length,
     );
-    into.put(Posting::to(stripe, 1, 1))?;
-    into.put(Posting::to(Account::device(alloc, device), 1, item.length))
+    into.put(Posting::to(stripe, DEVICE_RANGES, 1))?;
+    into.put(Posting::to(Account::device(alloc, device), DEVICE_TAKEN, item.length))
 }
 
 // A block group.
@@ -139,9 +147,13 @@ fn post_group<P: Poster>(alloc: Global, item: &GroupItem, into: &mut P) -> Resul
     ensures { P.Leaves into.old into.new result (group_postings item.now) }
 {
     let (start, length, class) = (item.key.objectid, item.key.offset, item.flags);
-    into.put(Posting::to(Account::group(alloc, start, length, class), 0, 1))?;
-    into.put(Posting::to(Account::group(alloc, start, length, class), 2, item.used))?;
-    into.put(Posting::to(Account::bytes_used(alloc), 1, item.used))
+    into.put(Posting::to(Account::group(alloc, start, length, class), GROUP_ITEMS, 1))?;
+    into.put(Posting::to(
+        Account::group(alloc, start, length, class),
+        GROUP_USED,
+        item.used,
+    ))?;
+    into.put(Posting::to(Account::bytes_used(alloc), BYTES_IN_GROUPS, item.used))
 }
 
 // The sectors that a range of a file shows of an extent that a chunk holds: where it is written, no hole, and its

@@ -4,10 +4,11 @@ ghost use Rattle.std.specs.Prelude.{◌≡◌, ◌+◌, ◌*◌, ◌<◌, ◌^�
 ghost use Rattle.accounts.specs.Posts.{Posts};
 ghost use Rattle.space_rules.specs.RunPostings.{run_postings, run_postings_in, use_postings};
 
+use accounts::sum::{SECTOR_DATA, SECTOR_EXTENTS, SECTOR_SHOWN, SECTOR_SUMS};
 use accounts::{Account, Posting, Postings};
-use sector_runs::{SECTOR, SectorRun, SectorUse};
+use sector_runs::{SectorRun, SectorUse};
 use std::alloc::Global;
-use verdict::NoMemory;
+use verdict::{NoMemory, SECTOR};
 
 // So many sectors from an address on, or `None` where they end past the addresses of 64 bits.
 pub fn sectors_at(first: u64, count: u64, sort: SectorUse) -> Option<SectorRun>
@@ -60,11 +61,11 @@ fn post_sector(
     let sector = Account::sector(alloc, address);
     match sort {
         SectorUse::Data => into.push_all([
-            Posting::to(sector, 0, 1),
-            Posting::to(Account::sector(alloc, address), 1, 1),
+            Posting::to(sector, SECTOR_EXTENTS, 1),
+            Posting::to(Account::sector(alloc, address), SECTOR_DATA, 1),
         ]),
-        SectorUse::Block => into.push_all([Posting::to(sector, 0, 1)]),
-        SectorUse::Summed => into.push_all([Posting::to(sector, 2, 1)]),
-        SectorUse::Shown => into.push_all([Posting::to(sector, 3, 1)]),
+        SectorUse::Block => into.push_all([Posting::to(sector, SECTOR_EXTENTS, 1)]),
+        SectorUse::Summed => into.push_all([Posting::to(sector, SECTOR_SUMS, 1)]),
+        SectorUse::Shown => into.push_all([Posting::to(sector, SECTOR_SHOWN, 1)]),
     }
 }

@@ -112,10 +112,10 @@ module _ (context : Context) (t : Table) (xs : List Span) (low address : ℕ) (o
       shown_sort = c.sort ∙ was.shown_sort;
     };
     begun = record { owned = a.begun; summed = b.begun; shown = c.begun };
-    looks = λ runs.
-        let x = a.looks (worth runs Owned) in
-        let y = b.looks (worth runs Summed) in
-        let z = c.looks (worth runs Shown) in
+    looks = λ each runs.
+        let x = a.looks each (worth runs Owned) in
+        let y = b.looks each (worth runs Summed) in
+        let z = c.looks each (worth runs Shown) in
         omega (arith, x, y, z);
   }
 
@@ -134,10 +134,10 @@ module _ (context : Context) (t : Table) (xs : List Span) (low address : ℕ) (o
     };
     begun = record { owned = a.begun; summed = b.begun; shown = c.begun };
     past = past;
-    looks = λ runs until under covered.
-        let x = a.looks (worth runs Owned) (worth_one runs low until address old.owned.sort Owned was.owned_sort under covered) in
-        let y = b.looks (worth runs Summed) (worth_one runs low until address old.summed.sort Summed was.summed_sort under covered) in
-        let z = c.looks (worth runs Shown) (worth_one runs low until address old.shown.sort Shown was.shown_sort under covered) in
+    looks = λ each has runs until under covered.
+        let x = a.looks each has (worth runs Owned) (worth_one runs low until address old.owned.sort Owned was.owned_sort under covered) in
+        let y = b.looks each has (worth runs Summed) (worth_one runs low until address old.summed.sort Summed was.summed_sort under covered) in
+        let z = c.looks each has (worth runs Shown) (worth_one runs low until address old.shown.sort Shown was.shown_sort under covered) in
         omega (arith, x, y, z);
   }
 

@@ -12,7 +12,7 @@ use Rattle.span_index.specs.declared.judge.Walks.{Walks}
 use Rattle.span_index.specs.declared.span.Run.{Run}
 use Rattle.span_index.specs.declared.span.Span.{Span}
 use Rattle.span_index.specs.Judging.{AreBeginning, AreBegun, AreCovered, ArePassing, AreReached, AreStill, AreWalked, passed}
-use Rattle.span_index.specs.Sectors.{AreRunsFrom, IsFirstBad, IsRun, Judges, is_bad, is_inside, times_of_span}
+use Rattle.span_index.specs.Sectors.{AreRunsFrom, HasEach, IsFirstBad, IsRun, Judges, is_bad, is_inside, times_of_span}
 use Rattle.span_index.specs.Spans.{Table, end_of}
 use Rattle.span_index.proofs.JudgeLaws.{bad_is, later_walks, passed_most, still_here}
 use Rattle.span_index.proofs.MeetingLaws.{and_both, and_left, and_right}
@@ -28,7 +28,8 @@ pub record IsSearching (context : Context) (t : Table) (xs : List Span) (low : �
   pub until : at ≤ run.until
   pub at_sector : at % 4096 ≡ 0
   pub none : (later : ℕ) → later % 4096 ≡ 0 → run.from ≤ later → later < at → is_bad context xs later ≡ false
-  pub looks : (runs : List Run) → AreCovered runs low run.until → now + passed runs old xs ≤ before + passed runs walks xs
+  pub looks : (each : List Span) → HasEach t each → (runs : List Run) → AreCovered runs low run.until
+      → now + passed runs old each ≤ before + passed runs walks each
 
 or_false : (b : Bool) → (b || false) ≡ true → b ≡ true
 or_false true e = refl
@@ -50,10 +51,11 @@ is_in run a from until =
 module _ (context : Context) (t : Table) (xs : List Span) (low : ℕ) (run : Run) (at : ℕ) (old walks new : Walks) (before mid now : ℕ)
     (was : IsSearching context t xs low run at old walks before mid) (more : at < run.until)
     (passing : ArePassing context t xs low at walks new mid now) where
-  pub looked : (runs : List Run) → AreCovered runs low run.until → now + passed runs old xs ≤ before + passed runs new xs
-  looked runs covered =
-      let a = was.looks runs covered in
-      let b = passing.looks runs run.until more covered in
+  pub looked : (each : List Span) → HasEach t each → (runs : List Run) → AreCovered runs low run.until
+      → now + passed runs old each ≤ before + passed runs new each
+  looked each has runs covered =
+      let a = was.looks each has runs covered in
+      let b = passing.looks each has runs run.until more covered in
       omega (arith, a, b)
 
   module _ (broken : Bool) (is : (sums : ℕ → ℕ) → AreReached at new sums → broken ≡ is_broken (sector at) sums) where
@@ -93,7 +95,7 @@ pub record IsJudging (context : Context) (t : Table) (xs : List Span) (all left 
   pub low : ℕ
   pub walked : AreWalked context t xs low start walks
   pub same : (answer : Option ℕ) → IsFirstBad (is_bad context xs) left answer → IsFirstBad (is_bad context xs) all answer
-  pub looks : now ≤ before + passed all walks xs + 3 * done
+  pub looks : (each : List Span) → HasEach t each → now ≤ before + passed all walks each + 3 * done
 
 pub judge_begins : (context : Context) (t : Table) (xs : List Span) (runs : List Run) (walks : Walks) (before : ℕ)
     → AreRunsFrom 0 runs → AreWalked context t xs 0 0 walks → IsJudging context t xs runs runs 0 walks before before
@@ -103,7 +105,7 @@ judge_begins context t xs runs walks before are walked = record {
   low = 0;
   walked = walked;
   same = λ answer is. is;
-  looks = omega arith;
+  looks = λ each has. omega arith;
 }
 
 -- the runs behind an address have no sector before it
@@ -186,12 +188,13 @@ module _ (context : Context) (t : Table) (xs : List Span) (all left : List Run) 
     has_begun = beginning context was.low was.start here.0 was.walked
 
     module _ (next : Walks) (after : ℕ) (among : (test : Run → Bool) → test run ≡ true → list_any test all ≡ true)
-        (looks : (runs : List Run) → AreCovered runs run.from run.until → after + passed runs begun xs ≤ mid + passed runs next xs) where
-      looked_on : after ≤ before + passed all next xs + 3 * (done + 1)
-      looked_on =
-          let a = looks all (covered_by all run among) in
-          let b = has_begun.looks all in
-          let c = was.looks in
+        (looks : (each : List Span) → HasEach t each → (runs : List Run) → AreCovered runs run.from run.until
+        → after + passed runs begun each ≤ mid + passed runs next each) where
+      looked_on : (each : List Span) → HasEach t each → after ≤ before + passed all next each + 3 * (done + 1)
+      looked_on each has =
+          let a = looks each has all (covered_by all run among) in
+          let b = has_begun.looks each all in
+          let c = was.looks each has in
           omega (arith, a, b, c)
 
       judge_on : AreWalked context t xs run.from run.until next → IsFirstBad (is_bad context xs) (run ∷ []) None
@@ -214,9 +217,9 @@ module _ (context : Context) (t : Table) (xs : List Span) (all left : List Run) 
         all = stand;
         first = was.same (Some least) (subst (λ l. IsFirstBad (is_bad context xs) l (Some least)) (sym left_is)
             (first_here (is_bad context xs) run rest was.start here least is));
-        looks =
-            let a = looked_on in
-            let b = passed_most all next xs in
+        looks = λ each has.
+            let a = looked_on each has in
+            let b = passed_most all next each in
             omega (arith, a, b);
       }
 
@@ -237,8 +240,8 @@ judged_none context t xs all left done walks before now was left_is stand most =
   spans = xs;
   all = stand;
   first = was.same None (subst (λ l. IsFirstBad (is_bad context xs) l None) (sym left_is) (λ a at_sector inside. absurd (cc)));
-  looks =
-      let a = was.looks in
-      let b = passed_most all walks xs in
+  looks = λ each has.
+      let a = was.looks each has in
+      let b = passed_most all walks each in
       omega (arith, a, b);
 }

@@ -1,5 +1,5 @@
 -- Sums over the spans that a walk has passed.
-use Rattle.std.proofs.Common.{◌≡◌, ℕ, ◌+◌, ◌*◌, ◌<◌, ◌≤◌, Bool, true, false, cond, List, [], ◌∷◌, refl, sym, ap, ◌∙◌, subst, arith}
+use Rattle.std.proofs.Common.{◌≡◌, ℕ, zero, suc, ◌+◌, ◌*◌, ◌<◌, ◌≤◌, Bool, true, false, cond, List, [], ◌∷◌, refl, sym, ap, ◌∙◌, subst, arith}
 use Rattle.std.specs.List.{sum_by}
 use Rattle.std.specs.Ordering.{is_eq, is_lt}
 use Rattle.std.specs.declared.cmp.Ordering.{Ordering}
@@ -113,6 +113,13 @@ by_tests_le false false c v over here apart = omega arith
 same_value : (g : Span → ℕ) (s x : Span) → cond (is_same s x) (g x) 0 ≡ cond (is_same s x) (g s) 0
 same_value g s x = elim (is_same s x) as (λ b. is_same s x ≡ b → cond b (g x) 0 ≡ cond b (g s) 0) [ true ↦ λ e. ap g (sym (same_is s x e)) | false ↦ λ e. refl ] refl
 
+at_least : (n v : ℕ) → 0 < n → v ≤ n * v
+at_least n v some =
+    elim n as (λ k. 0 < k → v ≤ k * v) [
+      | zero ↦ λ h. absurd (omega arith)
+      | suc k ↦ λ h. let is : suc k * v ≡ v + k * v = omega arith in omega arith
+    ] some
+
 module _ (t : Table) (xs : List Span) (all : (span : Span) → times_of_span xs span ≡ t span) (sort : SortName) (address : ℕ) where
   -- what a walk stands at comes to
   at_is : (g : Span → ℕ) (head : Head) → ((h : Span) (n : ℕ) → head ≡ At h n → n ≡ t h) → sum_by (λ x. cond (is_at head x) (g x) 0) xs ≡ at_sum g head
@@ -136,11 +143,28 @@ module _ (t : Table) (xs : List Span) (all : (span : Span) → times_of_span xs 
         ∙ sum_both (λ x. cond (is_passed old x) (g x) 0) (λ x. cond (is_at old x) (g x) 0) xs
         ∙ ap (λ n. sum_by (λ x. cond (is_passed old x) (g x) 0) xs + n) (at_is g old is)
 
-    pub step_least : passed_sum g old xs + at_sum g old ≤ passed_sum g new xs
-    unfolding passed_sum
-    step_least =
-        subst (λ n. n ≤ sum_by (λ x. cond (is_passed new x) (g x) 0) xs)
-        (sum_both (λ x. cond (is_passed old x) (g x) 0) (λ x. cond (is_at old x) (g x) 0) xs
-        ∙ ap (λ n. sum_by (λ x. cond (is_passed old x) (g x) 0) xs + n) (at_is g old is))
-        (sum_le (λ x. cond (is_passed old x) (g x) 0 + cond (is_at old x) (g x) 0) (λ x. cond (is_passed new x) (g x) 0) xs
-        (λ x. by_tests_le (is_passed old x) (is_at old x) (is_passed new x) (g x) (step.over x) (step.here x) (passed_apart old x)))
+-- ---- a step, over any list that has the spans
+
+module _ (t : Table) (each : List Span) (sort : SortName) (address : ℕ) (old new : Head) (step : IsStep t sort address old new) (g : Span → ℕ) where
+  step_over : passed_sum g old each + sum_by (λ x. cond (is_at old x) (g x) 0) each ≤ passed_sum g new each
+  unfolding passed_sum
+  step_over =
+      subst (λ n. n ≤ sum_by (λ x. cond (is_passed new x) (g x) 0) each)
+      (sum_both (λ x. cond (is_passed old x) (g x) 0) (λ x. cond (is_at old x) (g x) 0) each)
+      (sum_le (λ x. cond (is_passed old x) (g x) 0 + cond (is_at old x) (g x) 0) (λ x. cond (is_passed new x) (g x) 0) each
+      (λ x. by_tests_le (is_passed old x) (is_at old x) (is_passed new x) (g x) (step.over x) (step.here x) (passed_apart old x)))
+
+  -- what is passed stays so
+  pub step_kept : passed_sum g old each ≤ passed_sum g new each
+  step_kept = let over = step_over in omega (arith, over)
+
+  -- the span that the walk stood at is passed, as often as it stands in the list
+  pub step_worth : (here : Span) (n : ℕ) → old ≡ At here n → 0 < times_of_span each here → passed_sum g old each + g here ≤ passed_sum g new each
+  step_worth here n is some =
+      let over = step_over in
+      let there : sum_by (λ x. cond (is_at old x) (g x) 0) each ≡ times_of_span each here * g here =
+      ap (λ h. sum_by (λ x. cond (is_at h x) (g x) 0) each) is
+      ∙ sum_cong (λ x. cond (is_same here x) (g x) 0) (λ x. cond (is_same here x) (g here) 0) each (λ x k. same_value g here x)
+      ∙ sum_same here (g here) each in
+      let least : g here ≤ times_of_span each here * g here = at_least (times_of_span each here) (g here) some in
+      omega (arith, over, there, least)

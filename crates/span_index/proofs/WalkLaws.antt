@@ -20,7 +20,7 @@ use Rattle.span_index.specs.Spans.{Table, end_of, is_sort}
 use Rattle.span_index.specs.Sweep.{IsBegun, IsHead, IsOpen, IsStep, at_sum, is_passed, is_reaching, passed_sum}
 use Rattle.span_index.specs.Walks.{IsBeginning, IsPassing, IsWalked, due, is_data, is_field, is_settled, reach_in}
 use Rattle.span_index.proofs.MeetingLaws.{and_both, and_left, and_right}
-use Rattle.span_index.proofs.SumLaws.{step_least, step_sum, sum_le}
+use Rattle.span_index.proofs.SumLaws.{step_kept, step_sum, step_worth, sum_le}
 
 -- spans of a sort add to sum 1 where they are of data, and to each other sum of the sort
 adds_data : (n : SortName) (sort : SpanSort) (field : ℕ) → is_sort n sort ≡ true → is_field n field ≡ true → (field == 1) ≡ true → adds_to sort field ≡ is_data sort
@@ -213,28 +213,23 @@ passed_most head xs = sum_le (λ x. cond (is_passed head x) 1 0) (λ x. 1) xs (�
 looked_one : (mid after : ℕ) → after ≡ counted mid → after ≤ mid + 1
 looked_one mid after is = omega arith
 
-one_each : (n w : ℕ) → 0 < n → 1 ≤ w → 1 ≤ n * w
-one_each n w some worth =
-    elim n as (λ k. 0 < k → 1 ≤ k * w) [
-      | zero ↦ λ h. absurd (omega arith)
-      | suc k ↦ λ h. let is : suc k * w ≡ w + k * w = omega arith in omega arith
-    ] some
-
 module _ (context : Context) (t : Table) (xs : List Span) (all : (span : Span) → times_of_span xs span ≡ t span) (low address : ℕ) (up : low ≤ address) (begin old : Walk) (before mid after : ℕ)
     (passing : IsPassing context t xs low address begin old before mid) (s : Span) (n : ℕ) (due_is : due address old.head ≡ Some (s, n)) (head : Head) (step : IsStep t old.sort address old.head head) where
   stood : IsHead t old.sort low (At s n)
   stood = subst (IsHead t old.sort low) ((due_at address old.head s n due_is).0) passing.walked.head
 
-  more_passed : (g : Span → ℕ) → passed_sum g old.head xs + n * g s ≤ passed_sum g head xs
-  more_passed g =
-      subst (λ m. passed_sum g old.head xs + m ≤ passed_sum g head xs) (ap (λ h. at_sum g h) ((due_at address old.head s n due_is).0))
-      (step_least t xs all old.sort address old.head head step (head_times t old.sort low old.head passing.walked.head) g)
+  stands : 0 < t s
+  stands = let some = stood.0 in let is = stood.1 in omega (arith, some, is)
+
+  more_passed : (each : List Span) → 0 < times_of_span each s → (g : Span → ℕ) → passed_sum g old.head each + g s ≤ passed_sum g head each
+  more_passed each has g = step_worth t each old.sort address old.head head step g s n ((due_at address old.head s n due_is).0) has
 
   pub fewer_left : sum_by (λ x. 1) xs - passed_sum (λ x. 1) head xs < sum_by (λ x. 1) xs - passed_sum (λ x. 1) old.head xs
   fewer_left =
-      let more : passed_sum (λ x. 1) old.head xs + n * 1 ≤ passed_sum (λ x. 1) head xs = more_passed (λ x. 1) in
+      let is = all s in
+      let there = stands in
+      let more : passed_sum (λ x. 1) old.head xs + 1 ≤ passed_sum (λ x. 1) head xs = more_passed xs (omega (arith, is, there)) (λ x. 1) in
       let most : passed_sum (λ x. 1) head xs ≤ sum_by (λ x. 1) xs = passed_most head xs in
-      let some : 0 < n = stood.0 in
       omega arith
 
   pub sort_there : is_sort old.sort s.sort ≡ true
@@ -250,11 +245,10 @@ module _ (context : Context) (t : Table) (xs : List Span) (all : (span : Span) �
     walked = walked_on context t xs all low address old passing.walked up s n ((due_at address old.head s n due_is).0) ((due_at address old.head s n due_is).1) all' of_data' order data_order head sums is step;
     sort = passing.sort;
     begun = begun;
-    looks = λ worth each.
-        let earlier : mid + passed_sum worth begin.head xs ≤ before + passed_sum worth old.head xs = passing.looks worth each in
-        let more : passed_sum worth old.head xs + n * worth s ≤ passed_sum worth head xs = more_passed worth in
-        let one : 1 ≤ worth s = each s (subst (λ x. is_reaching x low s ≡ true) passing.sort stood.2) ((due_at address old.head s n due_is).1) in
-        let some : 1 ≤ n * worth s = one_each n (worth s) stood.0 one in
+    looks = λ each has worth counts.
+        let earlier : mid + passed_sum worth begin.head each ≤ before + passed_sum worth old.head each = passing.looks each has worth counts in
+        let more : passed_sum worth old.head each + worth s ≤ passed_sum worth head each = more_passed each (has s stands) worth in
+        let one : 1 ≤ worth s = counts s (subst (λ x. is_reaching x low s ≡ true) passing.sort stood.2) ((due_at address old.head s n due_is).1) in
         let few : after ≤ mid + 1 = looked_one mid after looked in
         omega arith;
   }
@@ -301,7 +295,7 @@ module _ (context : Context) (t : Table) (xs : List Span) (address : ℕ) (old :
     };
     sort = refl;
     begun = settled_begun address old.head e;
-    looks = λ worth. omega arith;
+    looks = λ each worth. omega arith;
   }
 
   pub begin_on : ((span : Span) → times_of_span xs span ≡ t span) → is_settled address old.head ≡ false → (head : Head) → IsStep t old.sort address old.head head → IsHead t old.sort address head → IsBegun head
@@ -323,9 +317,8 @@ module _ (context : Context) (t : Table) (xs : List Span) (address : ℕ) (old :
     };
     sort = refl;
     begun = begun;
-    looks = λ worth.
-        let more : passed_sum worth old.head xs + at_sum worth old.head ≤ passed_sum worth head xs =
-        step_least t xs all old.sort address old.head head step (head_times t old.sort low old.head walked.head) worth in
+    looks = λ each worth.
+        let more : passed_sum worth old.head each ≤ passed_sum worth head each = step_kept t each old.sort address old.head head step worth in
         let few : after ≤ before + 1 = looked_one before after looked in
         omega arith;
   }

@@ -7,7 +7,7 @@ use Rattle.span_index.specs.declared.span.Span.{Span}
 use Rattle.span_index.specs.declared.span.SortName.{SortName}
 use Rattle.span_index.specs.declared.span.SortName.TheVariants.{Owned, Summed, Shown}
 use Rattle.span_index.specs.Reach.{reaching}
-use Rattle.span_index.specs.Sectors.{meets}
+use Rattle.span_index.specs.Sectors.{HasEach, meets}
 use Rattle.span_index.specs.Spans.{Table, end_of, is_sort}
 use Rattle.span_index.specs.Sweep.{IsBegun, passed_sum}
 use Rattle.span_index.specs.Walks.{IsBeyond, IsWalked, due}
@@ -68,17 +68,17 @@ passed runs walks spans =
 pub record AreBeginning (context : Context) (table : Table) (spans : List Span) (address : ℕ) (old new : Walks) (before after : ℕ) : Type 0 where
   pub walked : AreWalked context table spans address address new
   pub begun : AreBegun new
-  pub looks : (runs : List Run) → after + passed runs old spans ≤ before + 3 + passed runs new spans
+  pub looks : (each : List Span) (runs : List Run) → after + passed runs old each ≤ before + 3 + passed runs new each
 
 -- All that is between two addresses meets one of some runs.
 abbrev pub AreCovered : List Run → ℕ → ℕ → Type 0
 AreCovered runs low until =
     (span : Span) → nat_lt 0 span.sectors ≡ true → nat_lt low (end_of span) ≡ true → nat_lt span.first until ≡ true → meets runs span ≡ true
 
--- The walks went on over spans that begin at an address or before it, and each was worth a look.
+-- The walks went on over spans that begin at an address or before it, and each was worth a look, be it there once or more.
 pub record ArePassing (context : Context) (table : Table) (spans : List Span) (low address : ℕ) (old new : Walks) (before after : ℕ) : Type 0 where
   pub walked : AreWalked context table spans low address new
   pub begun : AreBegun new
   pub past : ArePast address new
-  pub looks : (runs : List Run) (until : ℕ) → address < until → AreCovered runs low until
-      → after + passed runs old spans ≤ before + passed runs new spans
+  pub looks : (each : List Span) → HasEach table each → (runs : List Run) (until : ℕ) → address < until → AreCovered runs low until
+      → after + passed runs old each ≤ before + passed runs new each

@@ -2,6 +2,7 @@ pub mod Order
 pub mod OrderLaws
 pub mod Spans
 pub mod Sectors
+pub mod SectorLaws
 pub mod Places
 pub mod Table
 pub mod Reach

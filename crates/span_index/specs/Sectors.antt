@@ -73,10 +73,15 @@ IsFirstBad bad runs (Some least) =
 abbrev pub meets : List Run → Span → Bool
 meets runs span = list_any (λ run. nat_lt span.first run.until && (nat_lt run.from (end_of span) && nat_lt 0 span.sectors)) runs
 
--- Of some list with the spans of a table, each as often as it stands: the answer is the least broken sector inside the runs, and there
--- are no more looks than spans that meet one of the runs, and three for each run and three more.
+-- each span of a table stands in a list, be it once or more
+abbrev pub HasEach : Table → List Span → Type 0
+HasEach table spans = (span : Span) → 0 < table span → 0 < times_of_span spans span
+
+-- Of some list with the spans of a table, each as often as it stands: the answer is the least broken sector inside the runs. Of any list
+-- that has each span, as that of the spans without their repeats: there are no more looks than spans of it that meet one of the runs, and
+-- three for each run and three more.
 pub record Judges (table : Table) (context : Context) (runs : List Run) (answer : Option ℕ) (before after : ℕ) : Type 0 where
   pub spans : List Span
   pub all : (span : Span) → times_of_span spans span ≡ table span
   pub first : IsFirstBad (is_bad context spans) runs answer
-  pub looks : after ≤ before + count_by (meets runs) spans + 3 * length runs + 3
+  pub looks : (each : List Span) → HasEach table each → after ≤ before + count_by (meets runs) each + 3 * length runs + 3

@@ -11,7 +11,7 @@ use Rattle.span_index.specs.declared.span.SortName.TheVariants.{Owned as OwnedNa
 use Rattle.span_index.specs.declared.span.SpanSort.{SpanSort}
 use Rattle.span_index.specs.declared.span.SpanSort.TheVariants.{Owned, Summed, Shown}
 use Rattle.span_index.specs.Reach.{reaching}
-use Rattle.span_index.specs.Sectors.{adds}
+use Rattle.span_index.specs.Sectors.{HasEach, adds}
 use Rattle.span_index.specs.Spans.{Table, end_of}
 use Rattle.span_index.specs.Sweep.{IsBegun, IsHead, is_reaching, passed_sum}
 
@@ -46,13 +46,14 @@ due address Start = None
 due address (At span times) = if nat_le span.first address then Some (span, times) else None
 due address End = None
 
--- A walk went on over spans that begin at an address or before it, and each was worth a look.
+-- A walk went on over spans that begin at an address or before it, and each was worth a look, be it there once or more.
 pub record IsPassing (context : Context) (table : Table) (spans : List Span) (low address : ℕ) (old new : Walk) (before after : ℕ) : Type 0 where
   pub walked : IsWalked context table spans low address new
   pub sort : new.sort ≡ old.sort
   pub begun : IsBegun new.head
-  pub looks : (worth : Span → ℕ) → ((span : Span) → is_reaching old.sort low span ≡ true → span.first ≤ address → 1 ≤ worth span)
-      → after + passed_sum worth old.head spans ≤ before + passed_sum worth new.head spans
+  pub looks : (each : List Span) → HasEach table each
+      → (worth : Span → ℕ) → ((span : Span) → is_reaching old.sort low span ≡ true → span.first ≤ address → 1 ≤ worth span)
+      → after + passed_sum worth old.head each ≤ before + passed_sum worth new.head each
 
 -- whether a walk needs no look to go on from an address: it is behind all spans, or stands at one that ends after the address
 abbrev pub is_settled : ℕ → Head → Bool
@@ -65,7 +66,7 @@ pub record IsBeginning (context : Context) (table : Table) (spans : List Span) (
   pub walked : IsWalked context table spans address address new
   pub sort : new.sort ≡ old.sort
   pub begun : IsBegun new.head
-  pub looks : (worth : Span → ℕ) → after + passed_sum worth old.head spans ≤ before + 1 + passed_sum worth new.head spans
+  pub looks : (each : List Span) (worth : Span → ℕ) → after + passed_sum worth old.head each ≤ before + 1 + passed_sum worth new.head each
 
 -- whether a walk stands at no span that begins before an address
 abbrev pub IsBeyond : ℕ → Head → Type 0

@@ -9,7 +9,7 @@ ghost use Rattle.accounts.specs.Sums.{sum_in};
 ghost use Rattle.span_index.specs.Judging.{AreBeginning, AreBegun, AreCovered, ArePassing, ArePast, AreReached, AreStill, AreWalked, passed};
 ghost use Rattle.span_index.specs.Places.{place_cmp};
 ghost use Rattle.span_index.specs.Reach.{reaching};
-ghost use Rattle.span_index.specs.Sectors.{AreRunsFrom, IsFirstBad, IsRun, Judges, is_bad};
+ghost use Rattle.span_index.specs.Sectors.{AreRunsFrom, HasEach, IsFirstBad, IsRun, Judges, is_bad};
 ghost use Rattle.span_index.specs.Spans.{Table};
 ghost use Rattle.span_index.specs.Sweep.{passed_sum, spans_of};
 ghost use Rattle.span_index.specs.Table.{times_of};
@@ -27,7 +27,7 @@ use recon_disk::Steps;
 impl<L> SpanIndex<L> {
     /// The least multiple of 4096 inside one of some runs where the spans break the rule on a sector. The runs ascend
     /// and do not meet. `None` exactly where there is none. There are no more looks than spans that meet one of the
-    /// runs, three for each run, and three more.
+    /// runs, equal ones counted once, three for each run, and three more.
     pub fn first_bad<C: Ctx>(&self, ctx: &C, runs: &[Run], steps: &mut Steps<L>) -> Option<u64>
         requires { AreRunsFrom 0 runs.now }
         ensures { Judges (times_of self.now) (C.context ctx.now) runs.now result steps.old
@@ -184,9 +184,9 @@ impl Walks {
             low run.now.until result.0 }
         ensures first { IsFirstBad (is_bad (C.context ctx.now) (spans_of index.now)) (run.now ∷ [])
             result.1 }
-        ensures looks { (runs : List Run) → AreCovered runs low run.now.until →
-            steps.new + passed runs self (spans_of index.now)
-            ≤ steps.old + passed runs result.0 (spans_of index.now) }
+        ensures looks { (each : List Span) → HasEach (times_of index.now) each →
+            (runs : List Run) → AreCovered runs low run.now.until →
+            steps.new + passed runs self each ≤ steps.old + passed runs result.0 each }
     {
         let mut walks = self;
         let mut at = run.from;

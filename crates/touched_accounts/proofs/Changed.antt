@@ -10,8 +10,8 @@ use Rattle.accounts.specs.Sums.{added, is_same, total_of}
 use Rattle.accounts.specs.Tally.{Sums}
 use Rattle.accounts.proofs.Kept.{total_joined}
 use Rattle.accounts.proofs.Same.{same_account}
-use Rattle.ledger_index.specs.PlaceLaws.{both}
-use Rattle.ledger_index.specs.Sums.{amount_to, changed, greatest, lower, raise}
+use Rattle.verdict.proofs.Truth.{and_parts}
+use Rattle.ledger_keys.specs.Sums.{amount_to, changed, greatest, lower, raise}
 use Rattle.touched_accounts.specs.AddingLaws.{with_more}
 use Rattle.touched_accounts.specs.Sums.{less_all, with_all}
 
@@ -43,9 +43,9 @@ module _ (sums : Sums) (p : Posting) (room : changed raise sums p.account p.fiel
       → changed raise sums p.account p.field p.amount other n ≡ sums other n + (added p other n + 0)
   unfolding changed added
   put_at other n true is =
-      let parts = both (is_same p.account other) (p.field == n && nat_lt n 9) is in
+      let parts = and_parts (is_same p.account other) (p.field == n && nat_lt n 9) is in
       let at : p.account ≡ other = same_account p.account other parts.0 in
-      let named : p.field ≡ n = eqb-true p.field n (both (p.field == n) (nat_lt n 9) parts.1).0 in
+      let named : p.field ≡ n = eqb-true p.field n (and_parts (p.field == n) (nat_lt n 9) parts.1).0 in
       not_lost greatest (amount_to p.account p.field p.amount other n) (sums other n)
       (subst (λ (k : ℕ). changed raise sums p.account p.field p.amount other k < greatest) named
       (subst (λ (a : Account). changed raise sums p.account p.field p.amount a p.field < greatest) at room))

@@ -3,7 +3,8 @@ use Rattle.std.specs.Prelude.{◌≡◌, ℕ, List, length, OnOk}
 use Rattle.accounts.specs.declared.postings.Posting.{Posting}
 use Rattle.accounts.specs.Posts.{Done}
 use Rattle.ledger_index.specs.Ledger.{entries_of, sums_of}
-use Rattle.touched_accounts.specs.Looks.{HaveLooks, counted_times}
+use Rattle.ledger_index.specs.Looks.{counted_times}
+use Rattle.touched_accounts.specs.Looks.{HaveLooks}
 use Rattle.touched_accounts.specs.Sums.{with_all}
 use Rattle.touched_accounts.specs.declared.adding.Adding.{Adding}
 

@@ -1,5 +1,5 @@
 -- What is added to a ledger goes together.
-use Rattle.std.proofs.Common.{◌≡◌, ℕ, zero, suc, ◌+◌, List, [], ◌++◌, length, length-append, refl, ap, sym, ◌∙◌, arith}
+use Rattle.std.proofs.Common.{◌≡◌, ℕ, ◌+◌, List, [], ◌++◌, length, length-append, ap, sym, ◌∙◌, arith}
 use Rattle.std.proofs.Math.Path.{fun_ext}
 use Rattle.std.specs.Prelude.{Ok, Err}
 use Rattle.accounts.specs.declared.postings.Posting.{Posting}
@@ -8,9 +8,9 @@ use Rattle.accounts.specs.Sums.{total_of}
 use Rattle.accounts.specs.Tally.{Sums}
 use Rattle.accounts.proofs.Kept.{total_joined}
 use Rattle.ledger_index.specs.Ledger.{sums_of}
-use Rattle.recon_disk.specs.Outside.{counted}
+use Rattle.ledger_index.specs.Looks.{counted_times}
+use Rattle.ledger_index.specs.LooksLaws.{counted_both, counted_none}
 use Rattle.touched_accounts.specs.Adding.{Adds}
-use Rattle.touched_accounts.specs.Looks.{counted_times}
 use Rattle.touched_accounts.specs.Sums.{with_all}
 use Rattle.touched_accounts.specs.declared.adding.Adding.{Adding}
 
@@ -27,22 +27,6 @@ pub with_more : (sums : Sums) (ps qs : List Posting) → with_all (with_all sums
 unfolding with_all
 with_more sums ps qs = fun_ext (λ account. fun_ext (λ n.
     added_both (sums account n) (total_of ps account n) (total_of qs account n) (total_of (ps ++ qs) account n) (total_joined ps qs account n)))
-
--- ---- some looks and then others
-
-pub counted_none : (now : ℕ) → counted_times 0 now ≡ now
-unfolding counted_times
-counted_none now = refl
-
--- one look more
-pub counted_suc : (n m now : ℕ) → m ≡ suc n → counted_times m now ≡ counted (counted_times n now)
-unfolding counted_times
-counted_suc n m now is = ap (λ k. counted_times k now) is
-
-pub counted_both : (m n now : ℕ) → counted_times m (counted_times n now) ≡ counted_times (m + n) now
-unfolding counted_times
-counted_both zero n now = let none : n ≡ 0 + n = omega arith in ap (λ k. counted_times k now) none
-counted_both (suc m) n now = ap counted (counted_both m n now) ∙ sym (counted_suc (m + n) (suc m + n) now (omega arith))
 
 -- ---- a ledger
 

@@ -5,7 +5,8 @@ ghost use Rattle.std.specs.Option.{option_copied};
 ghost use Rattle.accounts.specs.declared.postings.Posting.{Posting};
 ghost use Rattle.ledger_index.specs.Ledger.{IsTidy, entries_of, sums_of};
 ghost use Rattle.touched_accounts.specs.Least.{IsLeastTouched, stands_before};
-ghost use Rattle.touched_accounts.specs.Looks.{HaveLooks, counted_times};
+ghost use Rattle.ledger_index.specs.Looks.{counted_times};
+ghost use Rattle.touched_accounts.specs.Looks.{HaveLooks};
 ghost use Rattle.touched_accounts.specs.Sums.{less_all, with_all};
 
 use accounts::{Account, Postings};

@@ -36,10 +36,13 @@ use Rattle.span_index.specs.Sectors.{times_of_span}
 use Rattle.span_index.specs.Spans.{Table, no_spans}
 use Rattle.span_index.specs.declared.span.Span.{Span}
 use Rattle.span_index.proofs.TableLaws.{same_is, same_itself}
-use Rattle.touched_accounts.specs.Looks.{HaveLooks, counted_times}
+use Rattle.ledger_index.specs.Looks.{counted_times}
+use Rattle.ledger_index.specs.LooksLaws.{counted_both, counted_none}
+use Rattle.ledger_index.proofs.LooksLaws.{counted_few}
+use Rattle.touched_accounts.specs.Looks.{HaveLooks}
 use Rattle.touched_accounts.specs.Sums.{with_all}
-use Rattle.touched_accounts.specs.AddingLaws.{counted_both, counted_none, with_more, with_none}
-use Rattle.touched_accounts.proofs.Counted.{counted_few, counted_next, looks_stay}
+use Rattle.touched_accounts.specs.AddingLaws.{with_more, with_none}
+use Rattle.touched_accounts.proofs.Counted.{counted_next, looks_stay}
 use Rattle.commit_judge.specs.Filling.{Filled, looks_of, of_none, with_located, with_option}
 use Rattle.commit_judge.specs.Flags.{free_in}
 

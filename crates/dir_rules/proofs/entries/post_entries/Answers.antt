@@ -6,11 +6,11 @@ pub loop-entry-init : goal.loop-entry-init
 loop-entry-init g c = leaves_all (cc)
 
 pub loop-entry-preserved : goal.loop-entry-preserved
-loop-entry-preserved g c = leaves_rest g.met.P.Poster.passes c.loop-entry.invariant c.in-Some.ensures.steps c.post_entry.ensures (search rules)
+loop-entry-preserved g c = leaves_rest g.met.P.Poster.passes c.loop-entry.invariant c.in-Some.ensures.steps c.put_entry.ensures (search rules)
 
-pub returns-in_err-post_entry : goal.returns-in_err-post_entry
-returns-in_err-post_entry g c =
-    leaves_cut g.met.P.Poster.passes c.loop-entry.invariant c.in-Some.ensures.steps c.post_entry.ensures (search rules) c.from_residual.ensures.0
+pub returns-in_err-put_entry : goal.returns-in_err-put_entry
+returns-in_err-put_entry g c =
+    leaves_cut g.met.P.Poster.passes c.loop-entry.invariant c.in-Some.ensures.steps c.put_entry.ensures (search rules) c.from_residual.ensures.0
 
 pub returns : goal.returns
 returns g c = leaves_none g.met.P.Poster.passes c.loop-entry.invariant c.in-None.ensures.steps.0

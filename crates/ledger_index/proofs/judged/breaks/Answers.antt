@@ -2,7 +2,7 @@ use Rattle.std.proofs.Common.{ap, ◌∙◌}
 use Rattle.std.proofs.Math.Path.{fun_ext}
 use Rattle.accounts.specs.Broken.{is_broken}
 use Rattle.ledger_index.specs.Judged.{breaks}
-use Rattle.ledger_index.specs.Kept.{kept_sum}
+use Rattle.ledger_keys.specs.Kept.{kept_sum}
 use Rattle.ledger_index.proofs.judged.breaks.Goals as goal
 
 pub returns-in-None : goal.returns-in-None

@@ -1,7 +1,7 @@
 use Rattle.std.proofs.Common.{ap, sym, ◌∙◌}
 use Rattle.ledger_index.specs.Judged.{breaks}
-use Rattle.ledger_index.specs.Kept.{kept_sum, sums_at}
-use Rattle.ledger_index.specs.Seat.{kind_at}
+use Rattle.ledger_keys.specs.Kept.{kept_sum, sums_at}
+use Rattle.ledger_keys.specs.Seat.{kind_at}
 use Rattle.ledger_index.proofs.SeatedLaws.{none_breaks}
 use Rattle.ledger_index.proofs.ledger.breaks_at.Goals as goal
 

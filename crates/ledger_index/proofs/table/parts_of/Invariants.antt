@@ -1,4 +1,4 @@
-use Rattle.ledger_index.specs.Entries.{AreEmpty}
+use Rattle.ledger_maps.specs.Entries.{AreEmpty}
 use Rattle.ledger_index.proofs.table.parts_of.Given as goal
 
 -- no part has an entry

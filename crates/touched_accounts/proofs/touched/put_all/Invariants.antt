@@ -1,6 +1,7 @@
 use Rattle.std.proofs.Common.{◌≡◌, ℕ, ◌+◌, ◌≤◌, take}
 use Rattle.ledger_index.specs.Ledger.{IsTidy, entries_of, sums_of}
-use Rattle.touched_accounts.specs.Looks.{HaveLooks, counted_times}
+use Rattle.ledger_index.specs.Looks.{counted_times}
+use Rattle.touched_accounts.specs.Looks.{HaveLooks}
 use Rattle.touched_accounts.specs.Sums.{with_all}
 use Rattle.touched_accounts.proofs.touched.put_all.Given as goal
 

@@ -12,7 +12,7 @@ use Rattle.account_tally.proofs.shown.SectorTally.take.Goals as goal
 pub returns-in_default-clause-sums : goal.returns-in_default-clause-sums
 returns-in_default-clause-sums g c =
     let context = g.C.Ctx.context c.args.context.now in
-    let whole : context ≡ context_with context.chunks context.nodesize none_free = ap (λ free. context_with context.chunks context.nodesize free) c.requires.all in
+    let whole : context ≡ context_with context.chunks context.nodesize none_free = c.requires.all in
     with_none context.chunks context.nodesize _ (located c.args.one.now)
     (λ address field. ap (λ (x : Context). sector_sum x c.args.one.now.tree (located c.args.one.now).part address field) (sym whole) ∙ c.run_of.ensures.sums c.requires.lawful address field
     ∙ ap (λ r. amount_in r address field) c.in_default.is)
@@ -20,7 +20,7 @@ returns-in_default-clause-sums g c =
 pub returns-in-Some-inode_of-clause-sums : goal.returns-in-Some-inode_of-clause-sums
 returns-in-Some-inode_of-clause-sums g c =
     let context = g.C.Ctx.context c.args.context.now in
-    let whole : context ≡ context_with context.chunks context.nodesize none_free = ap (λ free. context_with context.chunks context.nodesize free) c.requires.all in
+    let whole : context ≡ context_with context.chunks context.nodesize none_free = c.requires.all in
     on_ok c.show.result c.show.ensures.sums
     (with_shown context.chunks context.nodesize _ _ (located c.args.one.now) (Some c.in-Some.run')
     (λ address field. ap (λ (x : Context). sector_sum x c.args.one.now.tree (located c.args.one.now).part address field) (sym whole) ∙ c.run_of.ensures.sums c.requires.lawful address field
@@ -30,7 +30,7 @@ returns-in-Some-inode_of-clause-sums g c =
 pub returns-in-None-clause-sums : goal.returns-in-None-clause-sums
 returns-in-None-clause-sums g c =
     let context = g.C.Ctx.context c.args.context.now in
-    let whole : context ≡ context_with context.chunks context.nodesize none_free = ap (λ free. context_with context.chunks context.nodesize free) c.requires.all in
+    let whole : context ≡ context_with context.chunks context.nodesize none_free = c.requires.all in
     on_ok c.add.result c.add.ensures
     (λ added. with_other context.chunks context.nodesize _ _ (located c.args.one.now) (Some c.in-Some.run')
     (λ address field. ap (λ (x : Context). sector_sum x c.args.one.now.tree (located c.args.one.now).part address field) (sym whole) ∙ c.run_of.ensures.sums c.requires.lawful address field

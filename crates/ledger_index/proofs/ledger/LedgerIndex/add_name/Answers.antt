@@ -1,10 +1,12 @@
 use Rattle.std.proofs.Common.{arith, refl, sym, ⊎_elim}
 use Rattle.accounts.specs.Lent.{account_lent}
 use Rattle.ledger_index.specs.Ledger.{entries_of}
-use Rattle.ledger_index.specs.Sums.{raise}
-use Rattle.ledger_index.proofs.EntryLaws.{full_as, on_err, on_ok, raise_none}
+use Rattle.ledger_keys.specs.Sums.{raise}
+use Rattle.verdict.proofs.Answers.{ok_follows}
+use Rattle.ledger_keys.proofs.SumLaws.{raise_none}
+use Rattle.ledger_maps.proofs.EntryLaws.{full_as, on_err}
 use Rattle.ledger_index.proofs.LedgerLaws.{all_stay, apart_made, at_unpaged, is_tidy, unpaged_changed}
-use Rattle.ledger_index.proofs.LentLaws.{no_seat}
+use Rattle.ledger_keys.proofs.LentLaws.{no_seat}
 use Rattle.ledger_index.proofs.SinglesLaws.{changed_above, changed_nothing}
 use Rattle.ledger_index.proofs.ledger.LedgerIndex.add_name.Goals as goal
 
@@ -27,7 +29,7 @@ invariant_of-self g c = record {
 
 pub returns-clause-ok : goal.returns-clause-ok
 returns-clause-ok g c =
-    on_ok c.add_lent.result
+    ok_follows c.add_lent.result
     (λ is. unpaged_changed raise raise_none (account_lent c.args.name.now) c.args.field c.args.amount c.args.self.now _ (no_seat c.args.name.now) is (λ s. refl))
     c.add_lent.ensures.ok
 

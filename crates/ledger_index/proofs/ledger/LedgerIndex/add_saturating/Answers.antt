@@ -1,7 +1,9 @@
 use Rattle.std.proofs.Common.{arith, refl, sym, ⊎_elim}
 use Rattle.ledger_index.specs.Ledger.{entries_of}
-use Rattle.ledger_index.specs.Sums.{raise}
-use Rattle.ledger_index.proofs.EntryLaws.{full_as, on_err, on_ok, raise_none}
+use Rattle.ledger_keys.specs.Sums.{raise}
+use Rattle.verdict.proofs.Answers.{ok_follows}
+use Rattle.ledger_keys.proofs.SumLaws.{raise_none}
+use Rattle.ledger_maps.proofs.EntryLaws.{full_as, on_err}
 use Rattle.ledger_index.proofs.LedgerLaws.{all_stay, apart_made, at_seat, at_unpaged, is_tidy, seat_changed, unpaged_changed}
 use Rattle.ledger_index.proofs.SinglesLaws.{changed_above, changed_nothing}
 use Rattle.ledger_index.proofs.ledger.LedgerIndex.add_saturating.Goals as goal
@@ -17,7 +19,7 @@ returns-then-not-names_a_sum-clause-entries g c = is_tidy _
 -- to one with a seat
 pub returns-in-Some-clause-ok : goal.returns-in-Some-clause-ok
 returns-in-Some-clause-ok g c =
-    on_ok c.add.result (λ is. seat_changed raise raise_none c.args.account.now c.args.field c.args.amount c.args.self.now _ c.in-Some.seat (sym c.in-Some.ensures.seat) is refl)
+    ok_follows c.add.result (λ is. seat_changed raise raise_none c.args.account.now c.args.field c.args.amount c.args.self.now _ c.in-Some.seat (sym c.in-Some.ensures.seat) is refl)
     c.add.ensures.ok
 
 pub returns-in-Some-clause-full : goal.returns-in-Some-clause-full
@@ -42,7 +44,7 @@ invariant_of-self-in-None g c = record {
 
 pub returns-in-None-clause-ok : goal.returns-in-None-clause-ok
 returns-in-None-clause-ok g c =
-    on_ok c.add_saturating.result
+    ok_follows c.add_saturating.result
     (λ is. unpaged_changed raise raise_none c.args.account.now c.args.field c.args.amount c.args.self.now _ (sym c.in-None.ensures.seat) is (λ s. refl))
     c.add_saturating.ensures.ok
 

@@ -2,7 +2,7 @@ use Rattle.std.proofs.Common.{ap, sym, ◌∙◌}
 use Rattle.std.proofs.Math.Path.{fun_ext}
 use Rattle.accounts.proofs.First.{unposted}
 use Rattle.accounts.specs.Broken.{is_broken}
-use Rattle.ledger_index.specs.Kept.{sums_at}
+use Rattle.ledger_keys.specs.Kept.{sums_at}
 use Rattle.ledger_index.proofs.LedgerLaws.{at_seat, at_unpaged}
 use Rattle.ledger_index.proofs.ledger.LedgerIndex.breaks.Goals as goal
 

@@ -1,6 +1,6 @@
 use Rattle.std.proofs.Common.{List, ◌∷◌}
-use Rattle.ledger_index.specs.declared.page.Page.{Page}
-use Rattle.ledger_index.specs.declared.seat.PageKey.{PageKey}
+use Rattle.ledger_maps.specs.declared.page.Page.{Page}
+use Rattle.ledger_keys.specs.declared.seat.PageKey.{PageKey}
 use Rattle.ledger_index.specs.Judged.{IsLeastBut}
 use Rattle.ledger_index.specs.Ledger.{sums_of}
 use Rattle.ledger_index.specs.Seated.{left_pages, left_slots}

@@ -1,6 +1,6 @@
 use Rattle.std.proofs.Common.{refl, sym}
-use Rattle.ledger_index.specs.Sums.{lower}
-use Rattle.ledger_index.proofs.EntryLaws.{lower_none}
+use Rattle.ledger_keys.specs.Sums.{lower}
+use Rattle.ledger_keys.proofs.SumLaws.{lower_none}
 use Rattle.ledger_index.proofs.LedgerLaws.{apart_changed, is_tidy, seat_changed, unpaged_changed}
 use Rattle.ledger_index.proofs.SinglesLaws.{changed_above}
 use Rattle.ledger_index.proofs.ledger.LedgerIndex.take.Goals as goal

@@ -1,5 +1,5 @@
 use Rattle.std.proofs.Common.{ap, sym, ◌∙◌}
-use Rattle.ledger_index.specs.Kept.{sums_at}
+use Rattle.ledger_keys.specs.Kept.{sums_at}
 use Rattle.ledger_index.proofs.LedgerLaws.{at_seat, at_unpaged}
 use Rattle.ledger_index.proofs.ledger.LedgerIndex.totals_of.Goals as goal
 

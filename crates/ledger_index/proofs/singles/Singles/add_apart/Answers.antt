@@ -1,10 +1,12 @@
 use Rattle.std.proofs.Common.{ap, arith, sym, refl}
-use Rattle.ledger_index.specs.Sums.{raise}
-use Rattle.ledger_index.specs.Entries.{by_parts}
-use Rattle.ledger_index.specs.Kept.{sums_at}
+use Rattle.ledger_keys.specs.Sums.{raise}
+use Rattle.ledger_maps.specs.Entries.{by_parts}
+use Rattle.ledger_keys.specs.Kept.{sums_at}
 use Rattle.ledger_index.specs.Singles.{entries_of, long_in}
-use Rattle.ledger_index.specs.LongPlace.{is_same_long, part_of}
-use Rattle.ledger_index.proofs.EntryLaws.{changes_after, full_as, in_err, on_err, on_ok, raise_none, stays_after}
+use Rattle.ledger_keys.specs.LongPlace.{is_same_long, part_of}
+use Rattle.verdict.proofs.Answers.{ok_follows}
+use Rattle.ledger_keys.proofs.SumLaws.{raise_none}
+use Rattle.ledger_maps.proofs.EntryLaws.{changes_after, full_as, in_err, on_err, stays_after}
 use Rattle.ledger_index.proofs.SinglesLaws.{all_stay, at_long, at_whole, long_changed, whole_changed}
 use Rattle.ledger_index.proofs.singles.Singles.add_apart.Goals as goal
 
@@ -19,7 +21,7 @@ returns-in_err-seed-in-Some-clause-few c = omega (arith, c.seed.ensures.count)
 
 pub returns-in_ok-seed-in-Some-clause-ok : goal.returns-in_ok-seed-in-Some-clause-ok
 returns-in_ok-seed-in-Some-clause-ok c =
-    on_ok c.add.result (λ is. long_changed raise raise_none _ _ _ _ _ _ c.requires.apart (sym c.in-Some.ensures)
+    ok_follows c.add.result (λ is. long_changed raise raise_none _ _ _ _ _ _ c.requires.apart (sym c.in-Some.ensures)
     (changes_after is_same_long raise (long_in c.args.self.now) (by_parts is_same_long part_of c.seed.new.self.parts.items)
     (by_parts is_same_long part_of c.add.new.self.parts.items) _ _ _ c.seed.ensures.same is) (λ l. refl) (λ q. refl)) c.add.ensures.ok
 
@@ -32,7 +34,7 @@ returns-in_ok-seed-in-Some-clause-err c =
 
 pub returns-in-None-clause-ok : goal.returns-in-None-clause-ok
 returns-in-None-clause-ok c =
-    on_ok c.add-in-None.result (λ is. whole_changed raise raise_none _ _ _ _ _ c.requires.apart (sym c.in-None.ensures) is (λ l. refl) (λ p. refl)) c.add-in-None.ensures.ok
+    ok_follows c.add-in-None.result (λ is. whole_changed raise raise_none _ _ _ _ _ c.requires.apart (sym c.in-None.ensures) is (λ l. refl) (λ p. refl)) c.add-in-None.ensures.ok
 
 pub returns-in-None-clause-err : goal.returns-in-None-clause-err
 returns-in-None-clause-err c = on_err c.add-in-None.result (λ is. all_stay _ _ (λ p n. refl) (λ l n. refl) is) c.add-in-None.ensures.err

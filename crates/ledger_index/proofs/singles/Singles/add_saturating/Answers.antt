@@ -1,17 +1,19 @@
 use Rattle.std.proofs.Common.{ap, arith, sym, refl}
-use Rattle.ledger_index.specs.Sums.{raise}
-use Rattle.ledger_index.specs.Entries.{by_parts}
-use Rattle.ledger_index.specs.Kept.{sums_at}
+use Rattle.ledger_keys.specs.Sums.{raise}
+use Rattle.ledger_maps.specs.Entries.{by_parts}
+use Rattle.ledger_keys.specs.Kept.{sums_at}
 use Rattle.ledger_index.specs.Singles.{entries_of, short_in}
-use Rattle.ledger_index.specs.Place.{is_same_place, part_of}
-use Rattle.ledger_index.proofs.EntryLaws.{changes_after, full_as, in_err, on_err, on_ok, raise_none, stays_after}
+use Rattle.ledger_keys.specs.Place.{is_same_place, part_of}
+use Rattle.verdict.proofs.Answers.{ok_follows}
+use Rattle.ledger_keys.proofs.SumLaws.{raise_none}
+use Rattle.ledger_maps.proofs.EntryLaws.{changes_after, full_as, in_err, on_err, stays_after}
 use Rattle.ledger_index.proofs.SinglesLaws.{all_stay, at_place, short_changed}
 use Rattle.ledger_index.proofs.singles.Singles.add_saturating.Goals as goal
 
 -- to the entry that was last found
 pub returns-in-Some-clause-ok : goal.returns-in-Some-clause-ok
 returns-in-Some-clause-ok g c =
-    on_ok c.add_at.result (λ is. short_changed raise raise_none _ _ _ _ _ _ c.in-Some.ensures.0 is (λ l. refl) (λ q. refl)) c.add_at.ensures.ok
+    ok_follows c.add_at.result (λ is. short_changed raise raise_none _ _ _ _ _ _ c.in-Some.ensures.0 is (λ l. refl) (λ q. refl)) c.add_at.ensures.ok
 
 pub returns-in-Some-clause-err : goal.returns-in-Some-clause-err
 returns-in-Some-clause-err g c =
@@ -23,7 +25,7 @@ returns-in-Some-clause-full g c = full_as c.add_at.result _ _ (at_place _ _ _ (s
 -- to one that is found by its hash
 pub returns-in-Some-of-clause-ok : goal.returns-in-Some-of-clause-ok
 returns-in-Some-of-clause-ok g c =
-    on_ok c.add_by_hash.result (λ is. short_changed raise raise_none _ _ _ _ _ _ (sym c.in-Some-of.ensures)
+    ok_follows c.add_by_hash.result (λ is. short_changed raise raise_none _ _ _ _ _ _ (sym c.in-Some-of.ensures)
     (changes_after is_same_place raise (short_in c.args.self.now) (by_parts is_same_place part_of c.seed-in-Some-of.new.self.parts.items)
     (by_parts is_same_place part_of c.add_by_hash.new.self.parts.items) _ _ _ c.seed-in-Some-of.ensures.same is) (λ l. refl) (λ q. refl)) c.add_by_hash.ensures.ok
 

@@ -1,7 +1,7 @@
 use Rattle.std.proofs.Common.{ap, sym, ◌∙◌}
 use Rattle.accounts.proofs.First.{unposted}
 use Rattle.accounts.specs.Broken.{is_broken}
-use Rattle.ledger_index.specs.Kept.{sums_at}
+use Rattle.ledger_keys.specs.Kept.{sums_at}
 use Rattle.ledger_index.specs.Singles.{sums_of}
 use Rattle.ledger_index.proofs.singles.Singles.breaks.Goals as goal
 

@@ -1,8 +1,8 @@
 use Rattle.std.proofs.Common.{ap, arith}
-use Rattle.ledger_index.specs.Entries.{by_parts, count_in}
+use Rattle.ledger_maps.specs.Entries.{by_parts, count_in}
 use Rattle.ledger_index.specs.Singles.{entries_of}
-use Rattle.ledger_index.specs.LongPlace as longer
-use Rattle.ledger_index.specs.Place.{is_same_place, part_of}
+use Rattle.ledger_keys.specs.LongPlace as longer
+use Rattle.ledger_keys.specs.Place.{is_same_place, part_of}
 use Rattle.ledger_index.proofs.SinglesLaws.{none_of, sums_none}
 use Rattle.ledger_index.proofs.singles.Singles.new.Goals as goal
 

@@ -1,6 +1,6 @@
 use Rattle.std.proofs.Common.{refl, sym}
-use Rattle.ledger_index.specs.Sums.{lower}
-use Rattle.ledger_index.proofs.EntryLaws.{lower_none}
+use Rattle.ledger_keys.specs.Sums.{lower}
+use Rattle.ledger_keys.proofs.SumLaws.{lower_none}
 use Rattle.ledger_index.proofs.SinglesLaws.{long_changed, short_changed, whole_changed}
 use Rattle.ledger_index.proofs.singles.Singles.take.Goals as goal
 

@@ -1,5 +1,5 @@
 use Rattle.std.proofs.Common.{ap, ◌∙◌}
-use Rattle.ledger_index.specs.Kept.{sums_at}
+use Rattle.ledger_keys.specs.Kept.{sums_at}
 use Rattle.ledger_index.specs.Singles.{sums_of}
 use Rattle.ledger_index.proofs.singles.Singles.totals_of.Goals as goal
 

@@ -1,19 +1,17 @@
 use Rattle.std.proofs.Common.{◌≡◌, length, refl, slice_set, subst, sym, ◌∙◌}
 use Rattle.std.specs.Prelude.{Some, slice_get}
 use Rattle.std.proofs.lemmas.Option.{slice_get_read}
-use Rattle.ledger_index.specs.Entries.{StandsAt, by_parts}
-use Rattle.ledger_index.specs.LongPlace.{is_same_long, part_of}
-use Rattle.ledger_index.specs.Name.{is_same_name}
-use Rattle.ledger_index.specs.Names.{CountedIn, names_in}
-use Rattle.ledger_index.specs.Shifts.{Shifts}
-use Rattle.ledger_index.specs.Side.{has_sums}
-use Rattle.ledger_index.specs.Sums.{lower}
-use Rattle.ledger_index.proofs.EntryLaws.{lower_none}
-use Rattle.ledger_index.proofs.NamesLaws.{counted_part, counted_set, fit_set, has_set, nothing_taken, shifts_set}
+use Rattle.verdict.proofs.Answers.{some_is}
+use Rattle.ledger_maps.specs.Entries.{StandsAt, by_parts}
+use Rattle.ledger_keys.specs.LongPlace.{is_same_long, part_of}
+use Rattle.ledger_keys.specs.Name.{is_same_name}
+use Rattle.ledger_maps.specs.Names.{CountedIn, names_in}
+use Rattle.ledger_keys.specs.Shifts.{Shifts}
+use Rattle.ledger_keys.specs.Side.{has_sums}
+use Rattle.ledger_keys.specs.Sums.{lower}
+use Rattle.ledger_keys.proofs.SumLaws.{lower_none}
+use Rattle.ledger_maps.proofs.NamesLaws.{counted_part, counted_set, fit_set, has_set, nothing_taken, shifts_set}
 use Rattle.ledger_index.proofs.table.Table+LongPlace.lower.Goals as goal
-
-some_is : {A : Type 0} (a b : A) → Some a ≡ Some b → a ≡ b
-some_is a b is = cc is
 
 -- no entry of the name stands
 pub returns-in_default-clause-less : goal.returns-in_default-clause-less

@@ -1,8 +1,8 @@
 use Rattle.std.proofs.Common.{arith, length, refl, sym}
 use Rattle.std.proofs.lemmas.Option.{slice_get_read}
-use Rattle.ledger_index.proofs.EntryLaws.{on_err}
-use Rattle.ledger_index.proofs.NamesLaws.{counted_part, counted_set, fit_set, if_ok, posted_set, rests_set}
-use Rattle.ledger_index.proofs.PartLaws.{count_set}
+use Rattle.ledger_maps.proofs.EntryLaws.{on_err}
+use Rattle.ledger_maps.proofs.NamesLaws.{counted_part, counted_set, fit_set, if_ok, posted_set, rests_set}
+use Rattle.ledger_maps.proofs.PartLaws.{count_set}
 use Rattle.ledger_index.proofs.table.Table+LongPlace.post_at.Goals as goal
 
 pub invariant_of-self : goal.invariant_of-self

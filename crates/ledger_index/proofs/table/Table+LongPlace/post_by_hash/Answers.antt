@@ -1,7 +1,7 @@
 use Rattle.std.proofs.Common.{arith, length, refl, sym}
 use Rattle.std.proofs.lemmas.Option.{slice_get_read}
-use Rattle.ledger_index.proofs.NamesLaws.{counted_part, counted_set, fit_set, posted_set, rests_set}
-use Rattle.ledger_index.proofs.PartLaws.{count_set}
+use Rattle.ledger_maps.proofs.NamesLaws.{counted_part, counted_set, fit_set, posted_set, rests_set}
+use Rattle.ledger_maps.proofs.PartLaws.{count_set}
 use Rattle.ledger_index.proofs.table.Table+LongPlace.post_by_hash.Goals as goal
 
 pub invariant_of-self : goal.invariant_of-self

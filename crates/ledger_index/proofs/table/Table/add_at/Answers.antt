@@ -1,9 +1,11 @@
 use Rattle.std.proofs.Common.{arith, ap, refl, sym, length}
 use Rattle.std.proofs.lemmas.Option.{slice_get_read}
-use Rattle.ledger_index.specs.Kept.{sums_at}
-use Rattle.ledger_index.specs.Sums.{raise}
-use Rattle.ledger_index.proofs.EntryLaws.{full_as, on_err, on_ok, raise_none}
-use Rattle.ledger_index.proofs.PartLaws.{changes_part, count_set, fit_part, here_new, others_added, stays_part}
+use Rattle.ledger_keys.specs.Kept.{sums_at}
+use Rattle.ledger_keys.specs.Sums.{raise}
+use Rattle.verdict.proofs.Answers.{ok_follows}
+use Rattle.ledger_keys.proofs.SumLaws.{raise_none}
+use Rattle.ledger_maps.proofs.EntryLaws.{full_as, on_err}
+use Rattle.ledger_maps.proofs.PartLaws.{changes_part, count_set, fit_part, here_new, others_added, stays_part}
 use Rattle.ledger_index.proofs.table.Table.add_at.Goals as goal
 
 pub invariant_of-self : goal.invariant_of-self
@@ -19,7 +21,7 @@ pub returns-in-Some-clause-ok : goal.returns-in-Some-clause-ok
 returns-in-Some-clause-ok g c =
     let parts = c.args.self.now.parts.items in
     let there = slice_get_read parts (length parts) c.args.number c.in-Some.part.now refl c.in-Some.ensures.item.3.0 c.in-Some.ensures.item.1 in
-    on_ok c.add_at.result (λ is. changes_part g.K.PartialEq.eq g.met.K.Exact.exact g.K.Exact.part_of parts c.args.number c.in-Some.part.now c.add_at.new.part
+    ok_follows c.add_at.result (λ is. changes_part g.K.PartialEq.eq g.met.K.Exact.exact g.K.Exact.part_of parts c.args.number c.in-Some.part.now c.add_at.new.part
     c.in-Some.ensures.item.3.0 there raise raise_none c.args.key.now (sym c.requires.home) c.args.field c.args.amount is) c.add_at.ensures.ok
 
 pub returns-in-Some-clause-full : goal.returns-in-Some-clause-full

@@ -1,9 +1,9 @@
 use Rattle.std.proofs.Common.{◌<◌, arith, ap, refl, sym, length, subst}
 use Rattle.std.proofs.lemmas.Option.{slice_get_read}
-use Rattle.ledger_index.specs.Kept.{sums_at}
-use Rattle.ledger_index.specs.Sums.{greatest, raise}
-use Rattle.ledger_index.proofs.EntryLaws.{raise_none}
-use Rattle.ledger_index.proofs.PartLaws.{changes_part, count_set, fit_part, here_new, others_added, stays_part}
+use Rattle.ledger_keys.specs.Kept.{sums_at}
+use Rattle.ledger_keys.specs.Sums.{greatest, raise}
+use Rattle.ledger_keys.proofs.SumLaws.{raise_none}
+use Rattle.ledger_maps.proofs.PartLaws.{changes_part, count_set, fit_part, here_new, others_added, stays_part}
 use Rattle.ledger_index.proofs.table.Table.add_by_hash.Goals as goal
 
 -- the amount was added

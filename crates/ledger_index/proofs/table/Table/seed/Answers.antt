@@ -1,5 +1,5 @@
 use Rattle.std.proofs.Common.{rules, sym, ◌∙◌}
-use Rattle.ledger_index.proofs.PartLaws.{empty_count, none_count}
+use Rattle.ledger_maps.proofs.PartLaws.{empty_count, none_count}
 use Rattle.ledger_index.proofs.table.Table.seed.Goals as goal
 
 pub returns-in_ok-self-clause-count : goal.returns-in_ok-self-clause-count

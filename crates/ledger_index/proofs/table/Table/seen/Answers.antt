@@ -1,7 +1,7 @@
 use Rattle.std.proofs.Common.{ap, length, refl, sym, ◌∙◌}
 use Rattle.std.specs.List.{slice_get}
 use Rattle.std.proofs.lemmas.Option.{slice_get_read}
-use Rattle.ledger_index.proofs.PlacedLaws.{stands}
+use Rattle.ledger_maps.proofs.PlacedLaws.{stands}
 use Rattle.ledger_index.proofs.table.Table.seen.Goals as goal
 
 -- the keys of a part have its number

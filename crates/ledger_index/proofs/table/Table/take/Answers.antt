@@ -1,9 +1,9 @@
 use Rattle.std.proofs.Common.{◌<◌, arith, refl, sym, length, slice_set, subst}
 use Rattle.std.proofs.lemmas.Option.{slice_get_read, slice_get_within}
-use Rattle.ledger_index.specs.Entries.{Changes, by_parts}
-use Rattle.ledger_index.specs.Sums.{lower}
-use Rattle.ledger_index.proofs.EntryLaws.{lower_none}
-use Rattle.ledger_index.proofs.PartLaws.{changes_part, fit_part, others_stay}
+use Rattle.ledger_maps.specs.Entries.{Changes, by_parts}
+use Rattle.ledger_keys.specs.Sums.{lower}
+use Rattle.ledger_keys.proofs.SumLaws.{lower_none}
+use Rattle.ledger_maps.proofs.PartLaws.{changes_part, fit_part, others_stay}
 use Rattle.ledger_index.proofs.table.Table.take.Goals as goal
 
 pub invariant_of-self : goal.invariant_of-self

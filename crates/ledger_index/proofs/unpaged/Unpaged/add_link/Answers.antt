@@ -1,10 +1,10 @@
 use Rattle.std.proofs.Common.{arith, not, refl, subst, ◌∙◌}
-use Rattle.ledger_index.specs.Name.{is_same_name}
-use Rattle.ledger_index.specs.Names.{names_in}
-use Rattle.ledger_index.specs.Shifts.{Posted}
+use Rattle.ledger_keys.specs.Name.{is_same_name}
+use Rattle.ledger_maps.specs.Names.{names_in}
+use Rattle.ledger_keys.specs.Shifts.{Posted}
 use Rattle.ledger_index.specs.Unpaged.{entries_of}
-use Rattle.ledger_index.specs.Sums.{raise}
-use Rattle.ledger_index.proofs.EntryLaws.{raise_none}
+use Rattle.ledger_keys.specs.Sums.{raise}
+use Rattle.ledger_keys.proofs.SumLaws.{raise_none}
 use Rattle.ledger_index.proofs.UnpagedLaws.{all_stay, full_name, none_after, once_shifted, own_none, to_name}
 use Rattle.ledger_index.proofs.unpaged.Unpaged.add_link.Goals as goal
 

@@ -1,9 +1,11 @@
 use Rattle.std.proofs.Common.{arith, refl, subst, sym, ap, ◌∙◌}
 use Rattle.ledger_index.specs.Added.{IsAdded}
-use Rattle.ledger_index.specs.Names.{names_in}
+use Rattle.ledger_maps.specs.Names.{names_in}
 use Rattle.ledger_index.specs.Unpaged.{entries_of}
-use Rattle.ledger_index.specs.Sums.{changed, raise}
-use Rattle.ledger_index.proofs.EntryLaws.{on_err, on_ok, raise_none}
+use Rattle.ledger_keys.specs.Sums.{changed, raise}
+use Rattle.verdict.proofs.Answers.{ok_follows}
+use Rattle.ledger_keys.proofs.SumLaws.{raise_none}
+use Rattle.ledger_maps.proofs.EntryLaws.{on_err}
 use Rattle.ledger_index.proofs.UnpagedLaws.{all_stay, full_single, named_made, once_made, to_single}
 use Rattle.ledger_index.proofs.unpaged.Unpaged.add_saturating.Goals as goal
 
@@ -23,7 +25,7 @@ pub returns-in-Ok-None-clause-ok : goal.returns-in-Ok-None-clause-ok
 returns-in-Ok-None-clause-ok g c =
     let mid = c.add_named.new.self in
     let added = subst (IsAdded c.args.self.now mid c.args.account.now c.args.field c.args.amount) c.in-Ok-None.field-0-is c.in-Ok-None.ensures.ok in
-    on_ok c.add_saturating.result
+    ok_follows c.add_saturating.result
     (λ is. to_single mid _ raise raise_none c.args.account.now c.args.field c.args.amount added.1.none (λ t n. refl) is
     ∙ ap (λ s. changed raise s c.args.account.now c.args.field c.args.amount) added.0) c.add_saturating.ensures.ok
 

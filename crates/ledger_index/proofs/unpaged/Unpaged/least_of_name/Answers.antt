@@ -1,6 +1,6 @@
 use Rattle.std.proofs.Common.{◌∷◌}
 use Rattle.ledger_index.specs.Named.{left_links, left_names}
-use Rattle.ledger_index.specs.Names.{names_in}
+use Rattle.ledger_maps.specs.Names.{names_in}
 use Rattle.ledger_index.proofs.NamedLaws.{entry_passed, has_there, link_passed}
 use Rattle.ledger_index.proofs.unpaged.Unpaged.least_of_name.Goals as goal
 

@@ -1,5 +1,5 @@
 use Rattle.std.proofs.Common.{⊎_elim, sym, ◌∙◌, arith}
-use Rattle.ledger_index.specs.Names.{names_in}
+use Rattle.ledger_maps.specs.Names.{names_in}
 use Rattle.ledger_index.proofs.UnpagedLaws.{at_free, at_has, at_none, at_past, has_by, none_by, rule_of}
 use Rattle.ledger_index.proofs.unpaged.Unpaged.named.Goals as goal
 

@@ -1,5 +1,5 @@
 use Rattle.std.proofs.Common.{ap, arith}
-use Rattle.ledger_index.specs.Entries.{count_in}
+use Rattle.ledger_maps.specs.Entries.{count_in}
 use Rattle.ledger_index.specs.Unpaged.{entries_of}
 use Rattle.ledger_index.proofs.UnpagedLaws.{no_parts, sums_none}
 use Rattle.ledger_index.proofs.unpaged.Unpaged.new.Goals as goal

@@ -1,7 +1,7 @@
 use Rattle.std.proofs.Common.{ap, refl, ◌∙◌}
-use Rattle.ledger_index.specs.Names.{names_in}
-use Rattle.ledger_index.specs.Sums.{changed, lower}
-use Rattle.ledger_index.proofs.EntryLaws.{lower_none}
+use Rattle.ledger_maps.specs.Names.{names_in}
+use Rattle.ledger_keys.specs.Sums.{changed, lower}
+use Rattle.ledger_keys.proofs.SumLaws.{lower_none}
 use Rattle.ledger_index.proofs.UnpagedLaws.{named_lowered, once_single, to_single}
 use Rattle.ledger_index.proofs.unpaged.Unpaged.take.Goals as goal
 

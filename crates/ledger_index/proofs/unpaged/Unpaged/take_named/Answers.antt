@@ -1,9 +1,9 @@
 use Rattle.std.proofs.Common.{arith, refl, sym, ◌∙◌}
-use Rattle.ledger_index.specs.Entries.{by_parts}
-use Rattle.ledger_index.specs.LongPlace.{is_same_long, part_of}
-use Rattle.ledger_index.specs.Names.{names_in}
-use Rattle.ledger_index.specs.Sums.{lower}
-use Rattle.ledger_index.proofs.EntryLaws.{lower_none}
+use Rattle.ledger_maps.specs.Entries.{by_parts}
+use Rattle.ledger_keys.specs.LongPlace.{is_same_long, part_of}
+use Rattle.ledger_maps.specs.Names.{names_in}
+use Rattle.ledger_keys.specs.Sums.{lower}
+use Rattle.ledger_keys.proofs.SumLaws.{lower_none}
 use Rattle.ledger_index.proofs.UnpagedLaws.{all_stay, nothing_taken, once_taken, to_name}
 use Rattle.ledger_index.proofs.unpaged.Unpaged.take_named.Goals as goal
 

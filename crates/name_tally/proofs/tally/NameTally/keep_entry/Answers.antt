@@ -1,6 +1,7 @@
 use Rattle.std.proofs.Common.{[]}
 use Rattle.fs_items.specs.Lent.{entry_fields}
-use Rattle.name_tally.specs.Slots.{entry_row, led_in, slot_sums}
+use Rattle.name_tally.specs.Slots.{led_in, slot_sums}
+use Rattle.name_tally.specs.Names.{entry_row}
 use Rattle.name_tally.proofs.Sums.{but_nothing, but_then, slots_at}
 use Rattle.name_tally.proofs.tally.NameTally.keep_entry.Goals as goal
 

@@ -2,7 +2,8 @@ use Rattle.std.proofs.Common.{[]}
 use Rattle.fs_items.specs.Lent.{entry_fields}
 use Rattle.inode_tally.specs.Held.{inodes_apart}
 use Rattle.name_tally.specs.Names.{names_apart}
-use Rattle.name_tally.specs.Slots.{entry_row, led_in}
+use Rattle.name_tally.specs.Slots.{led_in}
+use Rattle.name_tally.specs.Names.{entry_row}
 use Rattle.name_tally.proofs.Claims.{keeps_nothing}
 use Rattle.name_tally.proofs.Sums.{adds_passed, adds_told, but_nothing, but_same, on_ok}
 use Rattle.name_tally.proofs.tally.NameTally.take_entry.Goals as goal

@@ -1,7 +1,7 @@
 use Rattle.std.proofs.Common.{sym}
 use Rattle.ledger_index.specs.Ledger.{entries_of, sums_of}
-use Rattle.ledger_index.proofs.EntryLaws.{on_ok}
-use Rattle.touched_accounts.specs.AddingLaws.{counted_none}
+use Rattle.verdict.proofs.Answers.{ok_follows}
+use Rattle.ledger_index.specs.LooksLaws.{counted_none}
 use Rattle.touched_accounts.proofs.Changed.{put_last}
 use Rattle.touched_accounts.proofs.Counted.{counted_next, looks_more}
 use Rattle.touched_accounts.proofs.adding.AddingPoster.put.Goals as goal
@@ -10,10 +10,10 @@ pub returns : goal.returns
 returns g c =
     let old = c.args.self.now in
     record {
-      sums = on_ok c.whole.result
+      sums = ok_follows c.whole.result
           (λ whole. put_last (sums_of old.ledger) (sums_of c.add_saturating.new.self) c.args.posting c.in_ok-full.ensures.ok (c.in_ok-full.ensures.full whole))
           c.whole.ensures;
-      looks = on_ok c.whole.result (λ whole. counted_next 0 _ _ _ (sym (counted_none old.steps.now)) c.add_saturating.ensures.looks) c.whole.ensures;
+      looks = ok_follows c.whole.result (λ whole. counted_next 0 _ _ _ (sym (counted_none old.steps.now)) c.add_saturating.ensures.looks) c.whole.ensures;
       few = λ begun have. looks_more begun (entries_of old.ledger) (entries_of c.add_saturating.new.self) old.steps.now c.add_saturating.new.steps
           c.add_saturating.ensures.few c.add_saturating.ensures.looks have;
     }

@@ -1,0 +1,12 @@
+pub mod Sums
+pub mod Kept
+pub mod Place
+pub mod PlaceLaws
+pub mod LongPlace
+pub mod LongPlaceLaws
+pub mod Seat
+pub mod SeatLaws
+pub mod Side
+pub mod Shifts
+pub mod Name
+pub mod Link
