@@ -8,7 +8,8 @@ Usage: definitions.py            prints the list
 It begins at the imports of crates/recon_cli/src/run.rt, where `recon_run` and its contract stand, and follows each
 `use Rattle.CRATE.specs.FILE` into crates/CRATE/specs/FILE.antt, whose imports it follows too. A type of the code, which
 is imported as `specs.declared.FILE.TYPE`, is listed by its name. What no crate of the repository has, as `std`, comes
-with the toolchain. What only `make` needs is listed apart, and so is what only the clause `looks` of a replay needs."""
+with the toolchain. What only `make` needs is listed apart, and so is what only the clauses `looks` and `stops` of a
+replay need."""
 import collections
 import os
 import re
@@ -16,7 +17,8 @@ import sys
 import textwrap
 
 DOCUMENT, ROOT_FILE = 'docs/proof.md', 'crates/recon_cli/src/run.rt'
-APART = [('For `make` besides', ('recon_cli', ('Making',))), ('For the clause `looks` of a replay besides', ('recon_cli', ('Looks',)))]
+APART = [('For `make` besides', ('recon_cli', ('Making',))), ('For the clause `looks` of a replay besides', ('recon_cli', ('Looks',))),
+         ('For the clause `stops` of a replay besides', ('recon_cli', ('Moments',)))]
 BEGIN, END = '<!-- made by tests/definitions.py --write -->', '<!-- end of what is made -->'
 IMPORT = re.compile(r'use Rattle\.(\w+)\.specs\.(\w+(?:\.\w+)*)')
 

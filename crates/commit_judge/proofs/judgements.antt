@@ -1,6 +1,7 @@
 -- How a commit is judged.
 pub mod Counts
 pub mod Judge
+pub mod Known
 pub mod Looks
 pub mod Moves
 pub mod Passed

@@ -14,4 +14,5 @@ pub mod Work
 pub mod Start
 pub mod Filling
 pub mod Stops
+pub mod EachKnown
 pub mod Looks

@@ -1,6 +1,7 @@
 //! Laws of the judge. Each stands on a function that does nothing.
 
 ghost use Rattle.commit_laws.specs.Frame.{FrameLaw};
+ghost use Rattle.commit_judge.specs.EachKnown.{EachIsKnown};
 ghost use Rattle.commit_judge.specs.Judging.{CountsLaw, TriedLaw};
 ghost use Rattle.commit_judge.specs.Looks.{FewLooksLaw};
 ghost use Rattle.commit_judge.specs.Stops.{SafeStops};
@@ -27,6 +28,13 @@ pub(crate) fn counts_law()
     held_law();
     hot_law();
 }
+
+/// Something is known of each image that the full check accepts. So the laws below, on what is known of an image, speak of
+/// every accepted one.
+#[tactic(auto, using(crate::proofs::judgements::Known::each_is_known))]
+pub fn known_law()
+    ensures { EachIsKnown }
+{}
 
 /// The frame law: an image of the same length as an accepted one, with the same 4,096 bytes from byte 65,536 on and the same bytes in each
 /// copy of the block of each live pair, has the same full check and the same walks. The same is known of both, so that an index that stands

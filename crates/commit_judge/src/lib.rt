@@ -22,4 +22,4 @@ mod spans;
 pub use build::Built;
 pub use index::Index;
 pub use judge::{Judged, judge_commit, judge_within};
-pub use laws::{few_looks_law, frame_law, stop_law, work_law};
+pub use laws::{few_looks_law, frame_law, known_law, stop_law, work_law};

@@ -4,6 +4,7 @@ pub mod Going
 pub mod Handing
 pub mod HowOften
 pub mod Made
+pub mod Moments
 mod OneForm
 pub mod Reaching
 pub mod Start

@@ -8,3 +8,4 @@ pub mod Stopping
 pub mod Making
 pub mod Status
 pub mod Turns
+pub mod Moments

@@ -1,12 +1,16 @@
 -- What one event does. It serves to state what private functions keep.
-use Rattle.std.specs.Prelude.{ℕ, ◌≡◌, true, false, nat_lt, List, ◌++◌, length, Option, Some, None}
+use Rattle.std.specs.Prelude.{ℕ, ◌≡◌, true, false, nat_lt, List, ◌++◌, length, Option, Some, None, IfSome}
 use Rattle.verdict.specs.declared.machine.Event.{Event}
+use Rattle.verdict.specs.declared.machine.Answer.TheVariants.{Passed}
 use Rattle.verdict.specs.Events.{begin_of, end_of}
+use Rattle.recon_disk.specs.Stops.{Moment}
 use Rattle.recon_core.specs.declared.checker.Checker.{Checker}
 use Rattle.recon_core.specs.Machine.{MachineState, machine_step}
 use Rattle.recon_core.specs.Looks.{HasLooks, work_at}
 use Rattle.recon_core.specs.Reads.{HasReads}
-use Rattle.recon_core.specs.Standing.{StandsFor}
+use Rattle.recon_core.specs.Moments.{EachLeaves, IsFlushedAs}
+use Rattle.recon_core.specs.Standing.{IsAccepted, StandsFor}
+use Rattle.recon_core.specs.Stops.{IsStopImage}
 use Rattle.recon_cli.specs.Outcome.{answer_text, counts_after, is_settle, past_end}
 use Rattle.recon_cli.specs.declared.counts.Counts.{Counts}
 use Rattle.recon_cli.specs.declared.lines.Style.{Style}
@@ -47,3 +51,15 @@ MayStep s t event None checker new disk before after first last =
     StepsOn s t event checker new disk × HasReads (machine_step s event).answer before after
     × HasLooks (machine_step s event).answer (work_at s event) first last
 MayStep s t event (Some status) checker new disk before after first last = Unit {0}
+
+-- Moments that one event adds behind older ones: a stop at one leaves a stop image of the event, which the full check accepts where the
+-- event's line ends in `hot 0`.
+pub record TurnAdds (s : MachineState) (event : Event) (before : List Moment) (now : Option (List Moment)) : Type 0 where
+  pub added : List Moment
+  pub moments : now ≡ Some (added ++ before)
+  pub stops : EachLeaves (IsStopImage s event) added
+  pub safe : (generation blocks : ℕ) → (machine_step s event).answer ≡ Passed generation blocks 0 → EachLeaves IsAccepted added
+
+-- the same of a disk that tells its moments and is settled before
+abbrev pub TurnStopsIn : MachineState → Event → Option (List Moment) → Option (List Moment) → Type 0
+TurnStopsIn s event before now = IfSome before (λ moments. IsFlushedAs s.image moments → TurnAdds s event moments now)

@@ -10,6 +10,7 @@ ghost use Rattle.verdict.specs.declared.finding.Verdict.TheVariants.{Accept};
 ghost use Rattle.records.specs.FullCheck.{full_check};
 ghost use Rattle.recon_cli.specs.Outcome.{line_in, no_counts};
 ghost use Rattle.recon_cli.specs.Looks.{LooksAtMost, LooksEvents};
+ghost use Rattle.recon_cli.specs.Moments.{StopsInEvents};
 ghost use Rattle.recon_cli.specs.Reads.{ReadsAtMost, ReadsEvents};
 ghost use Rattle.recon_cli.specs.Stopped.{StopsAs, StopsFrom};
 ghost use Rattle.recon_cli.specs.Stopping.{FaultStops, IsCutPrint};
@@ -125,6 +126,10 @@ fn take_records<D: Disk, S: Source, K: Sink, L>(
         IsBytes bytes → S.left lent.old.trace.now ≡ Some bytes →
         IfOk result (λ status. status ≡ 0 → LooksEvents first bytes
         lent.old.steps.now lent.new.steps.now) }
+    ensures moments { (first : MachineState) (bytes : List ℕ) →
+        StandsFor replay.old.checker first → D.bytes lent.old.disk.now ≡ Some first.image →
+        IsBytes bytes → S.left lent.old.trace.now ≡ Some bytes → StopsInEvents first bytes
+        (D.moments lent.old.disk.now) (D.moments lent.new.disk.now) }
     ensures status { IfOk result IsOutcomeStatus }
     ensures same { IsSameOutside lent.old lent.new }
     ensures lines { TookLines K.Sink replay.old.style lent.old.out.now lent.new.out.now }
@@ -185,6 +190,11 @@ fn replay_over<D: Disk, S: Source, K: Sink, L>(
         IsBytes bytes → S.left lent.old.trace.now ≡ Some bytes →
         IfOk result (λ status. status ≡ 0 → LooksEvents (first_state image) bytes
         lent.old.steps.now lent.new.steps.now) }
+    ensures moments { (image bytes : List ℕ) →
+        StandsFor checker (first_state image) → D.bytes lent.old.disk.now ≡ Some image →
+        IsBytes bytes → S.left lent.old.trace.now ≡ Some bytes →
+        StopsInEvents (first_state image) bytes
+        (D.moments lent.old.disk.now) (D.moments lent.new.disk.now) }
     ensures status { IfOk result IsOutcomeStatus }
     ensures same { IsSameOutside lent.old lent.new }
     ensures lines { TookLines K.Sink style lent.old.out.now lent.new.out.now }
@@ -227,6 +237,10 @@ pub fn replay<D: Disk, S: Source, K: Sink, L>(
         IsBytes bytes → S.left lent.old.trace.now ≡ Some bytes →
         IfOk result (λ status. status ≡ 0 → LooksAtMost image bytes
         lent.old.steps.now lent.new.steps.now) }
+    ensures moments { (image bytes : List ℕ) → D.bytes lent.old.disk.now ≡ Some image →
+        IsBytes bytes → S.left lent.old.trace.now ≡ Some bytes →
+        StopsInEvents (first_state image) bytes
+        (D.moments lent.old.disk.now) (D.moments lent.new.disk.now) }
     ensures status { IfOk result IsOutcomeStatus }
     ensures same { IsSameOutside lent.old lent.new }
     ensures lines { TookLines K.Sink style lent.old.out.now lent.new.out.now }

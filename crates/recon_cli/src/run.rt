@@ -9,7 +9,9 @@ ghost use Rattle.recon_cli.specs.Words.{AsksToMake, IsForm, IsNoForm};
 ghost use Rattle.recon_cli.specs.Making.{IsUnwritten, MakesAs};
 ghost use Rattle.recon_cli.specs.Outcome.{replay_outcome};
 ghost use Rattle.recon_cli.specs.Status.{fault_status};
+ghost use Rattle.recon_core.specs.Machine.{first_state};
 ghost use Rattle.recon_cli.specs.Looks.{LooksAtMost};
+ghost use Rattle.recon_cli.specs.Moments.{StopsInEvents};
 ghost use Rattle.recon_cli.specs.Reads.{ReadsAtMost};
 ghost use Rattle.recon_cli.specs.Stopped.{CheckStops, StopsAs};
 ghost use Rattle.recon_cli.specs.Run.{ChecksAs, ComesOut, HadNoFault, HasStatusCause, IsCheckStatus, IsOutcomeStatus, TookLines, faults_of, record_limit};
@@ -35,6 +37,9 @@ use std::alloc::Global;
 /// share, for each fetch once, and for a write that is held not at all. It looks into the index at most 64 times for each
 /// block, entry, posting, span and chunk of the disk's image, and at each judged event at most 64 times for each unit of
 /// its work, which counts the same of what changes.
+///
+/// A stop at any moment of a replay, such as a power cut, leaves a stop image of one of the trace's events, which the full
+/// check accepts where that event's line ends in `hot 0`: so of a disk that tells what a stop may leave of it.
 ///
 /// `make SEED COMMITS IMAGE` writes the base image over the disk's first 33,554,432 bytes, flushes, and writes
 /// to the place for lines the trace of a workload on it, of COMMITS commits, that is drawn from SEED. SEED and
@@ -94,6 +99,14 @@ pub fn recon_run<D: Disk, S: Source, K: Sink, L>(
         result ≡ 0 → (image bytes : List ℕ) → D.bytes disk.old ≡ Some image →
         S.left trace.old ≡ Some bytes → IsBytes bytes →
         LooksAtMost image bytes steps.old steps.new }
+
+    // What a stop at any moment of a replay may leave, such as a power cut, of a disk that tells its moments and is settled
+    // when the replay begins: a stop image of one of the trace's events. The full check accepts it where that event's line
+    // ends in `hot 0`.
+    ensures stops { (style : Style) → IsForm (Form.Replay style) (map string_bytes words.now) →
+        (image bytes : List ℕ) → D.bytes disk.old ≡ Some image →
+        S.left trace.old ≡ Some bytes → IsBytes bytes →
+        StopsInEvents (first_state image) bytes (D.moments disk.old) (D.moments disk.new) }
 
     // A check of the image prints what the full check says of it. It writes nothing to the disk, and leaves the trace.
     ensures check { IsForm Form.Check (map string_bytes words.now) → IsOutcomeStatus result →

@@ -3,10 +3,11 @@
 ghost use Rattle.std.specs.Prelude.{ℕ, ◌≡◌, ◌+◌, ◌^◌, ◌<◌, ◌≤◌, ◌++◌, false, List, Some, IfOk, IfErr, IfSome, OnOk, option_map};
 ghost use Rattle.verdict.specs.Events.{IsSized, begin_of};
 ghost use Rattle.recon_core.specs.Machine.{MachineState};
+ghost use Rattle.recon_core.specs.Moments.{IsAtRest};
 ghost use Rattle.recon_core.specs.Standing.{IsBelow, StandsFor};
 ghost use Rattle.recon_cli.specs.Outcome.{answer_text, is_settle, counts_after};
 ghost use Rattle.recon_cli.specs.Run.{HasPrintCause, HasTurnCause, TookLines};
-ghost use Rattle.recon_cli.specs.Turns.{MayStep, Turns};
+ghost use Rattle.recon_cli.specs.Turns.{MayStep, TurnStopsIn, Turns};
 ghost use Rattle.recon_cli.specs.Stopping.{IsCutPrint, TurnStops};
 
 use crate::counts::Counts;
@@ -126,6 +127,11 @@ impl<L> Replay<L> {
             IfOk result (λ status. MayStep state self.old.counts event status
             self.new.checker self.new.counts
             (D.bytes disk.new) (D.reads disk.old) (D.reads disk.new) steps.old steps.new) }
+        ensures moments { (state : MachineState) →
+            StandsFor self.old.checker state → D.bytes disk.old ≡ Some state.image →
+            TurnStopsIn state event (D.moments disk.old) (D.moments disk.new) }
+        ensures rest { OnOk result (IsAtRest (D.bytes disk.old) (D.moments disk.old)
+            → IsAtRest (D.bytes disk.new) (D.moments disk.new)) }
         ensures status { IfOk result (λ status. IfSome status (λ n. n ≡ 3)) }
         ensures style { self.new.style ≡ self.old.style }
         ensures open { OnOk result (self.new.checker.closed ≡ false) }

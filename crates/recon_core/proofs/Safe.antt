@@ -17,6 +17,7 @@ use Rattle.touched_blocks.specs.Touched.{written_in}
 use Rattle.commit_laws.specs.Commit.{IsKnown, Known}
 use Rattle.commit_laws.specs.Stops.{KeepsUnwritten}
 use Rattle.commit_judge.specs.Counts.{hot_between}
+use Rattle.commit_judge.specs.EachKnown.{EachIsKnown}
 use Rattle.commit_judge.specs.Stops.{SafeStops}
 use Rattle.recon_core.specs.Machine.{MachineState, judged_image, with_pending}
 use Rattle.recon_core.specs.Standing.{IsAccepted}
@@ -61,11 +62,14 @@ write_safe : (b : Bool) (P Q R : Type 0) → (P → R) → (Q → R) → MatchBo
 write_safe true P Q R f g h = f h
 write_safe false P Q R f g h = g h
 
-pub stops_are_safe : SafeStops → StopsAreSafe
-stops_are_safe law s (Write submitter at bytes) k left lawful inside known hot stop =
+pub stops_are_safe : SafeStops → EachIsKnown → StopsAreSafe
+stops_are_safe law each s (Write submitter at bytes) left lawful inside hot stop =
     let w : HeldWrite = record { at = at; bytes = bytes } in
+    let known = each s.image lawful.accepted.0 lawful.accepted.1 in
     write_safe (meets_superblock at (length bytes)) (IsJudgedStop (with_pending s w) left) (left ≡ s.image) (IsAccepted left)
-    (λ h. judged_safe law (with_pending s w) left k lawful.accepted (AllInside-push (length s.image) s.pending w lawful.inside inside) known hot h)
+    (λ h. judged_safe law (with_pending s w) left known.0 lawful.accepted (AllInside-push (length s.image) s.pending w lawful.inside inside) known.1 hot h)
     (λ same. subst IsAccepted (sym same) lawful.accepted) stop
-stops_are_safe law s Settle k left lawful inside known hot stop = judged_safe law s left k lawful.accepted lawful.inside known hot stop
-stops_are_safe law s (Fetch at len) k left lawful inside known hot stop = subst IsAccepted (sym stop) lawful.accepted
+stops_are_safe law each s Settle left lawful inside hot stop =
+    let known = each s.image lawful.accepted.0 lawful.accepted.1 in
+    judged_safe law s left known.0 lawful.accepted lawful.inside known.1 hot stop
+stops_are_safe law each s (Fetch at len) left lawful inside hot stop = subst IsAccepted (sym stop) lawful.accepted

@@ -24,16 +24,16 @@ use Rattle.verdict.specs.declared.finding.Verdict.{Verdict}
 use Rattle.verdict.specs.declared.finding.Verdict.TheVariants.{Accept, Found}
 use Rattle.recon_core.specs.declared.checker.Checker.{Checker}
 use Rattle.commit_judge.specs.Counts.{blocks_between, hot_between}
-use Rattle.commit_judge.specs.Index.{IndexStands, known}
+use Rattle.commit_judge.specs.Index.{IndexStands}
 use Rattle.commit_judge.specs.Start.{IsBuilt, IsReady, LooksToBuild}
 use Rattle.commit_judge.specs.declared.build.Built.{Built}
 use Rattle.commit_judge.specs.declared.build.Built.TheVariants.{Ready, Refused}
 use Rattle.commit_judge.specs.declared.index.Index.{Index}
 use Rattle.lookup_bounds.specs.Work.{starting_work, work_between}
 use Rattle.recon_core.specs.Looks.{HasLooks, work_at}
-use Rattle.recon_core.specs.Reads.{HasReadTrees, HasReads}
+use Rattle.recon_core.specs.Reads.{HasFetched, HasReadTrees, HasReads}
 use Rattle.recon_core.specs.Machine.{MachineState, answer_to, image_by, judged_image, settle_step, machine_step, with_pending}
-use Rattle.recon_core.specs.Standing.{BeginsWith, StandsFor, IsAccepted, IsBelow, AllMissPlace, Takes, refusal_of}
+use Rattle.recon_core.specs.Standing.{BeginsWith, IsJudgement, StandsFor, IsAccepted, IsBelow, AllMissPlace, Takes, refusal_of}
 use Rattle.recon_core.specs.Safe.{StopsAreSafe, hot_at}
 use Rattle.recon_core.specs.Stops.{IsLeftBy, IsJudgedStop, IsStopImage}
 use Rattle.recon_core.specs.Judged.{IsSettled, IsLeftOf}
@@ -380,7 +380,24 @@ inside_of false long end a b none = elim (cases_lt long end) [
 pub safe_by : {L : Type 0} (checker : Checker L) (event : Event) → StopsAreSafe → (s : MachineState) → StandsFor checker s → refusal_of checker event ≡ None
     → hot_at s event ≡ 0 → (left : List ℕ) → IsStopImage s event left → IsAccepted left
 safe_by checker event law s stands none hot left stop =
-    law s event (known checker.index) left stands.lawful
+    law s event left stands.lawful
     (subst (λ n. end_of event ≤ n) stands.size
     (inside_of checker.closed checker.length (end_of event) Closed (PastEnd (begin_of event) (length_of event) checker.length) none))
-    stands.index.known hot stop
+    hot stop
+
+-- the reads of a fetch
+pub fetched_by : (answer : Answer) (before after : ℕ) → HasReads answer before after → HasFetched answer before after
+fetched_by Held before after reads = tt
+fetched_by (Fetched bytes) before after reads = reads
+fetched_by (Passed generation blocks hot) before after reads = tt
+fetched_by (Rejected finding) before after reads = tt
+
+-- another answer is of no fetch
+pub judged_no_fetch : (answer : Answer) (before after : ℕ) → IsJudgement answer → HasFetched answer before after
+judged_no_fetch Held before after judged = absurd judged
+judged_no_fetch (Fetched bytes) before after judged = absurd judged
+judged_no_fetch (Passed generation blocks hot) before after judged = tt
+judged_no_fetch (Rejected finding) before after judged = tt
+
+pub held_no_fetch : (answer : Answer) (before after : ℕ) → answer ≡ Held → HasFetched answer before after
+held_no_fetch answer before after is = subst (λ a. HasFetched a before after) (sym is) tt

@@ -21,6 +21,11 @@ abbrev pub HasReads : Answer → ℕ → ℕ → Type 0
 HasReads (Rejected finding) before after = Unit {0}
 HasReads answer before after = after ≤ before + reads_of answer
 
+-- the reads before and after a fetch
+abbrev pub HasFetched : Answer → ℕ → ℕ → Type 0
+HasFetched (Fetched bytes) before after = after ≤ before + 1
+HasFetched other before after = Unit {0}
+
 -- at most one read of the superblock of an image, and two of each block of its trees
 pub record HasReadTrees (image : List ℕ) (before after : ℕ) : Type 0 where
   pub trees : Walked

@@ -4,7 +4,6 @@ use Rattle.verdict.specs.Events.{end_of}
 use Rattle.verdict.specs.declared.machine.Event.{Event}
 use Rattle.verdict.specs.declared.machine.Event.TheVariants.{Write, Settle, Fetch}
 use Rattle.write_cache.specs.Cache.{cache_of}
-use Rattle.commit_laws.specs.Commit.{IsKnown, Known}
 use Rattle.commit_judge.specs.Counts.{hot_between}
 use Rattle.recon_core.specs.Machine.{MachineState, with_pending}
 use Rattle.recon_core.specs.Standing.{IsAccepted, IsMachineState}
@@ -16,7 +15,7 @@ hot_at s (Write submitter at bytes) = hot_between s.image (cache_of (with_pendin
 hot_at s Settle = hot_between s.image (cache_of s.pending)
 hot_at s (Fetch at len) = 0
 
--- Where there is none, the full check accepts each stop image of an event that lies inside the image, in a state whose image an index knows.
+-- Where there is none, the full check accepts each stop image of an event that lies inside the image.
 abbrev pub StopsAreSafe : Type 0
-StopsAreSafe = (s : MachineState) (event : Event) (k : Known) (left : List ℕ) → IsMachineState s → end_of event ≤ length s.image
-    → IsKnown s.image k → hot_at s event ≡ 0 → IsStopImage s event left → IsAccepted left
+StopsAreSafe = (s : MachineState) (event : Event) (left : List ℕ) → IsMachineState s → end_of event ≤ length s.image
+    → hot_at s event ≡ 0 → IsStopImage s event left → IsAccepted left

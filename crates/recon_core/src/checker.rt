@@ -54,7 +54,7 @@ impl<L> Checker<L> {
     ghost use Rattle.recon_core.specs.Sent.{LeavesBy};
     ghost use Rattle.recon_core.specs.Judged.{IsLeftOf, Judges};
     ghost use Rattle.recon_core.specs.Order.{HasSentBy, HasSentPart, judged_with};
-    ghost use Rattle.recon_core.specs.Reads.{HasBegun, HasReads, HasStarted};
+    ghost use Rattle.recon_core.specs.Reads.{HasBegun, HasFetched, HasReads, HasStarted};
     ghost use Rattle.recon_core.specs.Looks.{BeginsByWork, HasLooks, JudgesByWork, StartsByWork, work_at};
     ghost use Rattle.commit_judge.specs.Index.{HasPlaceOf, IndexStands};
 
@@ -121,7 +121,7 @@ impl<L> Checker<L> {
     /// Takes one event. A write has 1 to 1,048,576 bytes and a fetch asks for 1 to 65,536.
     ///
     /// The refusals, in this order: `Closed` exactly where the checker is closed; `PastEnd` exactly
-    /// where the event's range passes the end of the disk; `NoMemory`, after which all stays, but a
+    /// where the event's range passes the end of the disk, and these two leave the counter of looks too; `NoMemory`, after which all stays, but a
     /// judged event closes the checker; `DiskFault` only where a call of the disk failed, never at a
     /// write that is held, and it closes the checker. After it the disk holds a stop image of the event: the
     /// old image, and where the full check accepts the judged image, that one, or the old one to which the
@@ -132,7 +132,7 @@ impl<L> Checker<L> {
     /// bytes and a shorter last one; a flush; and on a commit the whole place in one call and a flush.
     /// Where a call fails, those before it were sent. Any other answer, and `NoMemory`, sends nothing.
     ///
-    /// A write that is held reads nothing, and a fetch once. A judged event that passes reads at most twice each block
+    /// A write that is held reads nothing, and a fetch at most once, over any disk. A judged event that passes reads at most twice each block
     /// that the image before it and the judged one do not share. It looks into the index at most 64 times for each unit of
     /// its work: of these blocks, their entries, what these post, the spans that share a sector with what changes, the runs
     /// of the pending writes, and the chunks.
@@ -150,7 +150,8 @@ impl<L> Checker<L> {
 
         // The refusals before anything is done, after which all stays.
         ensures refused { IfSome (refusal_of self.old ev)
-            (λ stop. (result ≡ Err stop) × (self.new ≡ self.old) × (disk.new ≡ disk.old)) }
+            (λ stop. (result ≡ Err stop) × (self.new ≡ self.old) ×
+            (disk.new ≡ disk.old) × (steps.new ≡ steps.old)) }
         ensures only { refusal_of self.old ev ≡ None → IsNoRefusal result }
 
         // The sort of answer, over any disk.
@@ -164,10 +165,12 @@ impl<L> Checker<L> {
             D.bytes disk.old ≡ Some state.image → IsErrOf result Stop.DiskFault →
             IsSomeAnd (D.bytes disk.new) (IsStopImage state ev) }
 
-        // How often the disk is read.
+        // How often the disk is read: of a fetch also over a disk that does not tell its bytes.
         ensures reads { (state : MachineState) → StandsFor self.old state →
             D.bytes disk.old ≡ Some state.image → IfOk result
             (λ answer. HasReads answer (D.reads disk.old) (D.reads disk.new)) }
+        ensures fetched { IfOk result
+            (λ answer. HasFetched answer (D.reads disk.old) (D.reads disk.new)) }
 
         // How often the index is looked into: at most 64 times for each unit of the work of the event.
         ensures looks { (state : MachineState) → StandsFor self.old state →
@@ -286,7 +289,6 @@ impl<L> Checker<L> {
             (self.new ≡ record self.old { closed = true; index = self.new.index }) }
         ensures stops { IsNoRefusal result }
     {
-        self.cache.join();
         let judged = judge_waiting(
             alloc,
             disk,

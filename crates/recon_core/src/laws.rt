@@ -19,4 +19,5 @@ pub fn stop_law()
     ensures { StopsAreSafe }
 {
     commit_judge::stop_law();
+    commit_judge::known_law();
 }

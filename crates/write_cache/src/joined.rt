@@ -11,6 +11,7 @@ use crate::pieces::Pieces;
 use crate::runs::Runs;
 
 /// A cache in which no two runs touch, lent, so that each of its pieces is one run.
+#[derive(Clone, Copy)]
 pub struct Joined<'a> {
     /// The cache.
     pub cache: &'a WriteCache,

@@ -23,7 +23,7 @@ use Rattle.commit_laws.specs.Stops.{StopLaw}
 use Rattle.commit_judge.specs.Counts.{hot_between, may_be_harmed, over_walks}
 use Rattle.commit_judge.specs.Stops.{SafeStops}
 
-generation_ok : (r : Result ℕ Finding) (generation : ℕ) → verdict_of r ≡ Accept generation → r ≡ Ok generation
+pub generation_ok : (r : Result ℕ Finding) (generation : ℕ) → verdict_of r ≡ Accept generation → r ≡ Ok generation
 generation_ok (Ok g) generation is = cc
 generation_ok (Err finding) generation is = absurd (cc)
 
@@ -37,7 +37,7 @@ unfolding walked
 walked_by image sup array chunks roots seen sup_is arrays chunks_are items records = rw (sup_is, arrays, chunks_are, items, records) refl
 
 -- the walks of an image whose contents have no finding have none
-held_walks : (image : List ℕ) (held : Contents) → contents image ≡ Ok held → (whole : Walked) × (walked image ≡ Ok whole)
+pub held_walks : (image : List ℕ) (held : Contents) → contents image ≡ Ok held → (whole : Walked) × (walked image ≡ Ok whole)
 unfolding contents
 held_walks image held is =
     let s = step_ok (superblock_in image) _ held is in

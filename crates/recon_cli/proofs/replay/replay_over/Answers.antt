@@ -1,4 +1,4 @@
-use Rattle.std.proofs.Common.{◌++◌, sym, subst}
+use Rattle.std.proofs.Common.{◌++◌, refl, sym, subst}
 use Rattle.recon_cli.specs.Outcome.{line_in}
 use Rattle.report.specs.declared.line.Line.TheVariants.{Image}
 use Rattle.recon_core.specs.Machine.{first_state}
@@ -6,6 +6,7 @@ use Rattle.recon_core.specs.Standing.{IsBelow}
 use Rattle.recon_core.proofs.Steps.{below_none}
 use Rattle.recon_cli.proofs.Going.{each_ok}
 use Rattle.recon_cli.proofs.Handing.{more_lines}
+use Rattle.recon_cli.proofs.Moments.{adds_none}
 use Rattle.recon_cli.proofs.Start.{replays_accepted, printed_at}
 use Rattle.verdict.specs.declared.finding.Verdict.TheVariants.{Accept}
 use Rattle.recon_cli.specs.Stopped.{StopsAs}
@@ -42,3 +43,10 @@ returns-clause-reads g c image bytes stands told lawful left = c.take_records.en
 
 pub returns-clause-looks : goal.returns-clause-looks
 returns-clause-looks g c image bytes stands told lawful left = c.take_records.ensures.looks (first_state image) bytes stands told lawful left
+
+pub returns-clause-moments : goal.returns-clause-moments
+returns-clause-moments g c image bytes stands told lawful left = c.take_records.ensures.moments (first_state image) bytes stands told lawful left
+
+pub returns-in_err-print-clause-moments : goal.returns-in_err-print-clause-moments
+returns-in_err-print-clause-moments g c image bytes stands told lawful left =
+    adds_none (first_state image) bytes (g.D.Disk.moments c.args.lent.now.disk.now) (g.D.Disk.moments c.args.lent.now.disk.now) refl

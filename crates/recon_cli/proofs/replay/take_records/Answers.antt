@@ -1,4 +1,5 @@
 use Rattle.std.proofs.Common.{◌≡◌, ◌+◌, ◌++◌, Some, None, IfSome, refl, sym, arith, ap, ◌∙◌, subst}
+use Rattle.recon_core.specs.Moments.{IsFlushedAs}
 use Rattle.recon_core.specs.Standing.{IsBelow}
 use Rattle.recon_cli.specs.Run.{TookLines, record_limit}
 use Rattle.recon_cli.specs.Outcome.{no_counts}
@@ -10,6 +11,7 @@ use Rattle.recon_cli.proofs.Reaching.{Far, each_err, far_end, far_event, far_fau
 use Rattle.recon_cli.proofs.Going.{Going, going_start, going_event, going_end, going_fault, going_past, place_is, place_fits, at_event, at_end, after_is, limit_over, both_ok, each_ok, fault_cause, three_is, event_reads}
 use Rattle.recon_cli.proofs.Handing.{more_lines, no_lines}
 use Rattle.recon_cli.proofs.HowOften.{ReadSoFar, read_end, read_event, read_start}
+use Rattle.recon_cli.proofs.Moments.{LeftSoFar, adds_next, adds_taken, each_moments, left_event, left_start}
 use Rattle.recon_cli.proofs.replay.take_records.Goals as goal
 
 pub returns-in_err-turn-in-Ok-Event-clause-lines : goal.returns-in_err-turn-in-Ok-Event-clause-lines
@@ -57,6 +59,13 @@ records-init g c =
           subst (λ t. ReadSoFar first bytes c.new-reader.result t c.args.replay.now.checker (g.D.Disk.bytes c.args.lent.now.disk.now) (g.S.Source.left c.args.lent.now.trace.now) reads reads looks looks) (sym c.requires.first)
           (subst (λ r. ReadSoFar first bytes r no_counts c.args.replay.now.checker (g.D.Disk.bytes c.args.lent.now.disk.now) (g.S.Source.left c.args.lent.now.trace.now) reads reads looks looks) (sym c.new-reader.ensures)
           (read_start first bytes c.args.replay.now.checker (g.D.Disk.bytes c.args.lent.now.disk.now) (g.S.Source.left c.args.lent.now.trace.now) reads looks stands image left));
+      left = λ first bytes stands image left.
+          let disk = g.D.Disk.bytes c.args.lent.now.disk.now in
+          let rest = g.S.Source.left c.args.lent.now.trace.now in
+          let moments = g.D.Disk.moments c.args.lent.now.disk.now in
+          subst (λ t. IfSome moments (λ before. IsFlushedAs first.image before → LeftSoFar first bytes c.new-reader.result t c.args.replay.now.checker disk rest before moments)) (sym c.requires.first)
+          (subst (λ r. IfSome moments (λ before. IsFlushedAs first.image before → LeftSoFar first bytes r no_counts c.args.replay.now.checker disk rest before moments)) (sym c.new-reader.ensures)
+          (left_start first bytes c.args.replay.now.checker disk rest moments stands image left));
     }
 
 pub returns-in-Some-clause-outcome : goal.returns-in-Some-clause-outcome
@@ -189,6 +198,18 @@ records-preserved g c =
           (subst (λ t. MayStep s c.records.replay.counts c.in-Ok-Event.event t c.take_event.new.self.checker c.take_event.new.self.counts (g.D.Disk.bytes c.take_event.new.disk) (g.D.Disk.reads c.records.lent.disk.now) (g.D.Disk.reads c.take_event.new.disk)
           c.records.lent.steps.now c.take_event.new.steps)
           c.in_default.is (turn.reads s so.took.stands so.took.image));
+      left = λ first bytes stands image left.
+          each_moments (g.D.Disk.moments c.args.lent.now.disk.now) (λ before left_by flushed.
+          let so = left_by flushed in
+          let s = state_after first so.took.done in
+          let stepped = subst (λ t. MayStep s c.records.replay.counts c.in-Ok-Event.event t c.take_event.new.self.checker c.take_event.new.self.counts (g.D.Disk.bytes c.take_event.new.disk) (g.D.Disk.reads c.records.lent.disk.now) (g.D.Disk.reads c.take_event.new.disk)
+          c.records.lent.steps.now c.take_event.new.steps)
+          c.in_default.is (turn.reads s so.took.stands so.took.image) in
+          left_event first bytes c.records.reader c.next.new.self c.records.replay.counts c.take_event.new.self.counts c.records.replay.checker c.take_event.new.self.checker (g.D.Disk.bytes c.records.lent.disk.now) (g.D.Disk.bytes c.take_event.new.disk)
+          (g.S.Source.left c.records.lent.trace.now) (g.S.Source.left c.next.new.source) before (g.D.Disk.moments c.records.lent.disk.now) (g.D.Disk.moments c.take_event.new.disk) c.in-Ok-Event.event
+          so (at_event c.records.reader c.next.new.self (g.S.Source.left c.records.lent.trace.now) (g.S.Source.left c.next.new.source) c.in-Ok-Event.field-0 c.in-Ok-Event.event c.in-Ok-Event.field-0-is c.in-Ok-Event.ensures.told) next
+          stepped.0 (turn.moments s so.took.stands so.took.image) turn.rest)
+          (c.records.invariant.left first bytes stands image left);
     }
 
 pub returns-in_err-turn-in-Ok-Event-clause-stopped : goal.returns-in_err-turn-in-Ok-Event-clause-stopped
@@ -221,3 +242,27 @@ returns-in-Err-clause-stopped g c first bytes kept stands image left printed =
     (g.S.Source.left c.records.lent.trace.now) (g.S.Source.left c.next.new.source) (g.K.Sink.kept c.records.lent.out.now) (g.K.Sink.kept c.print_fault.new.out) c.record_number-place-in-Err.result c.in-Err.fault cause far
     c.in-Err.ensures.told (place_fits c.next.new.self.number c.next.new.self.limit c.record_number-place-in-Err.result c.record_number-place-in-Err.ensures.number c.record_number-place-in-Err.ensures.within limit) cut)
     c.print_fault.ensures.stopped
+
+pub returns-in_err-turn-in-Ok-Event-clause-moments : goal.returns-in_err-turn-in-Ok-Event-clause-moments
+returns-in_err-turn-in-Ok-Event-clause-moments g c first bytes stands image lawful left =
+    adds_next first bytes c.records.reader c.next.new.self c.records.replay.counts c.records.replay.checker (g.D.Disk.bytes c.records.lent.disk.now) (g.S.Source.left c.records.lent.trace.now) (g.S.Source.left c.next.new.source)
+    (g.D.Disk.moments c.args.lent.now.disk.now) (g.D.Disk.moments c.records.lent.disk.now) (g.D.Disk.moments c.take_event.new.disk) c.in-Ok-Event.event (c.records.invariant.left first bytes stands image left)
+    (at_event c.records.reader c.next.new.self (g.S.Source.left c.records.lent.trace.now) (g.S.Source.left c.next.new.source) c.in-Ok-Event.field-0 c.in-Ok-Event.event c.in-Ok-Event.field-0-is c.in-Ok-Event.ensures.told)
+    c.in_err-turn-in-Ok-Event.ensures.moments lawful
+
+pub returns-in-Some-clause-moments : goal.returns-in-Some-clause-moments
+returns-in-Some-clause-moments g c first bytes stands image lawful left =
+    adds_next first bytes c.records.reader c.next.new.self c.records.replay.counts c.records.replay.checker (g.D.Disk.bytes c.records.lent.disk.now) (g.S.Source.left c.records.lent.trace.now) (g.S.Source.left c.next.new.source)
+    (g.D.Disk.moments c.args.lent.now.disk.now) (g.D.Disk.moments c.records.lent.disk.now) (g.D.Disk.moments c.take_event.new.disk) c.in-Ok-Event.event (c.records.invariant.left first bytes stands image left)
+    (at_event c.records.reader c.next.new.self (g.S.Source.left c.records.lent.trace.now) (g.S.Source.left c.next.new.source) c.in-Ok-Event.field-0 c.in-Ok-Event.event c.in-Ok-Event.field-0-is c.in-Ok-Event.ensures.told)
+    c.in_ok-turn-in-Ok-Event.ensures.moments lawful
+
+pub returns-in-Ok-End-clause-moments : goal.returns-in-Ok-End-clause-moments
+returns-in-Ok-End-clause-moments g c first bytes stands image lawful left =
+    adds_taken first bytes c.records.reader c.records.replay.counts c.records.replay.checker (g.D.Disk.bytes c.records.lent.disk.now) (g.S.Source.left c.records.lent.trace.now)
+    (g.D.Disk.moments c.args.lent.now.disk.now) (g.D.Disk.moments c.records.lent.disk.now) (c.records.invariant.left first bytes stands image left) lawful
+
+pub returns-in-Err-clause-moments : goal.returns-in-Err-clause-moments
+returns-in-Err-clause-moments g c first bytes stands image lawful left =
+    adds_taken first bytes c.records.reader c.records.replay.counts c.records.replay.checker (g.D.Disk.bytes c.records.lent.disk.now) (g.S.Source.left c.records.lent.trace.now)
+    (g.D.Disk.moments c.args.lent.now.disk.now) (g.D.Disk.moments c.records.lent.disk.now) (c.records.invariant.left first bytes stands image left) lawful

@@ -1,10 +1,12 @@
-use Rattle.std.proofs.Common.{◌≡◌, ◌+◌, ◌-◌, ◌≤◌, false, true, List, ℕ, Some}
+use Rattle.std.proofs.Common.{◌≡◌, ◌+◌, ◌-◌, ◌≤◌, false, true, List, ℕ, Some, IfSome}
 use Rattle.recon_core.specs.Machine.{MachineState}
+use Rattle.recon_core.specs.Moments.{IsFlushedAs}
 use Rattle.recon_core.specs.Standing.{IsBelow, StandsFor}
 use Rattle.trace_reader.specs.Trace.{IsBytes}
 use Rattle.recon_cli.specs.Run.{IsSameOutside, TookLines, record_limit}
 use Rattle.recon_cli.proofs.Going.{Going}
 use Rattle.recon_cli.proofs.HowOften.{ReadSoFar}
+use Rattle.recon_cli.proofs.Moments.{LeftSoFar}
 use Rattle.recon_cli.proofs.Reaching.{Far}
 use Rattle.recon_cli.proofs.replay.take_records.Given as goal
 
@@ -38,6 +40,10 @@ invariant-records g l =
           source.left l.fn.lent.trace.now ≡ Some bytes →
           ReadSoFar first bytes l.reader l.replay.counts l.replay.checker (disk.bytes l.lent.disk.now) (source.left l.lent.trace.now) (disk.reads l.fn.lent.disk.now) (disk.reads l.lent.disk.now)
           l.fn.lent.steps.now l.lent.steps.now;
+      left : (first : MachineState) (bytes : List ℕ) → StandsFor l.fn.replay.checker first → disk.bytes l.fn.lent.disk.now ≡ Some first.image →
+          source.left l.fn.lent.trace.now ≡ Some bytes →
+          IfSome (disk.moments l.fn.lent.disk.now) (λ before. IsFlushedAs first.image before →
+          LeftSoFar first bytes l.reader l.replay.counts l.replay.checker (disk.bytes l.lent.disk.now) (source.left l.lent.trace.now) before (disk.moments l.lent.disk.now));
     }
 
 abbrev pub decreases-records : goal.decreases-records

@@ -1,5 +1,5 @@
 use Rattle.std.proofs.Common.{map, string_bytes, sym, subst, arith, rules}
-use Rattle.recon_cli.specs.declared.words.Form.TheVariants.{Check, Make}
+use Rattle.recon_cli.specs.declared.words.Form.TheVariants.{Check, Make, Replay}
 use Rattle.recon_cli.specs.Run.{HasStatusCause, faults_of}
 use Rattle.recon_cli.proofs.Made.{stops_with_cause}
 use Rattle.recon_cli.proofs.OneForm.{one_style}
@@ -41,3 +41,18 @@ pub returns-in-Err-make-clause-causes : goal.returns-in-Err-make-clause-causes
 returns-in-Err-make-clause-causes g c =
     subst (λ status. HasStatusCause (faults_of g.D.Disk g.S.Source g.K.Sink c.args.disk.now c.args.trace.now c.args.out.now) (faults_of g.D.Disk g.S.Source g.K.Sink c.make.new.disk c.args.trace.now c.make.new.out) status) (sym c.status_of-in-Err-make.ensures)
     (stops_with_cause (g.D.Disk.faults c.args.disk.now) (g.D.Disk.faults c.make.new.disk) (g.S.Source.faults c.args.trace.now) (g.K.Sink.faults c.args.out.now) (g.K.Sink.faults c.make.new.out) c.in-Err-make.cause c.in-Err-make.ensures.cause)
+
+pub returns-in-Ok-replay-clause-stops : goal.returns-in-Ok-replay-clause-stops
+returns-in-Ok-replay-clause-stops g c style form image bytes told left lawful =
+    let run = c.in-Ok-replay.ensures.moments image bytes told lawful left in
+    let same = c.in-Ok-replay.ensures.same in
+    search rules
+
+pub returns-in-Err-replay-clause-stops : goal.returns-in-Err-replay-clause-stops
+returns-in-Err-replay-clause-stops g c style form image bytes told left lawful =
+    let run = c.in-Err-replay.ensures.moments image bytes told lawful left in
+    let same = c.in-Err-replay.ensures.same in
+    search rules
+
+pub returns-in-None-clause-stops : goal.returns-in-None-clause-stops
+returns-in-None-clause-stops g c style form = absurd (c.in-None.ensures (Replay style) form)

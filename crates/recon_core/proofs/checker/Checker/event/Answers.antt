@@ -8,7 +8,7 @@ use Rattle.recon_core.specs.Machine.{machine_step}
 use Rattle.recon_core.specs.Moments.{IsFlushedAs, LeavesAfter}
 use Rattle.recon_core.specs.Standing.{Takes}
 use Rattle.recon_core.specs.Stops.{IsStopImage}
-use Rattle.recon_core.proofs.Steps.{at_err, below_after, below_held, takes_commit, stop_commit, takes_settle, stop_settle, takes_held, takes_fetch, with_ok, weaker, each_ok, looks_commit, looks_none, looks_settle, reads_held, reads_judged, safe_by, stops_commit, stops_none, stops_settle}
+use Rattle.recon_core.proofs.Steps.{fetched_by, held_no_fetch, judged_no_fetch, at_err, below_after, below_held, takes_commit, stop_commit, takes_settle, stop_settle, takes_held, takes_fetch, with_ok, weaker, each_ok, looks_commit, looks_none, looks_settle, reads_held, reads_judged, safe_by, stops_commit, stops_none, stops_settle}
 use Rattle.recon_core.proofs.checker.Checker.event.Goals as goal
 
 pub returns-then-meets_superblock-clause-step : goal.returns-then-meets_superblock-clause-step
@@ -157,3 +157,19 @@ returns-in-Settle-clause-safe g c = safe_by c.args.self.now c.args.ev c.stop_law
 
 pub returns-in-Fetch-clause-safe : goal.returns-in-Fetch-clause-safe
 returns-in-Fetch-clause-safe g c = safe_by c.args.self.now c.args.ev c.stop_law.ensures
+
+pub returns-then-meets_superblock-clause-fetched : goal.returns-then-meets_superblock-clause-fetched
+returns-then-meets_superblock-clause-fetched g c =
+    each_ok c.commit.result (λ answer judged. judged_no_fetch answer (g.D.Disk.reads c.args.disk.now) (g.D.Disk.reads c.commit.new.disk) judged) c.commit.ensures.sort
+
+pub returns-else-meets_superblock-clause-fetched : goal.returns-else-meets_superblock-clause-fetched
+returns-else-meets_superblock-clause-fetched g c =
+    each_ok c.hold.result (λ answer is. held_no_fetch answer (g.D.Disk.reads c.args.disk.now) (g.D.Disk.reads c.args.disk.now) is) c.hold.ensures.answer
+
+pub returns-in-Settle-clause-fetched : goal.returns-in-Settle-clause-fetched
+returns-in-Settle-clause-fetched g c =
+    each_ok c.settle.result (λ answer judged. judged_no_fetch answer (g.D.Disk.reads c.args.disk.now) (g.D.Disk.reads c.settle.new.disk) judged) c.settle.ensures.sort
+
+pub returns-in-Fetch-clause-fetched : goal.returns-in-Fetch-clause-fetched
+returns-in-Fetch-clause-fetched g c =
+    each_ok c.fetch.result (λ answer reads. fetched_by answer (g.D.Disk.reads c.args.disk.now) (g.D.Disk.reads c.fetch.new.disk) reads) c.fetch.ensures.reads

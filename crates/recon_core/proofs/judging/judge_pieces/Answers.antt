@@ -9,7 +9,7 @@ use Rattle.recon_core.specs.Moments.{IsFlushedAs, LeavesAfter}
 use Rattle.recon_core.specs.Sent.{IsAllOrPart, IsPlaceOf, LeavesBy}
 use Rattle.recon_core.proofs.Settling.{judges_err, left_passed, left_unsent, looks_passed, looks_rejected, part_passed, passed_and, placed, reads_passed, reads_rejected, sent_passed, settled_passed, settled_rejected, stops_passed}
 use Rattle.recon_core.proofs.Moments.{leaves_none, still_at_rest}
-use Rattle.recon_core.proofs.judging.judge_waiting.Goals as goal
+use Rattle.recon_core.proofs.judging.judge_pieces.Goals as goal
 
 pub returns-in_err-judged-clause-judged : goal.returns-in_err-judged-clause-judged
 returns-in_err-judged-clause-judged g c =
