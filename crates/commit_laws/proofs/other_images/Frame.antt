@@ -191,6 +191,7 @@ frame image other k known agrees =
           chunks_are = b.chunks_are;
           roots_are = b.roots_are;
           free_are = b.free_are;
+          full_are = b.full_are;
           trees = whole;
           walks = walks ∙ b.walks;
           pairs_are = b.pairs_are;

@@ -205,6 +205,7 @@ module _ (laws : Laws) (image : List ℕ) (pending : FinMap nat_cmp ℕ) (old ne
                 chunks_are = sym new_is.chunks;
                 roots_are = refl;
                 free_are = λ tree ino. ap (λ (rs : List Located). has_sum_free rs tree ino) (sym new_is.records);
+                full_are = λ address. refl;
                 trees = new;
                 walks = between.is;
                 pairs_are = λ tree address. refl;
