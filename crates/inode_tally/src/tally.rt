@@ -14,7 +14,8 @@ ghost use Rattle.inode_tally.specs.Joined.{Adds, Joins, LeavesOthers};
 
 use crate::class::{Gathered, InodeClass};
 use accounts::sum::{
-    DIR_NAMES, DIR_SIZE, FILE_BYTES, FILE_RANGES, INODE_ITEMS, INODE_LINKS, INODE_NAMES, INODE_ORPHANS, INODE_OTHERS, TYPE_ENTRIES, TYPE_ITEMS,
+    DIR_NAMES, DIR_SIZE, FILE_BYTES, FILE_RANGES, INODE_ITEMS, INODE_LINKS, INODE_NAMES,
+    INODE_ORPHANS, INODE_OTHERS, TYPE_ENTRIES, TYPE_ITEMS,
 };
 use accounts::{Account, Posting, Postings, Tally};
 use std::alloc::Global;
@@ -417,11 +418,31 @@ fn post(
     let f = &more.counts;
     let g = &more.bytes;
     into.push_all([
-        Posting::to(Account::inode(alloc, tree, ino), INODE_ITEMS, u64::from(f[0])),
-        Posting::to(Account::inode(alloc, tree, ino), INODE_OTHERS, u64::from(f[1])),
-        Posting::to(Account::inode(alloc, tree, ino), INODE_LINKS, u64::from(f[2])),
-        Posting::to(Account::inode(alloc, tree, ino), INODE_NAMES, u64::from(f[3])),
-        Posting::to(Account::inode(alloc, tree, ino), INODE_ORPHANS, u64::from(f[4])),
+        Posting::to(
+            Account::inode(alloc, tree, ino),
+            INODE_ITEMS,
+            u64::from(f[0]),
+        ),
+        Posting::to(
+            Account::inode(alloc, tree, ino),
+            INODE_OTHERS,
+            u64::from(f[1]),
+        ),
+        Posting::to(
+            Account::inode(alloc, tree, ino),
+            INODE_LINKS,
+            u64::from(f[2]),
+        ),
+        Posting::to(
+            Account::inode(alloc, tree, ino),
+            INODE_NAMES,
+            u64::from(f[3]),
+        ),
+        Posting::to(
+            Account::inode(alloc, tree, ino),
+            INODE_ORPHANS,
+            u64::from(f[4]),
+        ),
         Posting::to(Account::inode(alloc, tree, ino), DIR_SIZE, g[0]),
         Posting::to(Account::inode(alloc, tree, ino), DIR_NAMES, g[1]),
         Posting::to(Account::inode(alloc, tree, ino), FILE_BYTES, g[2]),
