@@ -29,10 +29,6 @@ use Rattle.tree_laws.proofs.Visiting.{Visits, comes_from, visits_from}
 use Rattle.tree_laws.proofs.Within.{Below, within}
 use Rattle.tree_change.specs.Walks.{moved_to}
 
-    by : (level : ℕ) → list_any (λ (w : Expect). test w.address) (visited_from level sup stored v) ≡ false → test v.address ≡ false
-    by zero is = first (test v.address) false is
-    by (suc level) is = first (test v.address) _ is
-
 some_at : (entry : Option Live) (live : Live) (P : Live → Type 0) → entry ≡ Some live → IfSome entry P → P live
 some_at None live P is has = absurd (cc)
 some_at (Some one) live P is has = let same : one ≡ live = cc in subst P same has

@@ -48,10 +48,6 @@ any_and p test k (x ∷ xs) all =
     joined true false false = refl
     joined false b k = refl
 
-    by : (level : ℕ) → list_any (λ (w : Expect). test w.address) (visited_from level sup stored v) ≡ false → test v.address ≡ false
-    by zero is = first (test v.address) false is
-    by (suc level) is = first (test v.address) _ is
-
 module _ (sup : Super) (touched : ℕ → Bool) (marked : Marks) (table : Pairs) where
   -- a block that a walk comes to: a table has its pair, and it is marked just where the walk from it on comes to a touched one
   record Marked (stored : Stored) (v : Expect) : Type 0 where

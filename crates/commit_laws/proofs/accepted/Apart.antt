@@ -17,15 +17,10 @@ use Rattle.tree_laws.specs.TableLaw.{AreApart, Tree}
 use Rattle.tree_laws.proofs.Forest.{others_after, walks}
 use Rattle.tree_laws.proofs.Mixing.{Before, InOrder, pairs_of}
 use Rattle.tree_change.specs.Change.{item_before}
-use Rattle.tree_change.proofs.Ordered.{either, order_append, others_of, ordered, items_order, above_all, by_tree, by_key}
+use Rattle.tree_change.proofs.Ordered.{either, ordered}
 use Rattle.tree_change.proofs.Piece.{item_id}
 use Rattle.tree_change.proofs.Split.{First, ItemsOf, first_of, none_of, walk_items}
 use Rattle.change_records.specs.Spans.{StandApart}
-
-    across : (id : ℕ) (a b : List Located) → ItemsOf id a → AllByRecursion (λ y. (item_id y == id) ≡ false) b
-        → AllByRecursion (λ x. Before either x b) a
-    across id [] b of all = tt
-    across id (x ∷ a) b of all = (one_across id x b of.0 all, across id a b of.1 all)
 
 -- one before the other is another
 not_before : (t : ℕ) (k : Key) → ((nat_lt t t || (t == t && key_below k k)) || (nat_lt t t || (t == t && key_below k k))) ≡ false
