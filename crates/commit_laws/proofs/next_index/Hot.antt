@@ -4,7 +4,6 @@ use Rattle.std.proofs.lemmas.Bool.{and_parts, eqb-true, or_parts}
 use Rattle.std.proofs.lemmas.List.Sorted.{sum_by-IsPermutation}
 use Rattle.std.proofs.lemmas.List.Sums.{length-filter}
 use Rattle.std.specs.List.{filter, list_any}
-use Rattle.commit_laws.proofs.Alike.{shared_is}
 use Rattle.verdict.specs.OnDisk.{key_same}
 use Rattle.live_index.specs.declared.live.Live.{Live}
 use Rattle.records.specs.Seen.{Seen}
@@ -23,6 +22,24 @@ alike_place a b is =
     let both = and_parts (a.tree == b.tree) (a.address == b.address) place.0 in
     (eqb-true a.tree b.tree both.0, eqb-true a.address b.address both.1)
 
+-- the address of a pair which is alike to a block that no test passes does not pass it
+free_address : (touched : ℕ → Bool) (live : Live) (seen : List Seen) → stands_untouched touched seen live ≡ true → touched live.address ≡ false
+unfolding stands_untouched
+free_address touched live [] is = absurd (cc)
+free_address touched live (BlockSeen block ∷ behind) is =
+    by (are_alike (live_of block behind) live) (at_or_below touched block behind) (stands_untouched touched behind live) refl refl is
+    (free_address touched live behind)
+  where
+    by : (a f s : Bool) → are_alike (live_of block behind) live ≡ a → at_or_below touched block behind ≡ f → ((a && not f) || s) ≡ true
+        → (s ≡ true → touched live.address ≡ false) → touched live.address ≡ false
+    by true true s near free is rest = rest is
+    by true false s near free is rest =
+        let none = or_parts (touched block.address) (list_any (is_block_where touched) (records_in block behind)) free in
+        subst (λ a. touched a ≡ false) (alike_place (live_of block behind) live near).1 none.0
+    by false f s near free is rest = rest is
+free_address touched live (PointerSeen one ∷ behind) is = free_address touched live behind is
+free_address touched live (ItemSeen one ∷ behind) is = free_address touched live behind is
+
 -- what is known of a shared pair
 pub record IsShared (old new : Walked) (written : Written) (end : ℕ) (live : Live) : Type 0 where
   pub alike : are_read_alike old.sup new.sup ≡ true
@@ -30,6 +47,24 @@ pub record IsShared (old new : Walked) (written : Written) (end : ℕ) (live : L
   pub stands : stands_untouched (touches_old old written end) old.seen live ≡ true
   pub there : list_any (are_alike live) (live_in new.seen) ≡ true
   pub free : touches_block written old.chunks old.sup.nodesize end live.address ≡ false
+
+pub shared_is : (old new : Walked) (written : Written) (end : ℕ) (live : Live) → is_shared old new written end live ≡ true
+    → IsShared old new written end live
+unfolding is_shared_by
+shared_is old new written end live is =
+    let stays = stays_in_place old.chunks new.chunks old.sup.nodesize end live.address in
+    let stands = stands_untouched (touches_old old written end) old.seen live in
+    let there = list_any (are_alike live) (live_in new.seen) in
+    let one = and_parts (are_read_alike old.sup new.sup) (stays && (stands && there)) is in
+    let two = and_parts stays (stands && there) one.1 in
+    let three = and_parts stands there two.1 in
+    record {
+      alike = one.0;
+      stays = two.0;
+      stands = three.0;
+      there = three.1;
+      free = free_address (touches_old old written end) live old.seen three.0;
+    }
 
 not_hot : (old new : Walked) (written : Written) (end : ℕ) (live : Live) → is_shared old new written end live ≡ true
     → is_hot old new written end live ≡ false

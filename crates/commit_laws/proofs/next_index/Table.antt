@@ -6,7 +6,6 @@ use Rattle.std.specs.Prelude.{Option, Some, None, Ok}
 use Rattle.std.specs.List.{AllByRecursion, filter, fold, list_any}
 use Rattle.std.specs.Ordering.{nat_cmp}
 use Rattle.std.specs.FinMap.{FinMap}
-use Rattle.commit_laws.proofs.Alike.{shared_is}
 use Rattle.live_index.proofs.PlaceLaws.{same_name}
 use Rattle.tree_laws.proofs.Shifting.{alike_some}
 use Rattle.verdict.proofs.Lists.{all_map as each_map}
@@ -29,7 +28,7 @@ use Rattle.touched_blocks.specs.Touched.{stays_in_place, written_in}
 use Rattle.tree_change.specs.Change.{IsChange}
 use Rattle.tree_change.specs.declared.change.Change.{Change}
 use Rattle.tree_change.proofs.Unordered.{all_filter}
-use Rattle.commit_laws.proofs.next_index.Hot.{IsShared, alike_place}
+use Rattle.commit_laws.proofs.next_index.Hot.{IsShared, alike_place, shared_is}
 use Rattle.commit_laws.proofs.next_index.Whole.{IsLive, all_permuted, none_filter, none_passes, same_pair, some_filter, still_none, whole_lives}
 
 -- a table without the pair that stands where one does

@@ -102,15 +102,6 @@ module _ {X Z : Type 0} (give : X → Option Z) where
   filter_map_alike alike unseen xs ys same =
       sym (as_flat xs) ∙ (flat_alike (λ x. optional (give x)) alike (λ x. ap optional (unseen x)) xs ys same ∙ as_flat ys)
 
-    as_filter : (zs : List X) → flat_map one zs ≡ filter test zs
-    as_filter [] = refl
-    as_filter (z ∷ zs) = by (test z) (as_filter zs)
-      where
-        by : (b : Bool) → flat_map one zs ≡ filter test zs
-            → (if b then z ∷ [] else []) ++ flat_map one zs ≡ (if b then z ∷ filter test zs else filter test zs)
-        by true rest = ap (λ more. z ∷ more) rest
-        by false rest = rest
-
 -- ---- the same order for another list that is alike
 
 module _ {X Y : Type 0} (f : X → Y) where
