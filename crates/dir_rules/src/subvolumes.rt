@@ -108,7 +108,8 @@ fn post_pair<P: Poster>(
 
 // A subvolume is named once more.
 fn post_child<P: Poster>(alloc: Global, child: u64, into: &mut P) -> Result<(), NoMemory>
-    ensures { P.Leaves into.old into.new result (to (kinds.subvolume child) ROOT_REFS_FOUND 1 ∷ []) }
+    ensures { P.Leaves into.old into.new result
+        (to (kinds.subvolume child) ROOT_REFS_FOUND 1 ∷ []) }
 {
     add(Account::subvolume(alloc, child), ROOT_REFS_FOUND, 1, into)
 }

@@ -162,7 +162,8 @@ impl Place {
 
     // That no chunk has it.
     fn post_outside<P: Poster>(&self, alloc: Global, into: &mut P) -> Result<(), NoMemory>
-        ensures { P.Leaves into.old into.new result (to (outside self.now.address) OUTSIDE_CHUNKS 1 ∷ []) }
+        ensures { P.Leaves into.old into.new result
+            (to (outside self.now.address) OUTSIDE_CHUNKS 1 ∷ []) }
     {
         into.put(Posting::to(Account::outside(alloc, self.address), OUTSIDE_CHUNKS, 1))
     }
