@@ -13,9 +13,8 @@ use Rattle.tree_laws.specs.Shared.{are_read_alike}
 use Rattle.touched_blocks.specs.Touched.{Written, stays_in_place, touches_block, written_in}
 use Rattle.tree_change.specs.Change.{IsChange}
 use Rattle.tree_change.specs.Gathered.{located_item}
-use Rattle.tree_change.specs.Merging.{IsSortedOf, named_before, root_at, roots_left}
+use Rattle.tree_change.specs.Merging.{IsSortedOf, named_before, roots_left}
 use Rattle.tree_change.specs.declared.change.Change.{Change}
-use Rattle.volume_items.specs.declared.root.RootItem.{RootItem}
 use Rattle.volume_items.specs.declared.root_at.RootAt.{RootAt}
 use Rattle.write_cache.specs.Cache.{overlaid}
 use Rattle.commit_laws.specs.Items.{ItemsStand, items_of}
@@ -34,13 +33,13 @@ FlagsLaw = (image : List ℕ) (pending : FinMap nat_cmp ℕ) (old new : Walked) 
 
 -- the root items of the next image are those of the first, without what is gone, and what came, in the order of their keys
 abbrev pub RootsLaw : Type 0
-RootsLaw = (image : List ℕ) (pending : FinMap nat_cmp ℕ) (old new : Walked) (change : Change) (olds news : List RootItem) (merged : List RootAt)
+RootsLaw = (image : List ℕ) (pending : FinMap nat_cmp ℕ) (old new : Walked) (change : Change) (olds news : List RootAt) (merged : List RootAt)
     → walked image ≡ Ok old → walked (overlaid pending 0 image) ≡ Ok new
     → ItemsStand old.sup.nodesize (items_of old) → ItemsStand new.sup.nodesize (items_of new)
     → IsChange old new (written_in pending) (length image) change
     → root_items_in old.sup old.chunks image ≡ Ok olds → root_items_in new.sup new.chunks (overlaid pending 0 image) ≡ Ok news
-    → IsSortedOf named_before (roots_left (map root_at olds) (map located_item change.old_items.items) (map located_item change.new_items.items)) merged
-    → merged ≡ map root_at news
+    → IsSortedOf named_before (roots_left olds (map located_item change.old_items.items) (map located_item change.new_items.items)) merged
+    → merged ≡ news
 
 -- whether a write touches a byte of a copy of a live pair's block, or the next image has no place or another for it
 unfoldable pub is_hot : Walked → Walked → Written → ℕ → Live → Bool

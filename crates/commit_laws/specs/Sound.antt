@@ -11,11 +11,10 @@ use Rattle.tree_laws.specs.LivePairs.{Walked, walked}
 use Rattle.span_index.specs.Sectors.{times_of_span}
 use Rattle.span_index.specs.Spans.{end_of}
 use Rattle.span_index.specs.declared.span.Span.{Span}
-use Rattle.tree_change.specs.Merging.{root_at}
-use Rattle.volume_items.specs.declared.root.RootItem.{RootItem}
 use Rattle.commit_laws.specs.Commit.{Commit, IsCommit, IsKnown, Known, came_by, context_by, gone_by}
 use Rattle.commit_laws.specs.Sectors.{AreSound}
 use Rattle.commit_laws.specs.Steps.{spans_of, step_posts}
+use Rattle.volume_items.specs.declared.root_at.RootAt.{RootAt}
 
 -- a span begins at a sector and ends at an address of 64 bits
 abbrev pub IsWhole : Span → Type 0
@@ -44,5 +43,5 @@ SoundLaw = (image : List ℕ) (pending : FinMap nat_cmp ℕ) (k : Known) (c : Co
 
 -- the root items of an image stand in the order of their keys, and no two have one key
 abbrev pub AscendLaw : Type 0
-AscendLaw = (image : List ℕ) (whole : Walked) (roots : List RootItem)
-    → walked image ≡ Ok whole → root_items_in whole.sup whole.chunks image ≡ Ok roots → KeysAscend (map root_at roots)
+AscendLaw = (image : List ℕ) (whole : Walked) (roots : List RootAt)
+    → walked image ≡ Ok whole → root_items_in whole.sup whole.chunks image ≡ Ok roots → KeysAscend roots

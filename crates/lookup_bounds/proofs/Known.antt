@@ -7,7 +7,6 @@ use Rattle.records.specs.Context.{context_of, has_sum_free}
 use Rattle.records.specs.Postings.{account_fault, all_postings}
 use Rattle.tree_laws.specs.LivePairs.{Walked, live_in, table_of, walked}
 use Rattle.span_index.specs.Sectors.{times_of_span}
-use Rattle.volume_items.specs.declared.root.RootItem.{RootItem}
 use Rattle.commit_laws.specs.Commit.{IsKnown, Known, context_by}
 use Rattle.commit_laws.specs.Same.{HeldLaw, records_of}
 use Rattle.commit_laws.specs.Steps.{spans_of}
@@ -16,10 +15,11 @@ use Rattle.commit_laws.proofs.whole_commits.Step.{known_at}
 use Rattle.commit_laws.proofs.accepted.Blocks.{no_fault, none_broken}
 use Rattle.commit_laws.proofs.whole_commits.Commit.{full_of, same_fault}
 use Rattle.lookup_bounds.specs.Work.{context_in}
+use Rattle.volume_items.specs.declared.root_at.RootAt.{RootAt}
 
 -- What is known of an image is what its walks come to, and no account of it is broken.
 pub record IsKnownBy (k : Known) (whole : Walked) : Type 0 where
-  pub roots : List RootItem
+  pub roots : List RootAt
   pub all : k ≡ known_at whole roots
   pub sup : k.sup ≡ whole.sup
   pub chunks : k.chunks ≡ whole.chunks

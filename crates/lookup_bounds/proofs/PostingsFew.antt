@@ -34,7 +34,6 @@ use Rattle.tree_laws.proofs.Treed.{steps_of}
 use Rattle.touched_blocks.specs.Touched.{written_in}
 use Rattle.tree_change.specs.Change.{IsChange}
 use Rattle.tree_change.specs.Gathered.{located_item}
-use Rattle.volume_items.specs.declared.root.RootItem.{RootItem}
 use Rattle.write_cache.specs.Cache.{overlaid}
 use Rattle.commit_laws.specs.Blocks.{BlocksLaw, HasOwnName}
 use Rattle.commit_laws.specs.Commit.{AreTheAffected, Commit, IsCommit, Known}
@@ -59,6 +58,7 @@ use Rattle.lookup_bounds.specs.Work.{items_that_count, new_postings, old_posting
 use Rattle.lookup_bounds.proofs.PostingsApart.{apart_alike, apart_part, its_like, no_more, of_both, one_key, one_tree, pairs_joined, pairs_right}
 use Rattle.lookup_bounds.proofs.PostingsCounted.{Differs, among_items, counts_otherwise, counts_there, each_posts_some, few_posts, items_there}
 use Rattle.lookup_bounds.proofs.Twins.{HasTwin, twin_of}
+use Rattle.volume_items.specs.declared.root_at.RootAt.{RootAt}
 
 -- the other laws
 pub record PostingLaws : Type 0 where
@@ -93,7 +93,7 @@ twins (x ∷ found) others have =
     only : (one : Located) → Contains (first ∷ []) one → first ≡ one
     only one has = elim (contains_cases first [] one has) [ inl here ↦ here | inr never ↦ absurd (contains_none one never) ]
 
-module _ (laws : PostingLaws) (image : List ℕ) (pending : FinMap nat_cmp ℕ) (old new : Walked) (olds news : List RootItem) (c : Commit)
+module _ (laws : PostingLaws) (image : List ℕ) (pending : FinMap nat_cmp ℕ) (old new : Walked) (olds news : List RootAt) (c : Commit)
     (between : Between image pending old new c.change c.changes) where
   abbrev k : Known
   k = known_at old olds

@@ -7,7 +7,6 @@ use Rattle.recon_disk.specs.Outside.{counted}
 use Rattle.recon_disk.specs.declared.disk.Disk.{Ghosts}
 use Rattle.write_cache.specs.Cache.{overlaid}
 use Rattle.super_reader.specs.declared.Super.{Super}
-use Rattle.volume_items.specs.declared.root.RootItem.{RootItem}
 use Rattle.verdict.specs.declared.place.Chunk.{Chunk}
 use Rattle.records.specs.Contents.{tree_records}
 use Rattle.records.specs.Seen.{Seen}
@@ -19,6 +18,7 @@ use Rattle.block_source.specs.declared.halt.Halt.{Halt}
 use Rattle.block_source.specs.Counts.{after_block, with_read}
 use Rattle.block_source.proofs.Counting.{block_two}
 use Rattle.plain_check.specs.Opened.{ReadsOnce, block_count}
+use Rattle.volume_items.specs.declared.root_at.RootAt.{RootAt}
 
 -- blocks among records, and among those behind them
 count_both : (first second : List Seen) → block_count (first ++ second) ≡ block_count first + block_count second
@@ -79,15 +79,15 @@ told_few_behind (Some image) source before after records kept whole is these =
     behind_few source before after kept whole (records (overlaid source.cache.now 0 image)) is these
 
 -- no tree is left
-none_left : (told : Option (List ℕ)) (source : BlockSource) (before after : ℕ) (sup : Super) (chunks : List Chunk) (roots : List RootItem) (i : ℕ) → length roots ≤ i
+none_left : (told : Option (List ℕ)) (source : BlockSource) (before after : ℕ) (sup : Super) (chunks : List Chunk) (roots : List RootAt) (i : ℕ) → length roots ≤ i
     → IfSome told (λ image. held_after (with_read source) after (tree_records sup chunks (drop i roots) (overlaid source.cache.now 0 image)) ≡ held_after (with_read source) before (tree_records sup chunks roots (overlaid source.cache.now 0 image)))
     → IfSome told (λ image. held_after (with_read source) before (tree_records sup chunks roots (overlaid source.cache.now 0 image)) ≡ Ok after)
 none_left None source before after sup chunks roots i past is = tt
 none_left (Some image) source before after sup chunks roots i past is =
-    sym is ∙ ap (λ (left : List RootItem). held_after (with_read source) after (tree_records sup chunks left (overlaid source.cache.now 0 image))) (drop_all i roots past)
+    sym is ∙ ap (λ (left : List RootAt). held_after (with_read source) after (tree_records sup chunks left (overlaid source.cache.now 0 image))) (drop_all i roots past)
 
 -- all trees that root items name were walked
-pub trees_few : {D A : Type 0} (disk : Ghosts D) (source : BlockSource) (before after : D) (result : Result A Halt) (sup : Super) (chunks : List Chunk) (roots : List RootItem) (i : ℕ) → length roots ≤ i
+pub trees_few : {D A : Type 0} (disk : Ghosts D) (source : BlockSource) (before after : D) (result : Result A Halt) (sup : Super) (chunks : List Chunk) (roots : List RootAt) (i : ℕ) → length roots ≤ i
     → IfSome (disk.bytes before) (λ image. held_after (with_read source) (disk.reads after) (tree_records sup chunks (drop i roots) (overlaid source.cache.now 0 image)) ≡ held_after (with_read source) (disk.reads before) (tree_records sup chunks roots (overlaid source.cache.now 0 image)))
     → ReadsOnce disk before after source.cache.now result (tree_records sup chunks roots)
 trees_few disk source before after (Err halt) sup chunks roots i past is = tt

@@ -5,4 +5,3 @@ pub mod Keeping
 pub mod Trees
 pub mod Counting
 pub mod Sums
-pub mod RootList

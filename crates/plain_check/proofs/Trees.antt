@@ -10,7 +10,6 @@ use Rattle.write_cache.specs.Cache.{overlaid}
 use Rattle.write_cache.proofs.CacheLaws.{length-overlaid}
 use Rattle.super_reader.specs.declared.Super.{Super}
 use Rattle.volume_items.specs.MapRules.{map_finding}
-use Rattle.volume_items.specs.declared.root.RootItem.{RootItem}
 use Rattle.node_reader.specs.declared.expect.Expect.{Expect}
 use Rattle.records.specs.Seen.{Seen}
 use Rattle.records.specs.Takes.{held_after, with_both, with_chunk, with_root}
@@ -21,6 +20,7 @@ use Rattle.block_source.specs.declared.halt.Halt.TheVariants.{Found, Disk, NoMem
 use Rattle.block_source.specs.Gives.{Gives, IsOutcome}
 use Rattle.plain_check.specs.Kept.{with_kept}
 use Rattle.plain_check.proofs.Keeping.{first_held, second_told, second_told_first}
+use Rattle.volume_items.specs.declared.root_at.RootAt.{RootAt}
 
 -- where a walk began
 begun : {A : Type 0} (first : A → Seen → A) (sup : Super) (chunks : List Chunk) (e root : Expect) (a none : A) (kept before : List Seen) (made : Result (A × List Seen) Finding) (image : List ℕ)
@@ -68,19 +68,19 @@ chunk_kept (Some image) m sup array e none nothing chunks kept p q r is =
     (begun with_chunk sup array e (chunk_tree_root sup) none [] nothing [] (Ok (chunks, kept)) (overlaid m 0 image) p q r is)
 
 -- the root items of the root tree, or the finding on them
-roots_made : (m : FinMap nat_cmp ℕ) (sup : Super) (chunks : List Chunk) (e : Expect) (none : List RootItem) (before : List Seen) (roots said : List RootItem) (kept : List Seen) (image : List ℕ)
+roots_made : (m : FinMap nat_cmp ℕ) (sup : Super) (chunks : List Chunk) (e : Expect) (none : List RootAt) (before : List Seen) (roots said : List RootAt) (kept : List Seen) (image : List ℕ)
     → none ≡ [] → e ≡ root_tree_root sup
     → held_after (with_both with_root with_kept) (none, before) (walk_in sup chunks e image) ≡ Ok (roots, kept) → said ≡ roots
-    → root_items_in sup chunks image ≡ and_then {A = Unit {0}} {B = List RootItem} (finding_or (roots_fault sup.compat_ro said) (tt {0})) (λ _. Ok roots)
+    → root_items_in sup chunks image ≡ and_then {A = Unit {0}} {B = List RootAt} (finding_or (roots_fault sup.compat_ro said) (tt {0})) (λ _. Ok roots)
 unfolding root_items_in
 roots_made m sup chunks e none before roots said kept image p r is same =
     let walked : held_after with_root [] (root_records sup chunks image) ≡ Ok roots =
     first_made with_root sup chunks (root_tree_root sup) [] roots before kept image (begun with_root sup chunks e (root_tree_root sup) none [] before before (Ok (roots, kept)) image p refl r is) in
-    ap (λ (held : Result (List RootItem) Finding). and_then {A = List RootItem} {B = List RootItem} held (λ rs. and_then {A = Unit {0}} {B = List RootItem} (finding_or (roots_fault sup.compat_ro rs) (tt {0})) (λ _. Ok rs))) walked
-    ∙ ap (λ (rs : List RootItem). and_then {A = Unit {0}} {B = List RootItem} (finding_or (roots_fault sup.compat_ro rs) (tt {0})) (λ _. Ok roots)) (sym same)
+    ap (λ (held : Result (List RootAt) Finding). and_then {A = List RootAt} {B = List RootAt} held (λ rs. and_then {A = Unit {0}} {B = List RootAt} (finding_or (roots_fault sup.compat_ro rs) (tt {0})) (λ _. Ok rs))) walked
+    ∙ ap (λ (rs : List RootAt). and_then {A = Unit {0}} {B = List RootAt} (finding_or (roots_fault sup.compat_ro rs) (tt {0})) (λ _. Ok roots)) (sym same)
 
 -- the rules on them keep
-pub roots_passed : (told : Option (List ℕ)) (m : FinMap nat_cmp ℕ) (sup : Super) (chunks : List Chunk) (e : Expect) (none : List RootItem) (before : List Seen) (roots said : List RootItem) (kept : List Seen) (done : Unit {0})
+pub roots_passed : (told : Option (List ℕ)) (m : FinMap nat_cmp ℕ) (sup : Super) (chunks : List Chunk) (e : Expect) (none : List RootAt) (before : List Seen) (roots said : List RootAt) (kept : List Seen) (done : Unit {0})
     → none ≡ [] → e ≡ root_tree_root sup
     → IfSome told (λ image. held_after (with_both with_root with_kept) (none, before) (walk_in sup chunks e (overlaid m 0 image)) ≡ Ok (roots, kept)) → said ≡ roots
     → finding_or (roots_fault sup.compat_ro said) (tt {0}) ≡ Ok done
@@ -88,13 +88,13 @@ pub roots_passed : (told : Option (List ℕ)) (m : FinMap nat_cmp ℕ) (sup : Su
 roots_passed None m sup chunks e none before roots said kept done p r is same keep = tt
 roots_passed (Some image) m sup chunks e none before roots said kept done p r is same keep =
     roots_made m sup chunks e none before roots said kept (overlaid m 0 image) p r is same
-    ∙ ap (λ (r : Result (Unit {0}) Finding). and_then {A = Unit {0}} {B = List RootItem} r (λ _. Ok roots)) keep
+    ∙ ap (λ (r : Result (Unit {0}) Finding). and_then {A = Unit {0}} {B = List RootAt} r (λ _. Ok roots)) keep
 
 pub halted_told : (told : Option (List ℕ)) → IfSome told (λ _. Unit {0})
 halted_told None = tt
 halted_told (Some image) = tt
 
-found_told : (told : Option (List ℕ)) (m : FinMap nat_cmp ℕ) (sup : Super) (chunks : List Chunk) (e : Expect) (none : List RootItem) (before : List Seen) (roots said : List RootItem) (kept : List Seen) (finding : Finding)
+found_told : (told : Option (List ℕ)) (m : FinMap nat_cmp ℕ) (sup : Super) (chunks : List Chunk) (e : Expect) (none : List RootAt) (before : List Seen) (roots said : List RootAt) (kept : List Seen) (finding : Finding)
     → none ≡ [] → e ≡ root_tree_root sup
     → IfSome told (λ image. held_after (with_both with_root with_kept) (none, before) (walk_in sup chunks e (overlaid m 0 image)) ≡ Ok (roots, kept)) → said ≡ roots
     → finding_or (roots_fault sup.compat_ro said) (tt {0}) ≡ Err finding
@@ -102,14 +102,14 @@ found_told : (told : Option (List ℕ)) (m : FinMap nat_cmp ℕ) (sup : Super) (
 found_told None m sup chunks e none before roots said kept finding p r is same stop = tt
 found_told (Some image) m sup chunks e none before roots said kept finding p r is same stop =
     roots_made m sup chunks e none before roots said kept (overlaid m 0 image) p r is same
-    ∙ ap (λ (r : Result (Unit {0}) Finding). and_then {A = Unit {0}} {B = List RootItem} r (λ _. Ok roots)) stop
+    ∙ ap (λ (r : Result (Unit {0}) Finding). and_then {A = Unit {0}} {B = List RootAt} r (λ _. Ok roots)) stop
 
 -- they stopped the step
-pub roots_halted : {D : Type 0} (disk : Ghosts D) (at : D) (m : FinMap nat_cmp ℕ) (sup : Super) (chunks : List Chunk) (e : Expect) (none : List RootItem) (before : List Seen) (roots said : List RootItem) (kept : List Seen) (halt : Halt)
+pub roots_halted : {D : Type 0} (disk : Ghosts D) (at : D) (m : FinMap nat_cmp ℕ) (sup : Super) (chunks : List Chunk) (e : Expect) (none : List RootAt) (before : List Seen) (roots said : List RootAt) (kept : List Seen) (halt : Halt)
     → none ≡ [] → e ≡ root_tree_root sup
     → IfSome (disk.bytes at) (λ image. held_after (with_both with_root with_kept) (none, before) (walk_in sup chunks e (overlaid m 0 image)) ≡ Ok (roots, kept)) → said ≡ roots
     → IsOutcome {A = Unit {0}} (Err halt) (finding_or (roots_fault sup.compat_ro said) (tt {0}))
-    → Gives {A = List RootItem} disk at m (Err halt) (λ image. root_items_in sup chunks image)
+    → Gives {A = List RootAt} disk at m (Err halt) (λ image. root_items_in sup chunks image)
 roots_halted disk at m sup chunks e none before roots said kept Disk p r is same stop = tt
 roots_halted disk at m sup chunks e none before roots said kept NoMemory p r is same stop =
     halted_told (disk.bytes at)
@@ -117,7 +117,7 @@ roots_halted disk at m sup chunks e none before roots said kept (Found finding) 
     found_told (disk.bytes at) m sup chunks e none before roots said kept finding p r is same stop
 
 -- its records behind others
-pub roots_kept : (told : Option (List ℕ)) (m : FinMap nat_cmp ℕ) (sup : Super) (chunks : List Chunk) (e : Expect) (none : List RootItem) (before : List Seen) (roots : List RootItem) (kept : List Seen)
+pub roots_kept : (told : Option (List ℕ)) (m : FinMap nat_cmp ℕ) (sup : Super) (chunks : List Chunk) (e : Expect) (none : List RootAt) (before : List Seen) (roots : List RootAt) (kept : List Seen)
     → none ≡ [] → e ≡ root_tree_root sup
     → IfSome told (λ image. held_after (with_both with_root with_kept) (none, before) (walk_in sup chunks e (overlaid m 0 image)) ≡ Ok (roots, kept))
     → IfSome told (λ image. behind before (root_records sup chunks (overlaid m 0 image)) ≡ Ok kept)

@@ -11,13 +11,13 @@ use Rattle.write_cache.specs.Cache.{overlaid}
 use Rattle.super_reader.specs.declared.Super.{Super}
 use Rattle.super_reader.specs.Superblock.{array_place}
 use Rattle.volume_items.specs.SystemArray.{array_chunks}
-use Rattle.volume_items.specs.declared.root.RootItem.{RootItem}
 use Rattle.records.specs.Seen.{Seen}
 use Rattle.records.specs.Seen.Seen.{BlockSeen, PointerSeen, ItemSeen}
 use Rattle.records.specs.Walk.{Records, behind, then_records}
 use Rattle.records.specs.Contents.{superblock_in, chunk_map_in, root_items_in, chunk_records, root_records, tree_records, super_record}
 use Rattle.block_source.specs.declared.halt.Halt.{Halt}
 use Rattle.plain_check.specs.declared.volume.Volume.{Volume}
+use Rattle.volume_items.specs.declared.root_at.RootAt.{RootAt}
 
 -- what is known: the bytes of the superblock place, what they say, all chunks, the root items, and the records of the chunk tree and,
 -- behind them, of the root tree
@@ -25,7 +25,7 @@ pub record Opened : Type 0 where
   pub raw : List ℕ
   pub sup : Super
   pub chunks : List Chunk
-  pub roots : List RootItem
+  pub roots : List RootAt
   pub seen : List Seen
 
 -- the records of the chunk tree, read through the chunks of the system array, and of the root tree, read through all chunks

@@ -6,7 +6,6 @@ mod judging;
 mod kept;
 mod law;
 mod primary;
-mod roots;
 mod takers;
 mod volume;
 

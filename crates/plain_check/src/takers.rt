@@ -1,19 +1,19 @@
-//! Who takes records in the check itself: the root items of the root tree.
+//! Who takes records in the check itself: where trees begin, by the root items of the root tree.
 
 ghost use Rattle.std.specs.Prelude.{◌≡◌, []};
-ghost use Rattle.volume_items.specs.declared.root.RootItem.{RootItem as ARoot};
+ghost use Rattle.volume_items.specs.declared.root_at.RootAt.{RootAt as ARoot};
 ghost use Rattle.records.specs.Takes.{with_root};
 
 use records::{Rec, RecAt, Record, Taker};
 use std::alloc::Global;
 use verdict::NoMemory;
-use volume_items::RootItem;
+use volume_items::RootAt;
 
-// The root items, in their order.
+// Where trees begin by root items, in the order of these.
 #[derive(Debug, Drop)]
 pub struct Roots {
-    // The list of the items.
-    pub items: Vec<RootItem>,
+    // The list.
+    pub items: Vec<RootAt>,
 }
 
 impl Roots {
@@ -39,7 +39,7 @@ impl Taker for Roots {
     fn take(&mut self, one: &Record<'_>) -> Result<(), NoMemory> {
         if let Record::Item(one) = one
             && let Rec::RootItem(item) = one.part
-            && self.items.push(item).is_err()
+            && self.items.push(RootAt::of(&item)).is_err()
         {
             return Err(NoMemory);
         }

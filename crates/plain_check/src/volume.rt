@@ -29,7 +29,6 @@ ghost use Rattle.plain_check.specs.Opened.{
 
 use crate::kept::KeptRecords;
 use crate::primary::read_superblock;
-use crate::roots::{check_roots, named};
 use crate::takers::Roots;
 use block_source::{BlockSource, Chunks, Halt, chunk_root, system_chunks, top_root, walk_into};
 use chunk_map::ChunkMap;
@@ -38,7 +37,7 @@ use records::{Both, Rec, RecAt, Record, Taker};
 use std::alloc::Global;
 use super_reader::Super;
 use verdict::Key;
-use volume_items::RootItem;
+use volume_items::RootAt;
 use write_cache::WriteCache;
 
 /// What is known of an image once its chunk tree and its root tree were walked. The records of these two trees are kept,
@@ -51,8 +50,8 @@ pub struct Volume {
     pub raw: [u8; 4096],
     /// All chunks.
     pub map: ChunkMap,
-    /// The root items, in their order.
-    pub roots: Vec<RootItem>,
+    /// Where the trees begin by the root items, in the order of these.
+    pub roots: Vec<RootAt>,
     /// The length of the disk in bytes.
     pub end: u64,
     // The records of the chunk tree, and behind them those of the root tree.
@@ -201,8 +200,10 @@ fn root_tree<D: Disk>(
         second: kept,
     };
     walk_into(alloc, disk, volume, &top_root(volume.sup), &mut both)?;
-    check_roots(alloc, volume.sup.compat_ro, &both.first.items)?;
-    Ok(both)
+    match roots_fault(alloc, volume.sup.compat_ro, &both.first.items)? {
+        Some(found) => Err(Halt::Found(found)),
+        None => Ok(both),
+    }
 }
 
 // The record of the superblock.
@@ -225,7 +226,7 @@ fn walk_trees<D: Disk, T: Taker>(
     alloc: Global,
     disk: &mut D,
     volume: &BlockSource<'_>,
-    roots: &[RootItem],
+    roots: &[RootAt],
     into: &mut T,
 ) -> Result<(), Halt>
     requires size { is_node_size volume.now.sup.now.nodesize ≡ true }
@@ -239,7 +240,7 @@ fn walk_trees<D: Disk, T: Taker>(
     ensures kept { Kept D.Disk disk.old disk.new (is_disk_halt result) }
 {
     for root in roots {
-        walk_into(alloc, disk, volume, &named(root), into)?;
+        walk_into(alloc, disk, volume, &named_root(root), into)?;
     }
     Ok(())
 }

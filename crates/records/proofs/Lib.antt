@@ -2,3 +2,4 @@ pub mod Alike
 pub mod Accepted
 pub mod Lawful
 pub mod SectorSums
+pub mod RootList

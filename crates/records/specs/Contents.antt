@@ -14,7 +14,6 @@ use Rattle.super_reader.specs.declared.Super.{Super}
 use Rattle.super_reader.specs.Superblock.{superblock_of, array_place}
 use Rattle.volume_items.specs.SystemArray.{array_chunks}
 use Rattle.volume_items.specs.MapRules.{map_finding}
-use Rattle.volume_items.specs.declared.root.RootItem.{RootItem}
 use Rattle.node_reader.specs.declared.expect.Expect.{Expect}
 use Rattle.records.specs.Part.{Located}
 use Rattle.records.specs.Part.Part.{SuperPart}
@@ -22,6 +21,7 @@ use Rattle.records.specs.Seen.{accounted}
 use Rattle.records.specs.Walk.{Records, each, then_records, walk_in}
 use Rattle.records.specs.Takes.{held_after, with_chunk, with_root}
 use Rattle.verdict.specs.declared.kinds.TheConstants.{ROOT_ITEM}
+use Rattle.volume_items.specs.declared.root_at.RootAt.{RootAt}
 
 -- the superblock of an image, or the first finding: the image has fewer than 69,632 bytes, so that no superblock lies in it, or a
 -- rule of the superblock fails
@@ -51,19 +51,19 @@ abbrev pub root_tree_root : Super → Expect
 root_tree_root sup = root_expected ROOT_TREE sup.root sup.generation sup.root_level
 
 -- the root of the tree that a root item names
-abbrev pub named_root : RootItem → Expect
-named_root root = root_expected root.key.objectid root.bytenr root.generation root.level
+abbrev pub named_root : RootAt → Expect
+named_root root = root_expected root.key.objectid root.address root.generation root.level
 
 -- a finding on the list of root items
 abbrev pub roots_finding : ℕ → Key → Finding
 roots_finding number key = record { rule = record { family = X; number = number }; tree = ROOT_TREE; block = 0; key = key; detail = 0 }
 
 -- whether a root item names a tree
-abbrev pub names : ℕ → RootItem → Bool
+abbrev pub names : ℕ → RootAt → Bool
 names id root = root.key.objectid == id
 
 -- X1: a root item has the id of an earlier root item; those before are given first
-unfoldable pub repeated_after : List RootItem → List RootItem → Option Finding
+unfoldable pub repeated_after : List RootAt → List RootAt → Option Finding
 repeated_after before [] = None
 repeated_after before (root ∷ roots) =
     if list_any (names root.key.objectid) before then Some (roots_finding 1 root.key) else repeated_after (before ++ root ∷ []) roots
@@ -73,18 +73,18 @@ abbrev pub missing_finding : ℕ → Finding
 missing_finding id = roots_finding 2 (record { objectid = id; kind = ROOT_ITEM; offset = 0 })
 
 -- X2: no root item names a tree that each image has
-abbrev pub missing_row : List RootItem → ℕ → TableRow
+abbrev pub missing_row : List RootAt → ℕ → TableRow
 missing_row roots id = record { fails = not (list_any (names id) roots); finding = missing_finding id }
 
 -- X2 of the extent tree, the device tree, the first file tree and the tree of checksums, and of the tree of block groups where these
 -- have one of their own
-abbrev pub missing_rows : ℕ → List RootItem → List TableRow
+abbrev pub missing_rows : ℕ → List RootAt → List TableRow
 missing_rows compat_ro roots =
     missing_row roots EXTENT_TREE ∷ missing_row roots DEV_TREE ∷ missing_row roots FS_TREE ∷ missing_row roots CSUM_TREE
     ∷ record { fails = has_group_tree compat_ro && not (list_any (names BLOCK_GROUP_TREE) roots); finding = missing_finding BLOCK_GROUP_TREE } ∷ []
 
 -- the first finding on the list of root items
-unfoldable pub roots_fault : ℕ → List RootItem → Option Finding
+unfoldable pub roots_fault : ℕ → List RootAt → Option Finding
 roots_fault compat_ro roots = or_found (repeated_after [] roots) (first_failing (missing_rows compat_ro roots))
 
 -- the chunk tree's records, read through the chunks of the system array
@@ -102,19 +102,19 @@ chunk_map_in sup array image =
 abbrev pub root_records : Super → List Chunk → List ℕ → Records
 root_records sup chunks image = walk_in sup chunks (root_tree_root sup) image
 
--- the root items of the root tree, where the rules on their list keep
-unfoldable pub root_items_in : Super → List Chunk → List ℕ → Result (List RootItem) Finding
+-- where the trees begin by the root items of the root tree, where the rules on their list keep
+unfoldable pub root_items_in : Super → List Chunk → List ℕ → Result (List RootAt) Finding
 root_items_in sup chunks image =
     and_then (held_after with_root [] (root_records sup chunks image)) (λ roots.
     and_then (finding_or (roots_fault sup.compat_ro roots) (tt {0})) (λ _.
     Ok roots))
 
 -- the records of the trees that root items name, in the order of the items, which is that of the ids as unsigned numbers
-abbrev pub tree_records : Super → List Chunk → List RootItem → List ℕ → Records
+abbrev pub tree_records : Super → List Chunk → List RootAt → List ℕ → Records
 tree_records sup chunks roots image = each (λ root. walk_in sup chunks (named_root root) image) roots
 
 -- the records of all trees
-unfoldable pub all_records : Super → List Chunk → List Chunk → List RootItem → List ℕ → Records
+unfoldable pub all_records : Super → List Chunk → List Chunk → List RootAt → List ℕ → Records
 all_records sup array chunks roots image =
     then_records (chunk_records sup array image) (then_records (root_records sup chunks image) (tree_records sup chunks roots image))
 
@@ -126,7 +126,7 @@ super_record sup = record { tree = 0; block = 0; key = no_key; part = SuperPart 
 pub record Contents : Type 0 where
   pub sup : Super
   pub chunks : List Chunk
-  pub roots : List RootItem
+  pub roots : List RootAt
   pub records : List Located
 
 -- what an image holds, or the first finding: of the superblock, of the system array, of the chunk tree and the rules on the chunk map,

@@ -4,12 +4,13 @@ use Rattle.std.specs.List.{fold}
 use Rattle.verdict.specs.declared.finding.Finding.{Finding}
 use Rattle.verdict.specs.declared.place.Chunk.{Chunk}
 use Rattle.volume_items.specs.ChunkRow.{chunk_of}
-use Rattle.volume_items.specs.declared.root.RootItem.{RootItem}
 use Rattle.records.specs.Part.{Located, Part}
 use Rattle.records.specs.Seen.{Seen, block_record}
 use Rattle.records.specs.Seen.Seen.{BlockSeen, PointerSeen, ItemSeen}
 use Rattle.records.specs.Part.Part.{RootPart, ChunkPart}
 use Rattle.records.specs.Walk.{Records}
+use Rattle.volume_items.specs.declared.root_at.RootAt.{RootAt}
+use Rattle.volume_items.specs.RootPlace.{root_at}
 
 -- what is held after records are taken, or their finding
 abbrev pub held_after : {H : Type 0} → (H → Seen → H) → H → Records → Result H Finding
@@ -36,12 +37,12 @@ abbrev pub with_chunk : List Chunk → Seen → List Chunk
 with_chunk chunks (ItemSeen one) = with_chunk_part chunks one.part
 with_chunk chunks other = chunks
 
--- root items, with one more
-abbrev with_root_part : List RootItem → Part → List RootItem
-with_root_part roots (RootPart item) = roots ++ item ∷ []
+-- where trees begin, with one more root item
+abbrev with_root_part : List RootAt → Part → List RootAt
+with_root_part roots (RootPart item) = roots ++ root_at item ∷ []
 with_root_part roots other = roots
 
--- the root items, with one record more
-abbrev pub with_root : List RootItem → Seen → List RootItem
+-- where trees begin by the root items, with one record more
+abbrev pub with_root : List RootAt → Seen → List RootAt
 with_root roots (ItemSeen one) = with_root_part roots one.part
 with_root roots other = roots

@@ -13,11 +13,12 @@ use Rattle.volume_items.specs.declared.root_at.RootAt.{RootAt}
 use Rattle.records.specs.Part.{Located}
 use Rattle.block_source.specs.declared.halt.Halt.{Halt}
 use Rattle.block_source.specs.declared.halt.Halt.TheVariants.{Found, Disk, NoMemory}
-use Rattle.tree_change.specs.AllTrees.{gone_all, has_id, named_at, named_parts, no_parts, root_named, with_parts}
+use Rattle.tree_change.specs.AllTrees.{gone_all, named_parts, no_parts, root_named, with_parts}
 use Rattle.tree_change.specs.Making.{AddsParts, IsAdded, TellsParts, gone_in, gone_parts_in, named_parts_in, parts_by, parts_in}
 use Rattle.tree_change.specs.Walks.{Parts}
 use Rattle.tree_change.specs.declared.sides.Sides.{Sides}
 use Rattle.tree_change.specs.declared.trees.TreeParts.{TreeParts}
+use Rattle.records.specs.Contents.{names, named_root}
 
 -- parts by what they hold
 abbrev made_of : List Live → List Live → List Live → List Located → List Located → ℕ → Parts
@@ -151,13 +152,13 @@ so_halts {D} {A} disk first now after some all other here rest left whole halt r
 
 -- a place of the list of trees that are named now, and its end
 pub named_step : {L : Type 0} (sides : Sides L) (olds news : List RootAt) (i : ℕ) (d : RootAt) (before : Option Expect) (now : Expect)
-    → i < length news → before ≡ root_named olds (get_or news i d).key.objectid → now ≡ named_at (get_or news i d) → (image : List ℕ)
+    → i < length news → before ≡ root_named olds (get_or news i d).key.objectid → now ≡ named_root (get_or news i d) → (image : List ℕ)
     → named_parts_in sides olds (drop i news) image
     ≡ then_parts (parts_in sides before now image) (named_parts_in sides olds (drop (i + 1) news) image)
 unfolding named_parts
 named_step sides olds news i d before now inside is_before is_now image =
     ap (λ roots. named_parts_in sides olds roots image) (drop_more news i d inside)
-    ∙ ap (λ e. then_parts (parts_in sides e (named_at (get_or news i d)) image) (named_parts_in sides olds (drop (i + 1) news) image)) (sym is_before)
+    ∙ ap (λ e. then_parts (parts_in sides e (named_root (get_or news i d)) image) (named_parts_in sides olds (drop (i + 1) news) image)) (sym is_before)
     ∙ ap (λ e. then_parts (parts_in sides before e image) (named_parts_in sides olds (drop (i + 1) news) image)) (sym is_now)
 
 pub named_none : {L : Type 0} (sides : Sides L) (olds news : List RootAt) → news ≡ [] → (image : List ℕ)
@@ -166,38 +167,38 @@ unfolding named_parts
 named_none sides olds news none image = ap (λ roots. named_parts_in sides olds roots image) none
 
 -- whether a root is named
-pub named_any : (roots : List RootAt) (id : ℕ) → is_some (root_named roots id) ≡ list_any (has_id id) roots
+pub named_any : (roots : List RootAt) (id : ℕ) → is_some (root_named roots id) ≡ list_any (names id) roots
 named_any [] id = refl
-named_any (root ∷ roots) id = by (has_id id root) (named_any roots id)
+named_any (root ∷ roots) id = by (names id root) (named_any roots id)
   where
-    by : (b : Bool) → is_some (root_named roots id) ≡ list_any (has_id id) roots
-        → is_some (if b then Some (named_at root) else root_named roots id) ≡ (b || list_any (has_id id) roots)
+    by : (b : Bool) → is_some (root_named roots id) ≡ list_any (names id) roots
+        → is_some (if b then Some (named_root root) else root_named roots id) ≡ (b || list_any (names id) roots)
     by true more = refl
     by false more = more
 
 pub named_has : (named : Option Expect) (roots : List RootAt) (id : ℕ) (has b : Bool) → named ≡ root_named roots id → has ≡ is_some named → has ≡ b
-    → list_any (has_id id) roots ≡ b
+    → list_any (names id) roots ≡ b
 named_has named roots id has b is so same = sym (named_any roots id) ∙ ap is_some (sym is) ∙ sym so ∙ same
 
 -- a place of the list of trees that were, where one is gone and where it is not, and its end
 pub gone_step : {L : Type 0} (sides : Sides L) (news olds : List RootAt) (i : ℕ) (d : RootAt) (before : Expect) → i < length olds
-    → list_any (has_id (get_or olds i d).key.objectid) news ≡ false → before ≡ named_at (get_or olds i d) → (image : List ℕ)
+    → list_any (names (get_or olds i d).key.objectid) news ≡ false → before ≡ named_root (get_or olds i d) → (image : List ℕ)
     → gone_parts_in sides news (drop i olds) image ≡ then_parts (gone_in sides before image) (gone_parts_in sides news (drop (i + 1) olds) image)
 unfolding gone_all
 gone_step sides news olds i d before inside none is image =
     ap (λ roots. gone_parts_in sides news roots image) (drop_more olds i d inside)
     ∙ ap (λ b. if b then gone_parts_in sides news (drop (i + 1) olds) image
-    else then_parts (gone_in sides (named_at (get_or olds i d)) image) (gone_parts_in sides news (drop (i + 1) olds) image)) none
+    else then_parts (gone_in sides (named_root (get_or olds i d)) image) (gone_parts_in sides news (drop (i + 1) olds) image)) none
     ∙ ap (λ e. then_parts (gone_in sides e image) (gone_parts_in sides news (drop (i + 1) olds) image)) (sym is)
 
 pub gone_past : {L : Type 0} (sides : Sides L) (news olds : List RootAt) (i : ℕ) (d : RootAt) → i < length olds
-    → list_any (has_id (get_or olds i d).key.objectid) news ≡ true → (image : List ℕ)
+    → list_any (names (get_or olds i d).key.objectid) news ≡ true → (image : List ℕ)
     → gone_parts_in sides news (drop i olds) image ≡ gone_parts_in sides news (drop (i + 1) olds) image
 unfolding gone_all
 gone_past sides news olds i d inside some image =
     ap (λ roots. gone_parts_in sides news roots image) (drop_more olds i d inside)
     ∙ ap (λ b. if b then gone_parts_in sides news (drop (i + 1) olds) image
-    else then_parts (gone_in sides (named_at (get_or olds i d)) image) (gone_parts_in sides news (drop (i + 1) olds) image)) some
+    else then_parts (gone_in sides (named_root (get_or olds i d)) image) (gone_parts_in sides news (drop (i + 1) olds) image)) some
 
 pub gone_none : {L : Type 0} (sides : Sides L) (news olds : List RootAt) → olds ≡ [] → (image : List ℕ)
     → gone_parts_in sides news olds image ≡ Ok no_parts

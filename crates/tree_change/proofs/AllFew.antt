@@ -21,7 +21,6 @@ use Rattle.node_reader.specs.Stored.CopyFault.{NoPlace}
 use Rattle.super_reader.specs.Superblock.{array_place}
 use Rattle.super_reader.specs.declared.Super.{Super}
 use Rattle.volume_items.specs.SystemArray.{array_chunks}
-use Rattle.volume_items.specs.declared.root.RootItem.{RootItem}
 use Rattle.records.specs.Contents.{all_records, chunk_map_in, chunk_tree_root, root_items_in, root_tree_root, roots_fault}
 use Rattle.records.specs.Seen.{Seen}
 use Rattle.records.specs.Walk.{walk_in}
@@ -51,7 +50,7 @@ use Rattle.tree_change.specs.Compared.{HasNewMap, IsCompared, KeepsBy, judged_by
 use Rattle.tree_change.specs.FewLooks.{few_looks}
 use Rattle.tree_change.specs.Looks.{gone_all_looks, named_looks, tree_looks}
 use Rattle.tree_change.specs.LooksLaw.{entries_of}
-use Rattle.tree_change.specs.Merging.{IsSortedOf, named_before, root_at, roots_left}
+use Rattle.tree_change.specs.Merging.{IsSortedOf, named_before, roots_left}
 use Rattle.tree_change.specs.OneTree.{IsTree, KnowsNothing, KnowsTree, side_of, unchanged}
 use Rattle.tree_change.specs.Stays.{RootsStand}
 use Rattle.tree_change.specs.Told.{side_with}
@@ -83,6 +82,7 @@ use Rattle.tree_change.proofs.RisenShared.{shared_is}
 use Rattle.tree_change.proofs.RootItems.{roots_made}
 use Rattle.tree_change.proofs.TreeSums.{all_cost, gone_all_sum, named_sum, tree_cost, tree_sum}
 use Rattle.tree_change.proofs.Unordered.{all_filter}
+use Rattle.volume_items.specs.declared.root_at.RootAt.{RootAt}
 
 -- a result is a value, where it is no finding
 value_of : {A : Type 0} (result : Result A Finding) → ((finding : Finding) → result ≡ Err finding → ⊥) → (value : A) × (result ≡ Ok value)
@@ -358,7 +358,7 @@ module _ {L : Type 0} (both : Compared L) (image : List ℕ) (c : IsCompared bot
 
     -- ---- what changes in each tree
 
-    abbrev olds : List RootItem
+    abbrev olds : List RootAt
     olds = c.based.olds
 
     abbrev was : Side
@@ -421,8 +421,8 @@ module _ {L : Type 0} (both : Compared L) (image : List ℕ) (c : IsCompared bot
         (was_is both image chunks c) fr.tree
 
     record HasRoots : Type 0 where
-      pub news : List RootItem
-      pub roots_are : fr.roots ≡ map root_at news
+      pub news : List RootAt
+      pub roots_are : fr.roots ≡ news
       pub items : root_items_in both.fresh.now chunks judged ≡ Ok news
 
     roots : HasRoots
@@ -434,17 +434,17 @@ module _ {L : Type 0} (both : Compared L) (image : List ℕ) (c : IsCompared bot
         step_ok (finding_or (roots_fault both.fresh.now.compat_ro made.0) (tt {0})) (λ _. Ok made.0) steps.roots (sym made.2 ∙ steps.items) in
         record { news = made.0; roots_are = made.1; items = steps.items ∙ sym step.2 }
 
-    named_made : (parts : Parts) × (named_parts pairs fr.known was side (map root_at olds) (map root_at roots.news) ≡ Ok parts)
-    named_made = value_of (named_parts pairs fr.known was side (map root_at olds) (map root_at roots.news)) (λ finding failed.
+    named_made : (parts : Parts) × (named_parts pairs fr.known was side olds roots.news ≡ Ok parts)
+    named_made = value_of (named_parts pairs fr.known was side olds roots.news) (λ finding failed.
         not_both (all_records both.fresh.now steps.array chunks roots.news judged) seen finding
         (subst (λ rs. all_records both.fresh.now steps.array chunks rs judged ≡ Ok seen)
         (same_ok steps.roots roots.news (sym steps.items ∙ roots.items)) steps.records)
         (all_found judged both.fresh.now c.super_is steps.array steps.arrays chunks steps.chunks_are roots.news roots.items finding
         ((named_law one_tree image both.cache.now old olds trees pairs side fr.known roots.news over).0 finding failed)))
 
-    gone_made : (parts : Parts) × (gone_all pairs fr.known was (map root_at roots.news) (map root_at olds) ≡ Ok parts)
-    gone_made = value_of (gone_all pairs fr.known was (map root_at roots.news) (map root_at olds)) (λ finding failed.
-        gone_law image both.cache.now old olds trees pairs side fr.known (map root_at roots.news) finding over failed)
+    gone_made : (parts : Parts) × (gone_all pairs fr.known was roots.news olds ≡ Ok parts)
+    gone_made = value_of (gone_all pairs fr.known was roots.news olds) (λ finding failed.
+        gone_law image both.cache.now old olds trees pairs side fr.known roots.news finding over failed)
 
     abbrev parts : Parts
     parts = with_parts chunk_made.0 (with_parts fr.parts (with_parts named_made.0 gone_made.0))
@@ -498,7 +498,7 @@ module _ {L : Type 0} (both : Compared L) (image : List ℕ) (c : IsCompared bot
     named_cost =
         subst (λ s. named_looks both.is_same fr.known s side both.roots.now fr.roots ≤ all_cost was side named_made.0) (sym (was_is both image chunks c))
         (subst (λ rs. named_looks both.is_same fr.known was side rs fr.roots ≤ all_cost was side named_made.0) (sym c.based.roots_are)
-        (subst (λ rs. named_looks both.is_same fr.known was side (map root_at olds) rs ≤ all_cost was side named_made.0) (sym roots.roots_are)
+        (subst (λ rs. named_looks both.is_same fr.known was side olds rs ≤ all_cost was side named_made.0) (sym roots.roots_are)
         (named_sum image both.cache.now old olds trees pairs side fr.known both.is_same same_alike low_olds roots.news named_made.0
         (named_trees one_tree image both.cache.now old new olds roots.news trees afters array pairs fm.known fr.known chunk_made.0 fr.parts
         named_made.0 gone_made.0 all_is) (roots_low both.fresh.now chunks judged roots.news roots.items) named_made.1)))
@@ -507,9 +507,9 @@ module _ {L : Type 0} (both : Compared L) (image : List ℕ) (c : IsCompared bot
     gone_cost =
         subst (λ s. gone_all_looks fr.known s fr.roots both.roots.now ≤ all_cost was side gone_made.0) (sym (was_is both image chunks c))
         (subst (λ rs. gone_all_looks fr.known was fr.roots rs ≤ all_cost was side gone_made.0) (sym c.based.roots_are)
-        (subst (λ rs. gone_all_looks fr.known was rs (map root_at olds) ≤ all_cost was side gone_made.0) (sym roots.roots_are)
+        (subst (λ rs. gone_all_looks fr.known was rs olds ≤ all_cost was side gone_made.0) (sym roots.roots_are)
         (gone_all_sum image both.cache.now old olds trees pairs side fr.known both.is_same same_alike low_olds c.based.has c.based.pairs_are
-        (map root_at roots.news) olds gone_made.0
+        roots.news olds gone_made.0
         (olds_named one_tree image both.cache.now old new olds roots.news trees afters array pairs fm.known fr.known chunk_made.0 fr.parts
         named_made.0 gone_made.0 all_is) low_olds gone_made.1)))
 
@@ -633,7 +633,7 @@ module _ {L : Type 0} (both : Compared L) (image : List ℕ) (c : IsCompared bot
     parts_moved : length parts.moved ≤ 2 + moved_cost side parts
     parts_moved =
         let p = chunk_made.0 in
-        let stand : RootsStand pairs (map root_at olds) = subst (RootsStand pairs) c.based.roots_are (roots_stand both image chunks c) in
+        let stand : RootsStand pairs olds = subst (RootsStand pairs) c.based.roots_are (roots_stand both image chunks c) in
         let chunk =
         moved_tree image both.cache.now old trees pairs array_side fm.known (Some (chunk_tree_root old.sup)) (chunk_tree_root both.fresh.now) p chunk_tree
         new_low.1 old_low.1 chunk_made.1 in
@@ -644,7 +644,7 @@ module _ {L : Type 0} (both : Compared L) (image : List ℕ) (c : IsCompared bot
         (moved_named image both.cache.now old olds trees pairs side fr.known both.is_same same_alike low_olds by_old stand roots.news named_made.0
         (named_trees one_tree image both.cache.now old new olds roots.news trees afters array pairs fm.known fr.known chunk_made.0 fr.parts
         named_made.0 gone_made.0 all_is) (roots_low both.fresh.now chunks judged roots.news roots.items) named_made.1)
-        (moved_gone image both.cache.now old olds trees pairs side fr.known both.is_same same_alike low_olds by_old stand (map root_at roots.news) olds
+        (moved_gone image both.cache.now old olds trees pairs side fr.known both.is_same same_alike low_olds by_old stand roots.news olds
         gone_made.0 gone_made.1)
 
     pub moved_few : length (shifted_in old new (written_in both.cache.now) (length image)) ≤ 2 + (entries_of side come + 8 * length come + length left)

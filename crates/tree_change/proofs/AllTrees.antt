@@ -8,12 +8,11 @@ use Rattle.std.specs.Ordering.{nat_cmp}
 use Rattle.std.specs.FinMap.{FinMap}
 use Rattle.verdict.specs.declared.place.Chunk.{Chunk}
 use Rattle.write_cache.specs.Cache.{overlaid}
-use Rattle.volume_items.specs.declared.root.RootItem.{RootItem}
 use Rattle.live_index.specs.Pairs.{Pairs}
 use Rattle.live_index.specs.declared.live.Live.{Live}
 use Rattle.node_reader.specs.Stored.{Stored, stored_in}
 use Rattle.node_reader.specs.declared.expect.Expect.{Expect}
-use Rattle.records.specs.Contents.{chunk_tree_root, named_root, root_tree_root}
+use Rattle.records.specs.Contents.{chunk_tree_root, named_root, root_tree_root, names}
 use Rattle.records.specs.Seen.{Seen}
 use Rattle.records.specs.Walk.{walk_in}
 use Rattle.touched_blocks.specs.Touched.{written_in}
@@ -25,9 +24,8 @@ use Rattle.tree_laws.specs.Unshared.{items_in}
 use Rattle.tree_laws.proofs.Forest.{walks}
 use Rattle.tree_laws.proofs.Lives.{ok_same}
 use Rattle.tree_laws.proofs.Treed.{chunk_tree, trees_walk}
-use Rattle.tree_change.specs.AllTrees.{AllTreesLaw, AreAllParts, IsAll, has_id, named_at, root_named, side_by, with_parts}
+use Rattle.tree_change.specs.AllTrees.{AllTreesLaw, AreAllParts, IsAll, root_named, side_by, with_parts}
 use Rattle.tree_change.specs.Change.{is_before, item_before}
-use Rattle.tree_change.specs.Merging.{root_at}
 use Rattle.tree_change.specs.OneTree.{IsAmong, IsOldOf, IsTree, OneTreeLaw, unchanged, side_of}
 use Rattle.tree_change.specs.Unchanged.{changed_in, is_unchanged}
 use Rattle.tree_change.specs.Walks.{Known, Parts, Side, gone_parts, tree_parts}
@@ -40,11 +38,12 @@ use Rattle.tree_change.proofs.Piece.{ArePieces, IsPiece, changed, item_id, live_
 use Rattle.tree_change.proofs.Split.{AreListed, Gives, IsOf, are_listed, items_filter, of_trees, stands_in}
 use Rattle.tree_change.proofs.EveryTree.{all_among, gone_pieces, knows_one, named_pieces, old_named, tree_piece}
 use Rattle.tree_change.proofs.Unordered.{Distinct, all_filter, by_ids, in_order, listed, of_ids}
+use Rattle.volume_items.specs.declared.root_at.RootAt.{RootAt}
 
 other_way : (m n : ℕ) → (m == n) ≡ false → (n == m) ≡ false
 other_way m n is = grind (arith, nat_tests)
 
-module _ (law : OneTreeLaw) (image : List ℕ) (pending : FinMap nat_cmp ℕ) (old new : Walked) (olds news : List RootItem) (trees afters : List Tree)
+module _ (law : OneTreeLaw) (image : List ℕ) (pending : FinMap nat_cmp ℕ) (old new : Walked) (olds news : List RootAt) (trees afters : List Tree)
     (array : List Chunk) (pairs : Pairs) (by_array known : Known) (chunk_parts root_parts named left : Parts)
     (a : IsAll image pending old new olds news trees afters array pairs by_array known chunk_parts root_parts named left) where
   abbrev pub judged : List ℕ
@@ -57,7 +56,7 @@ module _ (law : OneTreeLaw) (image : List ℕ) (pending : FinMap nat_cmp ℕ) (o
   all = changed old new (written_in pending) (length image)
 
   abbrev ids : List ℕ
-  ids = all_ids (map root_at news) (map root_at olds)
+  ids = all_ids news olds
 
   abbrev pub was_stored : Stored
   was_stored = stored_in image old.chunks old.sup.nodesize
@@ -71,10 +70,10 @@ module _ (law : OneTreeLaw) (image : List ℕ) (pending : FinMap nat_cmp ℕ) (o
   is_all : AreApart afters × (walks new.sup afters ≡ Ok new.seen)
   is_all = trees_walk judged new afters a.has
 
-  old_distinct : Distinct (3 ∷ 1 ∷ at_ids (map root_at olds))
+  old_distinct : Distinct (3 ∷ 1 ∷ at_ids olds)
   old_distinct = image_ids old.sup old.chunks olds image (subst AreApart a.over.trees_are was_all.0)
 
-  new_distinct : Distinct (3 ∷ 1 ∷ at_ids (map root_at news))
+  new_distinct : Distinct (3 ∷ 1 ∷ at_ids news)
   new_distinct = image_ids new.sup new.chunks news judged (subst AreApart a.afters_are is_all.0)
 
   olds_among : AllByRecursion (λ t. IsAmong t trees) (trees_in old.sup old.chunks old.chunks olds image)
@@ -84,14 +83,14 @@ module _ (law : OneTreeLaw) (image : List ℕ) (pending : FinMap nat_cmp ℕ) (o
   news_among = subst (AllByRecursion (λ t. IsAmong t afters)) a.afters_are (all_among afters)
 
   -- what holds of each named tree, by its root item
-  named_each : (P : Tree → Type 0) (stored : Stored) (some : List RootItem)
-      → AllByRecursion P (map (λ (root : RootItem). (stored, named_root root)) some)
-      → AllByRecursion (λ (root : RootItem). P (stored, named_root root)) some
+  named_each : (P : Tree → Type 0) (stored : Stored) (some : List RootAt)
+      → AllByRecursion P (map (λ (root : RootAt). (stored, named_root root)) some)
+      → AllByRecursion (λ (root : RootAt). P (stored, named_root root)) some
   named_each P stored [] each = tt
   named_each P stored (root ∷ some) each = (each.0, named_each P stored some each.1)
 
-  each_named : (P : Tree → Type 0) (stored : Stored) (some : List RootItem) → AllByRecursion (λ (root : RootItem). P (stored, named_root root)) some
-      → AllByRecursion P (map (λ (root : RootItem). (stored, named_root root)) some)
+  each_named : (P : Tree → Type 0) (stored : Stored) (some : List RootAt) → AllByRecursion (λ (root : RootAt). P (stored, named_root root)) some
+      → AllByRecursion P (map (λ (root : RootAt). (stored, named_root root)) some)
   each_named P stored [] each = tt
   each_named P stored (root ∷ some) each = (each.0, each_named P stored some each.1)
 
@@ -151,8 +150,8 @@ module _ (law : OneTreeLaw) (image : List ℕ) (pending : FinMap nat_cmp ℕ) (o
       one_piece (Some (root_tree_root old.sup)) (root_tree_root new.sup) root_parts refl refl news_among.1.0 (refl, olds_among.1.0) a.root_tree
 
   -- the old tree of a named one
-  was_named : (root : RootItem) → (root.key.objectid == 3) ≡ false → (root.key.objectid == 1) ≡ false
-      → IsOldOf image old trees (named_root root) (root_named (map root_at olds) root.key.objectid)
+  was_named : (root : RootAt) → (root.key.objectid == 3) ≡ false → (root.key.objectid == 1) ≡ false
+      → IsOldOf image old trees (named_root root) (root_named olds root.key.objectid)
   was_named root three one =
       old_named image old trees (named_root root) olds (named_each (λ t. IsAmong t trees) was_stored olds olds_among.1.1)
       (λ none. subst (AllByRecursion (λ t. (t.1.tree == root.key.objectid) ≡ false)) (sym a.over.trees_are) (
@@ -160,23 +159,23 @@ module _ (law : OneTreeLaw) (image : List ℕ) (pending : FinMap nat_cmp ℕ) (o
         (other_way root.key.objectid 1 one, each_named (λ t. (t.1.tree == root.key.objectid) ≡ false) was_stored olds none),
       ))
 
-  named_all : (some : List RootItem) → AllByRecursion (λ (root : RootItem). IsAmong (is_stored, named_root root) afters) some
-      → AllByRecursion (λ m. (m == 3) ≡ false) (at_ids (map root_at some)) → AllByRecursion (λ m. (m == 1) ≡ false) (at_ids (map root_at some))
+  named_all : (some : List RootAt) → AllByRecursion (λ (root : RootAt). IsAmong (is_stored, named_root root) afters) some
+      → AllByRecursion (λ m. (m == 3) ≡ false) (at_ids some) → AllByRecursion (λ m. (m == 1) ≡ false) (at_ids some)
       → AllByRecursion (λ root. (parts : Parts)
-      → tree_parts pairs known (side_of image old) side (root_named (map root_at olds) root.key.objectid) (named_at root) ≡ Ok parts
-      → IsPiece all root.key.objectid parts) (map root_at some)
+      → tree_parts pairs known (side_of image old) side (root_named olds root.key.objectid) (named_root root) ≡ Ok parts
+      → IsPiece all root.key.objectid parts) some
   named_all [] is three one = tt
   named_all (root ∷ some) is three one = (
-    λ parts made. one_piece (root_named (map root_at olds) root.key.objectid) (named_root root) parts refl refl is.0
+    λ parts made. one_piece (root_named olds root.key.objectid) (named_root root) parts refl refl is.0
         (was_named root three.0 one.0) made,
     named_all some is.1 three.1 one.1,
   )
 
   -- each tree that is named now is one of those of the law of one tree
-  named_some : (some : List RootItem) → AllByRecursion (λ m. (m == 3) ≡ false) (at_ids (map root_at some))
-      → AllByRecursion (λ m. (m == 1) ≡ false) (at_ids (map root_at some))
-      → AllByRecursion (λ (root : RootItem).
-      IsTree image pending old trees pairs side known (root_named (map root_at olds) root.key.objectid) (named_root root)) some
+  named_some : (some : List RootAt) → AllByRecursion (λ m. (m == 3) ≡ false) (at_ids some)
+      → AllByRecursion (λ m. (m == 1) ≡ false) (at_ids some)
+      → AllByRecursion (λ (root : RootAt).
+      IsTree image pending old trees pairs side known (root_named olds root.key.objectid) (named_root root)) some
   named_some [] three one = tt
   named_some (root ∷ some) three one = (
     record {
@@ -185,41 +184,41 @@ module _ (law : OneTreeLaw) (image : List ℕ) (pending : FinMap nat_cmp ℕ) (o
       over = refl;
       root = (refl, refl);
       was = was_named root three.0 one.0;
-      known_is = knows_one image pending old trees side known (root_named (map root_at olds) root.key.objectid) (named_root root)
+      known_is = knows_one image pending old trees side known (root_named olds root.key.objectid) (named_root root)
           (was_named root three.0 one.0) a.over.known_is;
     },
     named_some some three.1 one.1,
   )
 
-  pub named_trees : AllByRecursion (λ (root : RootItem).
-      IsTree image pending old trees pairs side known (root_named (map root_at olds) root.key.objectid) (named_root root)) news
+  pub named_trees : AllByRecursion (λ (root : RootAt).
+      IsTree image pending old trees pairs side known (root_named olds root.key.objectid) (named_root root)) news
   named_trees = named_some news new_distinct.0.1 new_distinct.1.0
 
   -- each that was named is one of the old trees
-  pub olds_named : AllByRecursion (λ (root : RootItem). IsAmong (was_stored, named_root root) trees) olds
+  pub olds_named : AllByRecursion (λ (root : RootAt). IsAmong (was_stored, named_root root) trees) olds
   olds_named = named_each (λ t. IsAmong t trees) was_stored olds olds_among.1.1
 
-  named_are : ArePieces all (at_ids (map root_at news)) named
+  named_are : ArePieces all (at_ids news) named
   named_are =
-      named_pieces all pairs known (side_of image old) side (map root_at olds) (map root_at news) named
+      named_pieces all pairs known (side_of image old) side olds news named
       (named_all news (named_each (λ t. IsAmong t afters) is_stored news news_among.1.1) new_distinct.0.1 new_distinct.1.0) a.named_trees
 
   -- no tree as it is has the id of one that is gone
-  none_named : (id : ℕ) (some : List RootItem) → list_any (has_id id) (map root_at some) ≡ false
-      → AllByRecursion (λ (root : RootItem). (root.key.objectid == id) ≡ false) some
+  none_named : (id : ℕ) (some : List RootAt) → list_any (names id) some ≡ false
+      → AllByRecursion (λ (root : RootAt). (root.key.objectid == id) ≡ false) some
   none_named id [] none = tt
   none_named id (root ∷ some) none =
-      let both = or_false (root.key.objectid == id) (list_any (has_id id) (map root_at some)) none in
+      let both = or_false (root.key.objectid == id) (list_any (names id) some) none in
       (both.0, none_named id some both.1)
     where
       or_false : (a b : Bool) → (a || b) ≡ false → (a ≡ false) × (b ≡ false)
       or_false true b is = absurd (cc)
       or_false false b is = (refl, is)
 
-  gone_each : (some : List RootItem) → AllByRecursion (λ (root : RootItem). IsAmong (was_stored, named_root root) trees) some
-      → AllByRecursion (λ m. (m == 3) ≡ false) (at_ids (map root_at some)) → AllByRecursion (λ m. (m == 1) ≡ false) (at_ids (map root_at some))
-      → AllByRecursion (λ root. (parts : Parts) → list_any (has_id root.key.objectid) (map root_at news) ≡ false
-      → gone_parts pairs known (side_of image old) (named_at root) ≡ Ok parts → IsPiece all root.key.objectid parts) (map root_at some)
+  gone_each : (some : List RootAt) → AllByRecursion (λ (root : RootAt). IsAmong (was_stored, named_root root) trees) some
+      → AllByRecursion (λ m. (m == 3) ≡ false) (at_ids some) → AllByRecursion (λ m. (m == 1) ≡ false) (at_ids some)
+      → AllByRecursion (λ root. (parts : Parts) → list_any (names root.key.objectid) news ≡ false
+      → gone_parts pairs known (side_of image old) (named_root root) ≡ Ok parts → IsPiece all root.key.objectid parts) some
   gone_each [] is three one = tt
   gone_each (root ∷ some) is three one = (
     λ parts none made. gone_piece image pending old new trees afters pairs known was_all.0 was_all.1 is_all.0 is_all.1 a.over.pairs_are
@@ -234,9 +233,9 @@ module _ (law : OneTreeLaw) (image : List ℕ) (pending : FinMap nat_cmp ℕ) (o
     gone_each some is.1 three.1 one.1,
   )
 
-  gone_are : ArePieces all (gone_ids (map root_at news) (map root_at olds)) left
+  gone_are : ArePieces all (gone_ids news olds) left
   gone_are =
-      gone_pieces all pairs known (side_of image old) (map root_at news) (map root_at olds) left
+      gone_pieces all pairs known (side_of image old) news olds left
       (gone_each olds (named_each (λ t. IsAmong t trees) was_stored olds olds_among.1.1) old_distinct.0.1 old_distinct.1.0) a.gone_trees
 
   abbrev pub parts : Parts
@@ -245,25 +244,25 @@ module _ (law : OneTreeLaw) (image : List ℕ) (pending : FinMap nat_cmp ℕ) (o
   -- all parts are those of the different ids, which all pairs and items have
   pieces : ArePieces all ids parts
   pieces =
-      pieces_with all 3 (1 ∷ (at_ids (map root_at news) ++ gone_ids (map root_at news) (map root_at olds))) chunk_parts
+      pieces_with all 3 (1 ∷ (at_ids news ++ gone_ids news olds)) chunk_parts
       (with_parts root_parts (with_parts named left))
       chunks_piece
-      (pieces_with all 1 (at_ids (map root_at news) ++ gone_ids (map root_at news) (map root_at olds)) root_parts
+      (pieces_with all 1 (at_ids news ++ gone_ids news olds) root_parts
       (with_parts named left) roots_piece
-      (pieces_append all (at_ids (map root_at news)) (gone_ids (map root_at news) (map root_at olds)) named left named_are gone_are))
+      (pieces_append all (at_ids news) (gone_ids news olds) named left named_are gone_are))
 
   distinct : Distinct ids
-  distinct = all_distinct (map root_at news) (map root_at olds) new_distinct old_distinct
+  distinct = all_distinct news olds new_distinct old_distinct
 
   old_listed : AreListed ids old.seen
   old_listed =
       are_listed old.sup ids trees old.seen was_all.0 was_all.1
-      (subst (Listed ids) (sym a.over.trees_are) (olds_listed old.sup old.chunks olds (map root_at news) image))
+      (subst (Listed ids) (sym a.over.trees_are) (olds_listed old.sup old.chunks olds news image))
 
   new_listed : AreListed ids new.seen
   new_listed =
       are_listed new.sup ids afters new.seen is_all.0 is_all.1
-      (subst (Listed ids) (sym a.afters_are) (news_listed new.sup new.chunks news (map root_at olds) judged))
+      (subst (Listed ids) (sym a.afters_are) (news_listed new.sup new.chunks news olds judged))
 
   lives_listed : (test : Live → Bool) (seen : List Seen) → AreListed ids seen
       → IsPermutation (filter test (live_in seen)) (of_ids live_id ids (filter test (live_in seen)))

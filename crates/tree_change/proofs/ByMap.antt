@@ -9,7 +9,6 @@ use Rattle.verdict.specs.declared.finding.Finding.{Finding}
 use Rattle.verdict.specs.declared.place.Chunk.{Chunk}
 use Rattle.recon_disk.specs.declared.disk.Disk.{Ghosts}
 use Rattle.super_reader.specs.declared.Super.{Super}
-use Rattle.volume_items.specs.declared.root.RootItem.{RootItem}
 use Rattle.volume_items.specs.declared.root_at.RootAt.{RootAt}
 use Rattle.live_index.specs.Pairs.{AreNarrow, Pairs}
 use Rattle.live_index.specs.Table.{pairs_of}
@@ -38,7 +37,7 @@ use Rattle.tree_change.specs.AllTrees.{IsOver, KnowsTrees, gone_all, named_parts
 use Rattle.tree_change.specs.Compared.{FindsRest, FitsCompared, HasNewMap, IsCompared, KeepsBy, MakesRest, TellsRest, judged_by, side_to}
 use Rattle.tree_change.specs.Making.{FindsOthers, IsAdded, MakesOthers, RootsJudged, TellsOthers}
 use Rattle.tree_change.specs.Making.FindsOthers.{InGone, InItems, InNamed, InTree}
-use Rattle.tree_change.specs.Merging.{IsSortedOf, named_before, root_at, roots_left}
+use Rattle.tree_change.specs.Merging.{IsSortedOf, named_before, roots_left}
 use Rattle.tree_change.specs.OneTree.{IsTree, KnowsNothing, side_of}
 use Rattle.tree_change.specs.Stays.{RootsStand}
 use Rattle.tree_change.specs.Told.{side_with}
@@ -108,7 +107,7 @@ module _ {L : Type 0} (both : Compared L) (image : List ℕ) (chunks : List Chun
   abbrev pub old : Walked
   old = c.based.old
 
-  abbrev pub olds : List RootItem
+  abbrev pub olds : List RootAt
   olds = c.based.olds
 
   abbrev pub trees : List Tree
@@ -177,12 +176,12 @@ module _ {L : Type 0} (both : Compared L) (image : List ℕ) (chunks : List Chun
     tree = tree_parts pairs known (side_of image old) side (Some (root_tree_root old.sup)) (root_tree_root both.fresh.now)
 
     abbrev pub Merged : Parts → List RootAt → Type 0
-    Merged parts roots = IsSortedOf named_before (roots_left (map root_at olds) parts.old_items parts.new_items) roots
+    Merged parts roots = IsSortedOf named_before (roots_left olds parts.old_items parts.new_items) roots
 
     -- the roots are those of items, on which the rules are judged
     judged : (parts : Parts) (roots : List RootAt) (answer : Result (Unit {0}) Finding) → tree ≡ Ok parts → Merged parts roots
         → RootsJudged both.fresh.now.compat_ro roots answer
-        → (items : List RootItem) × (roots ≡ map root_at items)
+        → (items : List RootAt) × (roots ≡ items)
         × (root_items_in both.fresh.now chunks (judged_by both image) ≡ and_then answer (λ _. Ok items))
     judged parts roots answer made merged say =
         let m = roots_made one_tree image both.cache.now old trees pairs side known parts olds roots c.based.items root_tree made merged in
@@ -191,13 +190,13 @@ module _ {L : Type 0} (both : Compared L) (image : List ℕ) (chunks : List Chun
     -- what all make
     rest_made : (root_parts named_trees gone_trees parts : Parts) (roots : List RootAt) → tree ≡ Ok root_parts → Merged root_parts roots
         → RootsJudged both.fresh.now.compat_ro roots (Ok (tt {0}))
-        → named_parts pairs known (side_of image old) side (map root_at olds) roots ≡ Ok named_trees
-        → gone_all pairs known (side_of image old) roots (map root_at olds) ≡ Ok gone_trees
+        → named_parts pairs known (side_of image old) side olds roots ≡ Ok named_trees
+        → gone_all pairs known (side_of image old) roots olds ≡ Ok gone_trees
         → parts ≡ with_parts root_parts (with_parts named_trees gone_trees)
         → MakesRest both image old olds chunks parts
     rest_made root_parts named_trees gone_trees parts roots made merged say named_are gone_are all =
         let j = judged root_parts roots (Ok (tt {0})) made merged say in
-        let named_by = subst (λ rs. named_parts pairs known (side_of image old) side (map root_at olds) rs ≡ Ok named_trees) j.1 named_are in
+        let named_by = subst (λ rs. named_parts pairs known (side_of image old) side olds rs ≡ Ok named_trees) j.1 named_are in
         let fine = (named one_tree image both.cache.now old olds trees pairs side known j.0 over).1 named_trees named_by in
         record {
           news = j.0;
@@ -211,7 +210,7 @@ module _ {L : Type 0} (both : Compared L) (image : List ℕ) (chunks : List Chun
           gone = gone_trees;
           root_tree = made;
           named_trees = named_by;
-          gone_trees = subst (λ rs. gone_all pairs known (side_of image old) rs (map root_at olds) ≡ Ok gone_trees) j.1 gone_are;
+          gone_trees = subst (λ rs. gone_all pairs known (side_of image old) rs olds ≡ Ok gone_trees) j.1 gone_are;
           all = all;
         }
 
@@ -225,18 +224,18 @@ module _ {L : Type 0} (both : Compared L) (image : List ℕ) (chunks : List Chun
 
     found_named : (parts : Parts) (roots : List RootAt) (finding : Finding) → tree ≡ Ok parts → Merged parts roots
         → RootsJudged both.fresh.now.compat_ro roots (Ok (tt {0}))
-        → named_parts pairs known (side_of image old) side (map root_at olds) roots ≡ Err finding → FindsRest both image chunks finding
+        → named_parts pairs known (side_of image old) side olds roots ≡ Err finding → FindsRest both image chunks finding
     found_named parts roots finding made merged say failed =
         let j = judged parts roots (Ok (tt {0})) made merged say in
         inr (
           j.0,
           j.2,
           (named one_tree image both.cache.now old olds trees pairs side known j.0 over).0 finding
-              (subst (λ rs. named_parts pairs known (side_of image old) side (map root_at olds) rs ≡ Err finding) j.1 failed),
+              (subst (λ rs. named_parts pairs known (side_of image old) side olds rs ≡ Err finding) j.1 failed),
         )
 
     -- none is in a tree that is gone
-    found_gone : (roots : List RootAt) (finding : Finding) → gone_all pairs known (side_of image old) roots (map root_at olds) ≡ Err finding → ⊥
+    found_gone : (roots : List RootAt) (finding : Finding) → gone_all pairs known (side_of image old) roots olds ≡ Err finding → ⊥
     found_gone roots finding failed = gone image both.cache.now old olds trees pairs side known roots finding over failed
 
 -- the two sides by the new chunks, and what is known
@@ -290,14 +289,14 @@ module _ {L : Type 0} (both : Compared L) (new : Bor (List Chunk)) (moves : Bor 
 
     named_at : (roots : List RootAt) (answer : Result Parts Finding)
         → named_parts (pairs_of both.table.now) known_now was now both.roots.now roots ≡ answer
-        → named_parts (pairs_of both.table.now) known_now (side_of image c.based.old) now (map root_at c.based.olds) roots ≡ answer
+        → named_parts (pairs_of both.table.now) known_now (side_of image c.based.old) now c.based.olds roots ≡ answer
     named_at roots answer is =
         subst (λ rs. named_parts (pairs_of both.table.now) known_now (side_of image c.based.old) now rs roots ≡ answer) c.based.roots_are
         (subst (λ s. named_parts (pairs_of both.table.now) known_now s now both.roots.now roots ≡ answer) (was_is both image new.now c) is)
 
     gone_at : (roots : List RootAt) (answer : Result Parts Finding)
         → gone_all (pairs_of both.table.now) known_now was roots both.roots.now ≡ answer
-        → gone_all (pairs_of both.table.now) known_now (side_of image c.based.old) roots (map root_at c.based.olds) ≡ answer
+        → gone_all (pairs_of both.table.now) known_now (side_of image c.based.old) roots c.based.olds ≡ answer
     gone_at roots answer is =
         subst (λ rs. gone_all (pairs_of both.table.now) known_now (side_of image c.based.old) roots rs ≡ answer) c.based.roots_are
         (subst (λ s. gone_all (pairs_of both.table.now) known_now s roots both.roots.now ≡ answer) (was_is both image new.now c) is)

@@ -11,7 +11,6 @@ use Rattle.super_reader.specs.Superblock.{array_place}
 use Rattle.super_reader.specs.declared.Super.{Super}
 use Rattle.volume_items.specs.MapRules.{map_finding}
 use Rattle.volume_items.specs.SystemArray.{array_chunks}
-use Rattle.volume_items.specs.declared.root.RootItem.{RootItem}
 use Rattle.volume_items.specs.declared.root_at.RootAt.{RootAt}
 use Rattle.live_index.specs.Pairs.{Pairs}
 use Rattle.records.specs.Contents.{Contents, all_records, chunk_map_in, chunk_records, contents, root_items_in, root_records, roots_fault}
@@ -23,7 +22,6 @@ use Rattle.tree_laws.specs.MergedLaw.{chunks_seen, roots_seen}
 use Rattle.tree_laws.proofs.MergedLists.{map_seen, roots_are_seen}
 use Rattle.tree_laws.proofs.Treed.{has_trees, steps_of}
 use Rattle.tree_change.specs.Change.{BasesStand}
-use Rattle.tree_change.specs.Merging.{root_at}
 use Rattle.tree_change.specs.Compared.{IsBased}
 
 -- where a chunk map is given, the walk of the chunk tree has no finding
@@ -37,7 +35,7 @@ chunks_walk sup array chunks image is =
     (step.0, step.1)
 
 -- where root items are given, that of the root tree has none
-pub roots_walk : (sup : Super) (chunks : List Chunk) (roots : List RootItem) (image : List ℕ) → root_items_in sup chunks image ≡ Ok roots
+pub roots_walk : (sup : Super) (chunks : List Chunk) (roots : List RootAt) (image : List ℕ) → root_items_in sup chunks image ≡ Ok roots
     → (records : List Seen) × (root_records sup chunks image ≡ Ok records)
 roots_walk sup chunks roots image is =
     let step =
@@ -66,7 +64,7 @@ module _ (judged : List ℕ) (fresh : Super) (super_is : superblock_in judged �
       contents_roots finding failed = rw (super_is, array_is, chunks_are, failed) refl
 
       -- and these its root items
-      module _ (roots : List RootItem) (items : root_items_in fresh chunks judged ≡ Ok roots) where
+      module _ (roots : List RootAt) (items : root_items_in fresh chunks judged ≡ Ok roots) where
         pub all_found : (finding : Finding) → tree_records fresh chunks roots judged ≡ Err finding
             → all_records fresh array chunks roots judged ≡ Err finding
         unfolding all_records behind
@@ -118,7 +116,7 @@ bases_are image sup chunks roots sum_free full pairs base =
       array_is = s.arrays;
       olds = s.roots;
       items = s.items;
-      roots_are = base.roots_are ∙ ap (λ (c : Contents). map root_at c.roots) held;
+      roots_are = base.roots_are ∙ ap (λ (c : Contents). c.roots) held;
       pairs_are = base.pairs_are;
       has = has_trees image old s base.walks;
     }

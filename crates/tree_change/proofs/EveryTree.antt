@@ -7,12 +7,11 @@ use Rattle.std.specs.Ordering.{nat_cmp}
 use Rattle.std.specs.FinMap.{FinMap}
 use Rattle.walk_laws.proofs.Trees.{step_ok}
 use Rattle.verdict.specs.Rules.{and_then}
-use Rattle.volume_items.specs.declared.root.RootItem.{RootItem}
 use Rattle.volume_items.specs.declared.root_at.RootAt.{RootAt}
 use Rattle.live_index.specs.Pairs.{Pairs}
 use Rattle.live_index.specs.declared.live.Live.{Live}
 use Rattle.node_reader.specs.declared.expect.Expect.{Expect}
-use Rattle.records.specs.Contents.{named_root}
+use Rattle.records.specs.Contents.{named_root, names}
 use Rattle.records.specs.Seen.{Seen}
 use Rattle.records.specs.Walk.{walk_in}
 use Rattle.touched_blocks.specs.Touched.{written_in}
@@ -21,8 +20,7 @@ use Rattle.tree_laws.specs.TableLaw.{AreApart, Tree}
 use Rattle.tree_laws.proofs.Forest.{walks}
 use Rattle.tree_laws.proofs.Lives.{ok_same}
 use Rattle.tree_laws.proofs.Treed.{trees_walk}
-use Rattle.tree_change.specs.AllTrees.{KnowsTrees, gone_all, has_id, named_at, named_parts, no_parts, root_named, with_parts}
-use Rattle.tree_change.specs.Merging.{root_at}
+use Rattle.tree_change.specs.AllTrees.{KnowsTrees, gone_all, named_parts, no_parts, root_named, with_parts}
 use Rattle.tree_change.specs.OneTree.{HasRecords, IsAmong, IsOldOf, IsTree, KnowsNothing, KnowsTree, OneTreeLaw, old_tree, unchanged, side_of}
 use Rattle.tree_change.specs.Unchanged.{ChangesListed, is_unchanged}
 use Rattle.tree_change.specs.Walks.{Known, Parts, Side, gone_parts, tree_parts}
@@ -61,17 +59,17 @@ knows_one image pending old trees is known before now of (inl k) = inl (knows_tr
 knows_one image pending old trees is known before now of (inr k) = inr k
 
 -- the old tree of an id is found among those that are named
-pub old_named : (image : List ℕ) (old : Walked) (trees : List Tree) (now : Expect) (some : List RootItem)
-    → AllByRecursion (λ (r : RootItem). IsAmong (old_tree image old (named_root r)) trees) some
-    → (AllByRecursion (λ (r : RootItem). (r.key.objectid == now.tree) ≡ false) some → IsOldOf image old trees now None)
-    → IsOldOf image old trees now (root_named (map root_at some) now.tree)
+pub old_named : (image : List ℕ) (old : Walked) (trees : List Tree) (now : Expect) (some : List RootAt)
+    → AllByRecursion (λ (r : RootAt). IsAmong (old_tree image old (named_root r)) trees) some
+    → (AllByRecursion (λ (r : RootAt). (r.key.objectid == now.tree) ≡ false) some → IsOldOf image old trees now None)
+    → IsOldOf image old trees now (root_named some now.tree)
 old_named image old trees now [] all none = none tt
 old_named image old trees now (root ∷ some) all none =
     by (root.key.objectid == now.tree) refl (λ is. old_named image old trees now some all.1 (λ rest. none (is, rest)))
   where
     by : (b : Bool) → (root.key.objectid == now.tree) ≡ b
-        → ((root.key.objectid == now.tree) ≡ false → IsOldOf image old trees now (root_named (map root_at some) now.tree))
-        → IsOldOf image old trees now (if b then Some (named_root root) else root_named (map root_at some) now.tree)
+        → ((root.key.objectid == now.tree) ≡ false → IsOldOf image old trees now (root_named some now.tree))
+        → IsOldOf image old trees now (if b then Some (named_root root) else root_named some now.tree)
     by true is rest = (eqb-true root.key.objectid now.tree is, all.0)
     by false is rest = rest is
 
@@ -111,7 +109,7 @@ tree_piece law image pending old new trees pairs is known before now parts tree 
 
 -- those of the trees that are named now, in their order
 pub named_pieces : (all : Parts) (pairs : Pairs) (known : Known) (was is : Side) (olds news : List RootAt) (named : Parts)
-    → AllByRecursion (λ root. (parts : Parts) → tree_parts pairs known was is (root_named olds root.key.objectid) (named_at root) ≡ Ok parts
+    → AllByRecursion (λ root. (parts : Parts) → tree_parts pairs known was is (root_named olds root.key.objectid) (named_root root) ≡ Ok parts
     → IsPiece all root.key.objectid parts) news
     → named_parts pairs known was is olds news ≡ Ok named → ArePieces all (at_ids news) named
 unfolding named_parts
@@ -120,7 +118,7 @@ named_pieces all pairs known was is olds [] named each made = subst (ArePieces a
     ok_parts : (a b : Parts) → ok_one a ≡ Ok b → a ≡ b
     ok_parts a b is = cc
 named_pieces all pairs known was is olds (root ∷ news) named each made =
-    let first = step_ok (tree_parts pairs known was is (root_named olds root.key.objectid) (named_at root))
+    let first = step_ok (tree_parts pairs known was is (root_named olds root.key.objectid) (named_root root))
     (λ parts. and_then (named_parts pairs known was is olds news) (λ more. Ok (with_parts parts more))) named made in
     let rest = step_ok (named_parts pairs known was is olds news) (λ more. Ok (with_parts first.0 more)) named first.2 in
     subst (ArePieces all (at_ids (root ∷ news))) (ok_parts (with_parts first.0 rest.0) named rest.2)
@@ -132,8 +130,8 @@ named_pieces all pairs known was is olds (root ∷ news) named each made =
 
 -- and those of the trees that are gone
 pub gone_pieces : (all : Parts) (pairs : Pairs) (known : Known) (was : Side) (news olds : List RootAt) (left : Parts)
-    → AllByRecursion (λ root. (parts : Parts) → list_any (has_id root.key.objectid) news ≡ false
-    → gone_parts pairs known was (named_at root) ≡ Ok parts → IsPiece all root.key.objectid parts) olds
+    → AllByRecursion (λ root. (parts : Parts) → list_any (names root.key.objectid) news ≡ false
+    → gone_parts pairs known was (named_root root) ≡ Ok parts → IsPiece all root.key.objectid parts) olds
     → gone_all pairs known was news olds ≡ Ok left → ArePieces all (gone_ids news olds) left
 unfolding gone_all gone_ids
 gone_pieces all pairs known was news [] left each made = subst (ArePieces all []) (ok_parts no_parts left made) (pieces_none all)
@@ -141,21 +139,21 @@ gone_pieces all pairs known was news [] left each made = subst (ArePieces all []
     ok_parts : (a b : Parts) → ok_one a ≡ Ok b → a ≡ b
     ok_parts a b is = cc
 gone_pieces all pairs known was news (root ∷ olds) left each made =
-    by (list_any (has_id root.key.objectid) news) refl made (λ more is. gone_pieces all pairs known was news olds more each.1 is)
+    by (list_any (names root.key.objectid) news) refl made (λ more is. gone_pieces all pairs known was news olds more each.1 is)
   where
     ok_parts : (a b : Parts) → ok_one a ≡ Ok b → a ≡ b
     ok_parts a b is = cc
 
-    by : (b : Bool) → list_any (has_id root.key.objectid) news ≡ b
+    by : (b : Bool) → list_any (names root.key.objectid) news ≡ b
         → (if b then gone_all pairs known was news olds else
-        and_then (gone_parts pairs known was (named_at root)) (λ parts.
+        and_then (gone_parts pairs known was (named_root root)) (λ parts.
         and_then (gone_all pairs known was news olds) (λ more.
         Ok (with_parts parts more)))) ≡ Ok left
         → ((more : Parts) → gone_all pairs known was news olds ≡ Ok more → ArePieces all (gone_ids news olds) more)
         → ArePieces all (if b then gone_ids news olds else at_id root ∷ gone_ids news olds) left
     by true is made later = later left made
     by false is made later =
-        let first = step_ok (gone_parts pairs known was (named_at root))
+        let first = step_ok (gone_parts pairs known was (named_root root))
         (λ parts. and_then (gone_all pairs known was news olds) (λ more. Ok (with_parts parts more))) left made in
         let rest = step_ok (gone_all pairs known was news olds) (λ more. Ok (with_parts first.0 more)) left first.2 in
         subst (ArePieces all (at_id root ∷ gone_ids news olds)) (ok_parts (with_parts first.0 rest.0) left rest.2)

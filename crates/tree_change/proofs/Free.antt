@@ -10,7 +10,6 @@ use Rattle.verdict.proofs.Lists.{all_map as each_map}
 use Rattle.verdict.specs.OnDisk.{key_same}
 use Rattle.verdict.specs.declared.key.Key.{Key}
 use Rattle.super_reader.specs.declared.Super.{Super}
-use Rattle.volume_items.specs.declared.root.RootItem.{RootItem}
 use Rattle.live_index.specs.Pairs.{Pairs}
 use Rattle.live_index.specs.declared.live.Live.{Live}
 use Rattle.node_reader.specs.Stored.{Stored}
@@ -33,9 +32,10 @@ use Rattle.tree_laws.proofs.MergedLists.{chunks_merge, roots_merge}
 use Rattle.tree_laws.proofs.OldBlocks.{unshared_are}
 use Rattle.tree_laws.proofs.Trails.{Matches, Visit, all_own}
 use Rattle.tree_change.specs.Gathered.{block_seen, blocks_seen}
-use Rattle.tree_change.specs.Merging.{chunks_left, has_named, named_before, root_at, root_at_of, roots_among, roots_left}
+use Rattle.tree_change.specs.Merging.{chunks_left, has_named, named_before, roots_among, roots_left}
 use Rattle.tree_change.specs.Walks.{last_at, live_with, lives_of, pairs_at}
 use Rattle.tree_change.proofs.Whole.{KeepsNone, unkept_whole}
+use Rattle.volume_items.specs.declared.root_at.RootAt.{RootAt}
 
 -- the known pairs of the blocks among records, and how many these are
 pub pairs_seen : (pairs : Pairs) (records : List Seen) → filter_map (pair_seen pairs) records ≡ pairs_at pairs (blocks_seen records)
@@ -180,26 +180,26 @@ pub roots_are : (some : List Located) → roots_among some ≡ map root_at (filt
 roots_are [] = refl
 roots_are (one ∷ some) = by (root_in one.part) (roots_are some)
   where
-    by : (root : Option RootItem) → roots_among some ≡ map root_at (filter_map (λ (one : Located). root_in one.part) some)
+    by : (root : Option RootAt) → roots_among some ≡ map root_at (filter_map (λ (one : Located). root_in one.part) some)
         → cons_option (root_at_of root) (roots_among some) ≡ map root_at (cons_option root (filter_map (λ (one : Located). root_in one.part) some))
     by None rest = rest
     by (Some root) rest = ap (λ roots. root_at root ∷ roots) rest
 
 -- the same of root items
-pub roots_all : (olds news : List Seen) → roots_left (map root_at (roots_seen olds)) (items olds) (items news) ≡ map root_at (roots_seen news)
+pub roots_all : (olds news : List Seen) → roots_left (roots_seen olds) (items olds) (items news) ≡ (roots_seen news)
 roots_all olds news =
-    ap (λ gone. filter (λ root. not (has_named gone root)) (map root_at (roots_seen olds)) ++ roots_among (items news)) (roots_are (items olds))
-    ∙ (ap (λ left. left ++ roots_among (items news)) (none_left (λ a b. key_same a.key b.key) (λ a. itself a.key) (map root_at (roots_seen olds)))
+    ap (λ gone. filter (λ root. not (has_named gone root)) (roots_seen olds) ++ roots_among (items news)) (roots_are (items olds))
+    ∙ (ap (λ left. left ++ roots_among (items news)) (none_left (λ a b. key_same a.key b.key) (λ a. itself a.key) (roots_seen olds))
     ∙ roots_are (items news))
   where
     itself : (k : Key) → key_same k k ≡ true
     itself k = grind (arith, common_steps)
 
 -- root items in the order of their keys are so as what they say of where trees begin
-pub named_ascend : (xs : List RootItem) → AllPairs (λ a b. root_before a b ≡ true) xs → AllPairs (λ a b. named_before a b ≡ true) (map root_at xs)
+pub named_ascend : (xs : List RootAt) → AllPairs (λ a b. root_before a b ≡ true) xs → AllPairs (λ a b. named_before a b ≡ true) xs
 named_ascend [] all = λ i j d less within. absurd (omega (arith, within))
 named_ascend (x ∷ xs) all = λ i j d less within.
     let n = length-map (x ∷ xs) root_at in
     let inside : j < length (x ∷ xs) = subst (λ n. j < n) n within in
     let before : i < length (x ∷ xs) = omega (arith, less, inside) in
-    rw (get_or-map root_at (x ∷ xs) i x d before, get_or-map root_at (x ∷ xs) j x d inside) (all i j x less inside)
+    rw (get_or-(x ∷ xs) i x d before, get_or-(x ∷ xs) j x d inside) (all i j x less inside)

@@ -5,18 +5,16 @@ use Rattle.std.specs.List.{AllByRecursion, list_any}
 use Rattle.std.specs.Result.{IsOk}
 use Rattle.verdict.specs.Rules.{and_then}
 use Rattle.verdict.specs.declared.finding.Finding.{Finding}
-use Rattle.volume_items.specs.declared.root.RootItem.{RootItem}
 use Rattle.volume_items.specs.declared.root_at.RootAt.{RootAt}
 use Rattle.live_index.specs.Pairs.{Pairs}
 use Rattle.node_reader.specs.Stored.{Stored, stored_in}
-use Rattle.records.specs.Contents.{named_root}
+use Rattle.records.specs.Contents.{named_root, names}
 use Rattle.records.specs.Walk.{walk_of}
 use Rattle.tree_laws.specs.Keeping.{Stands}
 use Rattle.tree_laws.specs.LivePairs.{Walked, live_in, table_of}
 use Rattle.tree_laws.specs.TableLaw.{Tree}
-use Rattle.tree_change.specs.AllTrees.{GoneLaw, gone_all, has_id, no_parts, with_parts}
+use Rattle.tree_change.specs.AllTrees.{GoneLaw, gone_all, no_parts, with_parts}
 use Rattle.tree_change.specs.Gathered.{Gathers}
-use Rattle.tree_change.specs.Merging.{root_at}
 use Rattle.tree_change.specs.OneTree.{side_of}
 use Rattle.tree_change.specs.Walks.{Known, Parts, gone_parts, no_walk, old_walk, parts_of}
 use Rattle.tree_change.proofs.Olds.{fine_step, ok_never, old_fine, old_stands, step_err}
@@ -27,17 +25,17 @@ module _ (image : List ℕ) (old : Walked) where
   stored = stored_in image old.chunks old.sup.nodesize
 
   -- the walk of the tree that a root item names has no finding
-  abbrev IsFine : RootItem → Type 0
+  abbrev IsFine : RootAt → Type 0
   IsFine root = IsOk (walk_of old.sup stored (named_root root))
 
-  each_fine : (roots : List RootItem)
+  each_fine : (roots : List RootAt)
       → AllByRecursion (λ (tree : Tree). Stands (table_of (live_in old.seen)) old.sup tree.0 tree.1) (map (λ root. (stored, named_root root)) roots)
       → AllByRecursion IsFine roots
   each_fine [] all = tt
   each_fine (root ∷ roots) all = (all.0.each.fine, each_fine roots all.1)
 
   module _ (pairs : Pairs) (known : Known) where
-    gone_fine : (root : RootItem) → IsFine root → (finding : Finding)
+    gone_fine : (root : RootAt) → IsFine root → (finding : Finding)
         → gone_parts pairs known (side_of image old) (named_root root) ≡ Err finding → ⊥
     unfolding gone_parts
     gone_fine root fine finding at =
@@ -49,15 +47,15 @@ module _ (image : List ℕ) (old : Walked) where
         by (inl failed) = old_fine known [] image old (none_stopped known.pairs known.under) (named_root root) fine finding failed
         by (inr s) = ok_never (parts_of pairs no_walk s.0) finding s.2
 
-    gone_each : (news : List RootAt) (roots : List RootItem) → AllByRecursion IsFine roots → (finding : Finding)
-        → gone_all pairs known (side_of image old) news (map root_at roots) ≡ Err finding → ⊥
+    gone_each : (news : List RootAt) (roots : List RootAt) → AllByRecursion IsFine roots → (finding : Finding)
+        → gone_all pairs known (side_of image old) news roots ≡ Err finding → ⊥
     unfolding gone_all
     gone_each news [] all finding at = ok_never no_parts finding at
     gone_each news (root ∷ roots) all finding at =
-        by (list_any (has_id root.key.objectid) news) at (gone_each news roots all.1 finding)
+        by (list_any (names root.key.objectid) news) at (gone_each news roots all.1 finding)
       where
         rest : Result Parts Finding
-        rest = gone_all pairs known (side_of image old) news (map root_at roots)
+        rest = gone_all pairs known (side_of image old) news roots
 
         here : Result Parts Finding
         here = gone_parts pairs known (side_of image old) (named_root root)

@@ -6,7 +6,6 @@ use Rattle.std.specs.FinMap.{FinMap}
 use Rattle.verdict.proofs.Lists.{all_map}
 use Rattle.verdict.specs.Chunks.{home, place}
 use Rattle.verdict.specs.declared.place.Chunk.{Chunk}
-use Rattle.volume_items.specs.declared.root.RootItem.{RootItem}
 use Rattle.live_index.specs.Pairs.{AreNarrow, Pairs}
 use Rattle.records.specs.Contents.{chunk_tree_root}
 use Rattle.touched_blocks.specs.Marking.{AreMarkedFrom, ClimbsTo}
@@ -32,6 +31,7 @@ use Rattle.tree_change.specs.Unchanged.{ChangesListed, either_mark}
 use Rattle.tree_change.specs.Walks.{Known, Side}
 use Rattle.tree_change.proofs.Changing.{changes_listed, touched_known}
 use Rattle.tree_change.proofs.Olds.{old_stands}
+use Rattle.volume_items.specs.declared.root_at.RootAt.{RootAt}
 
 -- pairs are marked from some as from the same
 pub marked_as : (pairs : Pairs) (must may must_too may_too old new : Marked) → ((tree address : ℕ) → must_too tree address ≡ must tree address)
@@ -125,7 +125,7 @@ knows_trees image pending old trees pairs marked own moving under is narrow has 
     }
 
 -- the old chunk tree is known, by the chunks of the new system array, or by others that give the same places
-pub knows_chunk_tree : (image : List ℕ) (pending : FinMap nat_cmp ℕ) (old : Walked) (olds : List RootItem) (old_array some : List Chunk)
+pub knows_chunk_tree : (image : List ℕ) (pending : FinMap nat_cmp ℕ) (old : Walked) (olds : List RootAt) (old_array some : List Chunk)
     (pairs : Pairs) (marked own moving : Marks) (under : Under) (is : Side) → AreNarrow pairs → HasArray image old old_array
     → HasTrees image old (trees_in old.sup old.chunks old.chunks olds image)
     → ((tree address : ℕ) → pairs tree address ≡ table_of (live_in old.seen) tree address) → are_read_alike old.sup is.sup ≡ true

@@ -20,7 +20,6 @@ use Rattle.super_reader.specs.Superblock.{feature_rules, identity_rules, limit_r
 use Rattle.super_reader.specs.declared.Super.{Super}
 use Rattle.volume_items.specs.RootLinkRow.{RootLinkFields, root_link_row}
 use Rattle.volume_items.specs.RootRow.{root_fields, root_row, root_rows}
-use Rattle.volume_items.specs.declared.root.RootItem.{RootItem}
 use Rattle.node_reader.specs.Layout.{pointers_of}
 use Rattle.node_reader.specs.Stored.{Stored, block_in, stored_in}
 use Rattle.node_reader.specs.declared.expect.Expect.{Expect}
@@ -38,6 +37,7 @@ use Rattle.tree_laws.specs.TableLaw.{Tree}
 use Rattle.tree_laws.proofs.MergedLists.{roots_are_seen, walk_fits}
 use Rattle.tree_laws.proofs.Treed.{steps_of}
 use Rattle.tree_change.proofs.Olds.{same_ok}
+use Rattle.volume_items.specs.declared.root_at.RootAt.{RootAt}
 
 low_of : (n : ℕ) → nat_lt 7 n ≡ false → n < 8
 low_of n is = let most = ltb-false 7 n is in omega (arith, most)
@@ -63,7 +63,7 @@ supers_low image sup is = by (nat_lt (length image) 69632) is
 
 -- ---- the roots that root items name
 
-abbrev pub IsLow : RootItem → Type 0
+abbrev pub IsLow : RootAt → Type 0
 IsLow root = root.level < 8
 
 abbrev FitsLevel : Key → Part → Type 0
@@ -104,7 +104,7 @@ all_low (one ∷ ones) all = by one.part all.0 (all_low ones all.1)
     by (RootPart root) low rest = (low, rest)
     by other low rest = rest
 
-pub roots_low : (sup : Super) (chunks : List Chunk) (image : List ℕ) (roots : List RootItem) → root_items_in sup chunks image ≡ Ok roots
+pub roots_low : (sup : Super) (chunks : List Chunk) (image : List ℕ) (roots : List RootAt) → root_items_in sup chunks image ≡ Ok roots
     → AllByRecursion IsLow roots
 unfolding walk_in
 roots_low sup chunks image roots is =
@@ -169,7 +169,7 @@ trees_low image whole trees has =
     stored : Stored
     stored = stored_in image whole.chunks whole.sup.nodesize
 
-    by : (some : List RootItem) → AllByRecursion IsLow some
+    by : (some : List RootAt) → AllByRecursion IsLow some
         → AllByRecursion (λ (tree : Tree). AllByRecursion (λ v. v.level < 8) (visited whole.sup tree.0 tree.1))
         (map (λ root. (stored_in image whole.chunks whole.sup.nodesize, named_root root)) some)
     by [] all = tt

@@ -33,7 +33,7 @@ use Rattle.tree_laws.specs.Stopping.{kept_among}
 use Rattle.tree_laws.specs.Stops.{is_stop}
 use Rattle.tree_laws.specs.Visits.{LooksFew, visits_in}
 use Rattle.tree_laws.specs.declared.told.Met.{Met}
-use Rattle.tree_change.specs.AllTrees.{has_id, named_at, root_named}
+use Rattle.tree_change.specs.AllTrees.{root_named}
 use Rattle.tree_change.specs.Firsts.{first_copies}
 use Rattle.tree_change.specs.Gathered.{Gathers, blocks_seen}
 use Rattle.tree_change.specs.Looks.{LooksAtMost, gone_all_looks, gone_all_looks_in, gone_looks, gone_looks_in, is_expected, looks_in, met_by, named_looks, named_looks_in, new_visits, old_visits, old_visits_or, read_count, same_bound, stays_by, tree_looks}
@@ -42,6 +42,7 @@ use Rattle.tree_change.specs.Stays.{Stays}
 use Rattle.tree_change.specs.Told.{known_by, side_with}
 use Rattle.tree_change.specs.Walks.{Known, NewWalk, Side, kept_by, lasts_by, listed_by, new_walk, old_or_none, old_walk}
 use Rattle.tree_change.specs.declared.sides.Sides.{Sides}
+use Rattle.records.specs.Contents.{names, named_root}
 
 -- where just the addresses of stops pass a test, a walk comes to as many blocks that keeps the blocks at these addresses as one that keeps
 -- those at the stops
@@ -237,7 +238,7 @@ stays_all sides before now is =
 
 -- a place of the list of trees that are named now, where the tree is walked
 named_walked : {L : Type 0} (sides : Sides L) (olds news : List RootAt) (i : ℕ) (d : RootAt) (before : Option Expect) (now : Expect)
-    → i < length news → before ≡ root_named olds (get_or news i d).key.objectid → now ≡ named_at (get_or news i d)
+    → i < length news → before ≡ root_named olds (get_or news i d).key.objectid → now ≡ named_root (get_or news i d)
     → stays_by sides.is_same (known_by sides.known) before now ≡ false → (image : List ℕ)
     → named_looks_in sides olds (drop i news) image ≡ looks_in sides before now image + named_looks_in sides olds (drop (i + 1) news) image
 unfolding named_looks
@@ -246,9 +247,9 @@ named_walked sides olds news i d before now inside is_before is_now walked image
     let root = get_or news i d in
     let left = named_looks_in sides olds (drop (i + 1) news) image in
     ap (λ roots. named_looks_in sides olds roots image) (drop_more news i d inside)
-    ∙ ap (λ b. if b then left else looks_in sides (root_named olds root.key.objectid) (named_at root) image + left)
-    (ap (λ e. stays_by sides.is_same known e (named_at root)) (sym is_before) ∙ ap (stays_by sides.is_same known before) (sym is_now) ∙ walked)
-    ∙ ap (λ e. looks_in sides e (named_at root) image + left) (sym is_before)
+    ∙ ap (λ b. if b then left else looks_in sides (root_named olds root.key.objectid) (named_root root) image + left)
+    (ap (λ e. stays_by sides.is_same known e (named_root root)) (sym is_before) ∙ ap (stays_by sides.is_same known before) (sym is_now) ∙ walked)
+    ∙ ap (λ e. looks_in sides e (named_root root) image + left) (sym is_before)
     ∙ ap (λ e. looks_in sides before e image + left) (sym is_now)
 
 -- and one where it may be walked or not
@@ -258,8 +259,8 @@ unfolding named_looks
 named_left sides olds news i d inside image =
     subst (λ n. named_looks_in sides olds (drop (i + 1) news) image ≤ n)
     (sym (ap (λ roots. named_looks_in sides olds roots image) (drop_more news i d inside)))
-    (by (stays_by sides.is_same (known_by sides.known) (root_named olds (get_or news i d).key.objectid) (named_at (get_or news i d)))
-    (looks_in sides (root_named olds (get_or news i d).key.objectid) (named_at (get_or news i d)) image)
+    (by (stays_by sides.is_same (known_by sides.known) (root_named olds (get_or news i d).key.objectid) (named_root (get_or news i d)))
+    (looks_in sides (root_named olds (get_or news i d).key.objectid) (named_root (get_or news i d)) image)
     (named_looks_in sides olds (drop (i + 1) news) image))
   where
     by : (b : Bool) (here left : ℕ) → left ≤ (if b then left else here + left)
@@ -268,7 +269,7 @@ named_left sides olds news i d inside image =
 
 pub looks_walked : {L : Type 0} (sides : Sides L) (olds news : List RootAt) (i : ℕ) (d : RootAt) (before : Option Expect) (now : Expect)
     (result : Bool) (told : Option (List ℕ)) (first at next : ℕ) → i < length news
-    → before ≡ root_named olds (get_or news i d).key.objectid → now ≡ named_at (get_or news i d)
+    → before ≡ root_named olds (get_or news i d).key.objectid → now ≡ named_root (get_or news i d)
     → (sides.is_same ≡ true → Stays (pairs_of sides.table.now) (known_by sides.known) before now → result ≡ true) → result ≡ false
     → LooksSoFar told first at (named_looks_in sides olds (drop i news)) (named_looks_in sides olds news)
     → LooksAtMost told at next (looks_in sides before now)
@@ -284,7 +285,7 @@ looks_walked sides olds news i d before now result told first at next inside is_
     by false all = refl
 
 pub looks_passed : {L : Type 0} (sides : Sides L) (olds news : List RootAt) (i : ℕ) (d : RootAt) (now : Expect) (told : Option (List ℕ))
-    (first at : ℕ) → i < length news → now ≡ named_at (get_or news i d) → LooksSoFar told first at (named_looks_in sides olds (drop i news)) (named_looks_in sides olds news)
+    (first at : ℕ) → i < length news → now ≡ named_root (get_or news i d) → LooksSoFar told first at (named_looks_in sides olds (drop i news)) (named_looks_in sides olds news)
     → LooksSoFar told first at (named_looks_in sides olds (drop (i + 1) news)) (named_looks_in sides olds news)
 looks_passed sides olds news i d now told first at inside is_now so =
     looks_less told first at (named_looks_in sides olds (drop i news)) (named_looks_in sides olds (drop (i + 1) news))
@@ -292,20 +293,20 @@ looks_passed sides olds news i d now told first at inside is_now so =
 
 -- a place of the list of trees that were, where one is gone and where it is not
 pub gone_looks_step : {L : Type 0} (sides : Sides L) (news olds : List RootAt) (i : ℕ) (d : RootAt) (before : Expect) → i < length olds
-    → list_any (has_id (get_or olds i d).key.objectid) news ≡ false → before ≡ named_at (get_or olds i d) → (image : List ℕ)
+    → list_any (names (get_or olds i d).key.objectid) news ≡ false → before ≡ named_root (get_or olds i d) → (image : List ℕ)
     → gone_all_looks_in sides news (drop i olds) image ≡ gone_looks_in sides before image + gone_all_looks_in sides news (drop (i + 1) olds) image
 unfolding gone_all_looks
 gone_looks_step sides news olds i d before inside none is image =
     ap (λ roots. gone_all_looks_in sides news roots image) (drop_more olds i d inside)
     ∙ ap (λ b. if b then gone_all_looks_in sides news (drop (i + 1) olds) image
-    else gone_looks_in sides (named_at (get_or olds i d)) image + gone_all_looks_in sides news (drop (i + 1) olds) image) none
+    else gone_looks_in sides (named_root (get_or olds i d)) image + gone_all_looks_in sides news (drop (i + 1) olds) image) none
     ∙ ap (λ e. gone_looks_in sides e image + gone_all_looks_in sides news (drop (i + 1) olds) image) (sym is)
 
 pub gone_looks_past : {L : Type 0} (sides : Sides L) (news olds : List RootAt) (i : ℕ) (d : RootAt) → i < length olds
-    → list_any (has_id (get_or olds i d).key.objectid) news ≡ true → (image : List ℕ)
+    → list_any (names (get_or olds i d).key.objectid) news ≡ true → (image : List ℕ)
     → gone_all_looks_in sides news (drop i olds) image ≡ gone_all_looks_in sides news (drop (i + 1) olds) image
 unfolding gone_all_looks
 gone_looks_past sides news olds i d inside some image =
     ap (λ roots. gone_all_looks_in sides news roots image) (drop_more olds i d inside)
     ∙ ap (λ b. if b then gone_all_looks_in sides news (drop (i + 1) olds) image
-    else gone_looks_in sides (named_at (get_or olds i d)) image + gone_all_looks_in sides news (drop (i + 1) olds) image) some
+    else gone_looks_in sides (named_root (get_or olds i d)) image + gone_all_looks_in sides news (drop (i + 1) olds) image) some

@@ -10,19 +10,17 @@ use Rattle.verdict.proofs.Truth.{false_of_not}
 use Rattle.verdict.proofs.Lists.{filter_map_less}
 use Rattle.walk_laws.proofs.Trees.{step_ok}
 use Rattle.verdict.specs.Rules.{and_then}
-use Rattle.volume_items.specs.declared.root.RootItem.{RootItem}
 use Rattle.volume_items.specs.declared.root_at.RootAt.{RootAt}
 use Rattle.live_index.specs.Pairs.{Pairs}
 use Rattle.live_index.specs.declared.live.Live.{Live}
 use Rattle.node_reader.specs.declared.expect.Expect.{Expect}
-use Rattle.records.specs.Contents.{named_root}
+use Rattle.records.specs.Contents.{named_root, names}
 use Rattle.tree_laws.specs.LivePairs.{Walked}
 use Rattle.tree_laws.specs.Shared.{are_read_alike}
 use Rattle.tree_laws.specs.TableLaw.{Tree}
-use Rattle.tree_change.specs.AllTrees.{gone_all, has_id, named_parts, no_parts, root_named, with_parts}
+use Rattle.tree_change.specs.AllTrees.{gone_all, named_parts, no_parts, root_named, with_parts}
 use Rattle.tree_change.specs.Looks.{is_expected, met_by, new_visits, stays_by}
 use Rattle.tree_change.specs.LooksLaw.{entries_of}
-use Rattle.tree_change.specs.Merging.{root_at}
 use Rattle.tree_change.specs.OneTree.{IsTree, side_of}
 use Rattle.tree_change.specs.Stays.{RootsStand, Stays}
 use Rattle.tree_change.specs.Walks.{Known, NewWalk, Parts, Side, gone_parts, last_at, moved_of, moved_pair, new_walk, no_walk, old_or_none, old_walk, parts_of, tree_parts}
@@ -128,16 +126,16 @@ stays_true is_same pairs known before now by_old is =
     expected None is = absurd (cc)
     expected (Some e) is = ap (λ (x : Expect). Some x) (expect_of_same e now is)
 
-module _ (image : List ℕ) (pending : FinMap nat_cmp ℕ) (old : Walked) (olds : List RootItem) (trees : List Tree) (pairs : Pairs) (is : Side)
+module _ (image : List ℕ) (pending : FinMap nat_cmp ℕ) (old : Walked) (olds : List RootAt) (trees : List Tree) (pairs : Pairs) (is : Side)
     (known : Known) (is_same : Bool) (same_is : is_same ≡ are_read_alike old.sup is.sup) (low_olds : AllByRecursion IsLow olds)
-    (by_old : is_same ≡ true → known.pairs ≡ pairs) (stand : RootsStand pairs (map root_at olds)) where
+    (by_old : is_same ≡ true → known.pairs ≡ pairs) (stand : RootsStand pairs olds) where
   abbrev was : Side
   was = side_of image old
 
-  abbrev before_of : RootItem → Option Expect
-  before_of root = root_named (map root_at olds) root.key.objectid
+  abbrev before_of : RootAt → Option Expect
+  before_of root = root_named olds root.key.objectid
 
-  moved_one : (root : RootItem) (parts : Parts) → IsNamed image pending old olds trees pairs is known is_same same_is low_olds root → IsLow root
+  moved_one : (root : RootAt) (parts : Parts) → IsNamed image pending old olds trees pairs is known is_same same_is low_olds root → IsLow root
       → tree_parts pairs known was is (before_of root) (named_root root) ≡ Ok parts
       → length parts.moved ≤ moved_cost is parts
   moved_one root parts t low given = by (stays_by is_same known (before_of root) (named_root root)) refl
@@ -151,7 +149,7 @@ module _ (image : List ℕ) (pending : FinMap nat_cmp ℕ) (old : Walked) (olds 
       by : (b : Bool) → stays_by is_same known (before_of root) (named_root root) ≡ b → length parts.moved ≤ moved_cost is parts
       by true is_true =
           let stays = stays_true is_same pairs known (before_of root) (named_root root) by_old is_true in
-          let has = named_stands pairs (map root_at olds) root.key.objectid (named_root root) stand stays.same in
+          let has = named_stands pairs olds root.key.objectid (named_root root) stand stays.same in
           let none = stays_none pairs known was is (before_of root) (named_root root) stays has refl refl in
           subst (λ (p : Parts). length p.moved ≤ moved_cost is p)
           (same_parts no_parts parts (tree_parts pairs known was is (before_of root) (named_root root)) none given) (omega arith)
@@ -161,18 +159,18 @@ module _ (image : List ℕ) (pending : FinMap nat_cmp ℕ) (old : Walked) (olds 
           (moved_tree image pending old trees pairs is known (before_of root) (named_root root) parts t low low_old given)
           (few.reads_one refl (λ alike stays. stays_false is_same pairs known (before_of root) (named_root root) (same_is ∙ alike) is_false stays))
 
-  pub moved_named : (news : List RootItem) (parts : Parts)
+  pub moved_named : (news : List RootAt) (parts : Parts)
       → AllByRecursion (IsNamed image pending old olds trees pairs is known is_same same_is low_olds) news → AllByRecursion IsLow news
-      → named_parts pairs known was is (map root_at olds) (map root_at news) ≡ Ok parts → length parts.moved ≤ moved_cost is parts
+      → named_parts pairs known was is olds news ≡ Ok parts → length parts.moved ≤ moved_cost is parts
   unfolding named_parts
   moved_named [] parts all low given =
       subst (λ (p : Parts). length p.moved ≤ moved_cost is p) (same_parts no_parts parts (fine no_parts) refl given) (omega arith)
   moved_named (root ∷ news) parts all low given =
       let first =
       step_ok (tree_parts pairs known was is (before_of root) (named_root root))
-      (λ some. and_then (named_parts pairs known was is (map root_at olds) (map root_at news)) (λ more. fine (with_parts some more))) parts given in
+      (λ some. and_then (named_parts pairs known was is olds news) (λ more. fine (with_parts some more))) parts given in
       let rest =
-      step_ok (named_parts pairs known was is (map root_at olds) (map root_at news)) (λ more. fine (with_parts first.0 more)) parts first.2 in
+      step_ok (named_parts pairs known was is olds news) (λ more. fine (with_parts first.0 more)) parts first.2 in
       let same = same_parts (with_parts first.0 rest.0) parts (fine (with_parts first.0 rest.0)) refl rest.2 in
       subst (λ (p : Parts). length p.moved ≤ moved_cost is p) same
       (moved_joins is first.0 rest.0 (moved_one root first.0 all.0 low.0 first.1) (moved_named news rest.0 all.1 low.1 rest.1))
@@ -185,26 +183,26 @@ module _ (image : List ℕ) (pending : FinMap nat_cmp ℕ) (old : Walked) (olds 
       subst (λ (p : Parts). length p.moved ≤ moved_cost is p)
       (same_parts (parts_of pairs no_walk a.0) parts (fine (parts_of pairs no_walk a.0)) refl a.2) (omega arith)
 
-  pub moved_gone : (news : List RootAt) (some : List RootItem) (parts : Parts) → gone_all pairs known was news (map root_at some) ≡ Ok parts
+  pub moved_gone : (news : List RootAt) (some : List RootAt) (parts : Parts) → gone_all pairs known was news some ≡ Ok parts
       → length parts.moved ≤ moved_cost is parts
   unfolding gone_all
   moved_gone news [] parts given =
       subst (λ (p : Parts). length p.moved ≤ moved_cost is p) (same_parts no_parts parts (fine no_parts) refl given) (omega arith)
   moved_gone news (root ∷ some) parts given =
-      by (list_any (has_id root.key.objectid) news) given (λ more is_more. moved_gone news some more is_more)
+      by (list_any (names root.key.objectid) news) given (λ more is_more. moved_gone news some more is_more)
     where
-      by : (b : Bool) → (if b then gone_all pairs known was news (map root_at some) else
+      by : (b : Bool) → (if b then gone_all pairs known was news some else
           and_then (gone_parts pairs known was (named_root root)) (λ parts.
-          and_then (gone_all pairs known was news (map root_at some)) (λ more.
+          and_then (gone_all pairs known was news some) (λ more.
           fine (with_parts parts more)))) ≡ Ok parts
-          → ((more : Parts) → gone_all pairs known was news (map root_at some) ≡ Ok more → length more.moved ≤ moved_cost is more)
+          → ((more : Parts) → gone_all pairs known was news some ≡ Ok more → length more.moved ≤ moved_cost is more)
           → length parts.moved ≤ moved_cost is parts
       by true made later = later parts made
       by false made later =
           let first =
           step_ok (gone_parts pairs known was (named_root root))
-          (λ parts. and_then (gone_all pairs known was news (map root_at some)) (λ more. fine (with_parts parts more))) parts made in
-          let rest = step_ok (gone_all pairs known was news (map root_at some)) (λ more. fine (with_parts first.0 more)) parts first.2 in
+          (λ parts. and_then (gone_all pairs known was news some) (λ more. fine (with_parts parts more))) parts made in
+          let rest = step_ok (gone_all pairs known was news some) (λ more. fine (with_parts first.0 more)) parts first.2 in
           let same = same_parts (with_parts first.0 rest.0) parts (fine (with_parts first.0 rest.0)) refl rest.2 in
           subst (λ (p : Parts). length p.moved ≤ moved_cost is p) same
           (moved_joins is first.0 rest.0 (none_gone (named_root root) first.0 first.1) (later rest.0 rest.1))

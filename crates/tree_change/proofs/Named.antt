@@ -12,7 +12,6 @@ use Rattle.verdict.specs.declared.finding.Finding.{Finding}
 use Rattle.verdict.specs.declared.key.Key.{Key}
 use Rattle.write_cache.specs.Cache.{overlaid}
 use Rattle.super_reader.specs.declared.Super.{Super}
-use Rattle.volume_items.specs.declared.root.RootItem.{RootItem}
 use Rattle.live_index.specs.Pairs.{Pairs}
 use Rattle.node_reader.specs.Stored.{Stored, stored_in}
 use Rattle.node_reader.specs.declared.expect.Expect.{Expect}
@@ -37,7 +36,6 @@ use Rattle.tree_laws.proofs.Sifting.{starts_level}
 use Rattle.tree_laws.proofs.Skipping.{skips, unkept_in, unkept_is}
 use Rattle.tree_laws.proofs.Trails.{Tells, Trail, all_own, tells, trail_of}
 use Rattle.tree_change.specs.AllTrees.{IsOver, KnowsTrees, NamedLaw, named_parts, no_parts, root_named, with_parts}
-use Rattle.tree_change.specs.Merging.{root_at}
 use Rattle.tree_change.specs.OneTree.{GivesTree, IsAmong, KnowsNothing, KnowsTree, OneTreeLaw, old_tree, side_of}
 use Rattle.tree_change.specs.Unchanged.{ChangesListed, changes_at, none_touched}
 use Rattle.tree_change.specs.Walks.{Known, NewWalk, Parts, Side, kept_by, lasts_by, listed_by, new_walk, no_tree, parts_of, tree_parts}
@@ -45,6 +43,7 @@ use Rattle.tree_change.proofs.Olds.{fine_step, gathered, ok_never, old_stands, s
 use Rattle.tree_change.proofs.OneOld.{untouched}
 use Rattle.tree_change.proofs.OnePlain.{kept_same, nothing_marked}
 use Rattle.tree_change.proofs.Whole.{KeepsNone, none_of}
+use Rattle.volume_items.specs.declared.root_at.RootAt.{RootAt}
 
 -- records have the finding of others, and where they have none the others have none
 pub record IsLike (some whole : Records) : Type 0 where
@@ -149,29 +148,29 @@ same_some a b is = cc
 
 -- the roots of trees by their names
 module _ (stored : Stored) (id : ℕ) where
-  abbrev named_tree : RootItem → Tree
+  abbrev named_tree : RootAt → Tree
   named_tree root = (stored, named_root root)
 
-  named_some : (roots : List RootItem) (e : Expect) → root_named (map root_at roots) id ≡ Some e
+  named_some : (roots : List RootAt) (e : Expect) → root_named roots id ≡ Some e
       → (e.tree ≡ id) × IsAmong (stored, e) (map named_tree roots)
   named_some [] e at = absurd (cc)
   named_some (root ∷ roots) e at = by (root.key.objectid == id) refl at (named_some roots e)
     where
-      by : (b : Bool) → (root.key.objectid == id) ≡ b → (if b then Some (named_root root) else root_named (map root_at roots) id) ≡ Some e
-          → (root_named (map root_at roots) id ≡ Some e → (e.tree ≡ id) × IsAmong (stored, e) (map named_tree roots))
+      by : (b : Bool) → (root.key.objectid == id) ≡ b → (if b then Some (named_root root) else root_named roots id) ≡ Some e
+          → (root_named roots id ≡ Some e → (e.tree ≡ id) × IsAmong (stored, e) (map named_tree roots))
           → (e.tree ≡ id) × IsAmong (stored, e) (map named_tree (root ∷ roots))
       by true is at rest =
           let same = same_some (named_root root) e at in
           (ap (λ (x : Expect). x.tree) (sym same) ∙ eqb-true root.key.objectid id is, inl (ap (λ (x : Expect). (stored, x)) (sym same)))
       by false is at rest = let r = rest at in (r.0, inr r.1)
 
-  named_none : (roots : List RootItem) → root_named (map root_at roots) id ≡ None
+  named_none : (roots : List RootAt) → root_named roots id ≡ None
       → AllByRecursion (λ (tree : Tree). (tree.1.tree == id) ≡ false) (map named_tree roots)
   named_none [] at = tt
   named_none (root ∷ roots) at = by (root.key.objectid == id) refl at (named_none roots)
     where
-      by : (b : Bool) → (root.key.objectid == id) ≡ b → (if b then Some (named_root root) else root_named (map root_at roots) id) ≡ None
-          → (root_named (map root_at roots) id ≡ None → AllByRecursion (λ (tree : Tree). (tree.1.tree == id) ≡ false) (map named_tree roots))
+      by : (b : Bool) → (root.key.objectid == id) ≡ b → (if b then Some (named_root root) else root_named roots id) ≡ None
+          → (root_named roots id ≡ None → AllByRecursion (λ (tree : Tree). (tree.1.tree == id) ≡ false) (map named_tree roots))
           → AllByRecursion (λ (tree : Tree). (tree.1.tree == id) ≡ false) (map named_tree (root ∷ roots))
       by true is at rest = absurd (cc)
       by false is at rest = (is, rest at)
@@ -212,19 +211,19 @@ knows_none : (image : List ℕ) (pending : FinMap nat_cmp ℕ) (old : Walked) (t
 knows_none image pending old trees is known k =
     record { alike = k.alike; pairs_are = k.pairs_are; moved_is = k.moved_is; marked_is = k.marked_is; changing = k.changing; changes = tt }
 
-module _ (law : OneTreeLaw) (image : List ℕ) (pending : FinMap nat_cmp ℕ) (old : Walked) (olds : List RootItem) (trees : List Tree) (pairs : Pairs)
+module _ (law : OneTreeLaw) (image : List ℕ) (pending : FinMap nat_cmp ℕ) (old : Walked) (olds : List RootAt) (trees : List Tree) (pairs : Pairs)
     (is : Side) (known : Known) (over : IsOver image pending old olds trees pairs is known) where
   abbrev was : Side
   was = side_of image old
 
   abbrev named_before : ℕ → Option Expect
-  named_before id = root_named (map root_at olds) id
+  named_before id = root_named olds id
 
-  abbrev Found : RootItem → Option Expect → Type 0
+  abbrev Found : RootAt → Option Expect → Type 0
   Found root before = IsFound known is (named_root root) pairs was before
 
   -- each tree that a root item names is found so, by the old tree of its id
-  found_some : (root : RootItem) (e : Expect) → named_before root.key.objectid ≡ Some e → Found root (Some e)
+  found_some : (root : RootAt) (e : Expect) → named_before root.key.objectid ≡ Some e → Found root (Some e)
   found_some root e at =
       let some = named_some (stored_in image old.chunks old.sup.nodesize) root.key.objectid olds e at in
       let one : IsAmong (old_tree image old e) trees = subst (IsAmong (old_tree image old e)) (sym over.trees_are) (inr (inr some.1)) in
@@ -244,7 +243,7 @@ module _ (law : OneTreeLaw) (image : List ℕ) (pending : FinMap nat_cmp ℕ) (o
       by one (inr k) = inr k
 
   -- no root item names the chunk tree or the root tree; their walks would be found so too
-  found_other : (root : RootItem) (e : Expect) → IsAmong (old_tree image old e) trees → e.tree ≡ root.key.objectid → Found root None
+  found_other : (root : RootAt) (e : Expect) → IsAmong (old_tree image old e) trees → e.tree ≡ root.key.objectid → Found root None
   found_other root e one same =
       found_none known is (named_root root) pairs was
       (subst (λ id. IsSound id (kept_by known) nothing (listed_by known) is.sup (stored_in is.image is.chunks is.sup.nodesize)) same
@@ -260,7 +259,7 @@ module _ (law : OneTreeLaw) (image : List ℕ) (pending : FinMap nat_cmp ℕ) (o
           none_sound (kept_by known) known e.tree is.sup (stored_in is.image is.chunks is.sup.nodesize)
           (none_of known.pairs known.marked known.moved known.under k.none)
 
-  found_new : (root : RootItem) → named_before root.key.objectid ≡ None → (3 == root.key.objectid) ≡ false → (1 == root.key.objectid) ≡ false
+  found_new : (root : RootAt) → named_before root.key.objectid ≡ None → (3 == root.key.objectid) ≡ false → (1 == root.key.objectid) ≡ false
       → Found root None
   found_new root at chunk first =
       found_given known is (named_root root) image pending old pairs None
@@ -279,7 +278,7 @@ module _ (law : OneTreeLaw) (image : List ℕ) (pending : FinMap nat_cmp ℕ) (o
       by (inl k) = inl (knows_none image pending old trees is known k)
       by (inr k) = inr k
 
-  found_each : (root : RootItem) (before : Option Expect) → named_before root.key.objectid ≡ before → Found root before
+  found_each : (root : RootAt) (before : Option Expect) → named_before root.key.objectid ≡ before → Found root before
   found_each root (Some e) at = found_some root e at
   found_each root None at = by (3 == root.key.objectid) (1 == root.key.objectid) refl refl
     where
@@ -293,18 +292,18 @@ module _ (law : OneTreeLaw) (image : List ℕ) (pending : FinMap nat_cmp ℕ) (o
           (eqb-true 1 root.key.objectid first)
       by false false chunk first = found_new root at chunk first
 
-  abbrev parts_from : List RootItem → Result Parts Finding
-  parts_from news = named_parts pairs known was is (map root_at olds) (map root_at news)
+  abbrev parts_from : List RootAt → Result Parts Finding
+  parts_from news = named_parts pairs known was is olds news
 
-  abbrev records_from : List RootItem → Records
+  abbrev records_from : List RootAt → Records
   records_from news = tree_records is.sup is.chunks news is.image
 
   -- all of them
-  record AreFound (news : List RootItem) : Type 0 where
+  record AreFound (news : List RootAt) : Type 0 where
     found : (finding : Finding) → parts_from news ≡ Err finding → records_from news ≡ Err finding
     fine : (parts : Parts) → parts_from news ≡ Ok parts → (records : List Seen) × (records_from news ≡ Ok records)
 
-  found_first : (root : RootItem) (news : List RootItem) → Found root (named_before root.key.objectid) → AreFound news → AreFound (root ∷ news)
+  found_first : (root : RootAt) (news : List RootAt) → Found root (named_before root.key.objectid) → AreFound news → AreFound (root ∷ news)
   unfolding named_parts behind
   found_first root news one more = record {
     found = λ finding at. first finding (step_err here with_rest finding at);
@@ -340,7 +339,7 @@ module _ (law : OneTreeLaw) (image : List ℕ) (pending : FinMap nat_cmp ℕ) (o
           → (records : List Seen) × (then_records whole (records_from news) ≡ Ok records)
       both a b = (a.0 ++ b.0, rw (a.1, b.1) refl)
 
-  found_all : (news : List RootItem) → AreFound news
+  found_all : (news : List RootAt) → AreFound news
   unfolding named_parts
   found_all [] = record { found = λ finding at. elim (ok_never no_parts finding at) [ ]; fine = λ parts at. ([], refl) }
   found_all (root ∷ news) = found_first root news (found_each root (named_before root.key.objectid) refl) (found_all news)

@@ -4,19 +4,20 @@ use Rattle.std.specs.Prelude.{if◌then◌else◌}
 use Rattle.std.proofs.lemmas.List.{take_more}
 use Rattle.node_reader.specs.declared.expect.Expect.{Expect}
 use Rattle.volume_items.specs.declared.root_at.RootAt.{RootAt}
-use Rattle.tree_change.specs.AllTrees.{has_id, named_at, root_named}
+use Rattle.tree_change.specs.AllTrees.{root_named}
 use Rattle.tree_change.specs.Roots.{or_named, with_named}
+use Rattle.records.specs.Contents.{names, named_root}
 
 -- one more behind others
 named_behind : (roots : List RootAt) (root : RootAt) (id : ℕ)
-    → root_named (roots ++ root ∷ []) id ≡ or_named (root_named roots id) (if has_id id root then Some (named_at root) else None)
+    → root_named (roots ++ root ∷ []) id ≡ or_named (root_named roots id) (if names id root then Some (named_root root) else None)
 named_behind [] root id = refl
-named_behind (first ∷ roots) root id = by (has_id id first) (named_behind roots root id)
+named_behind (first ∷ roots) root id = by (names id first) (named_behind roots root id)
   where
     by : (b : Bool)
-        → root_named (roots ++ root ∷ []) id ≡ or_named (root_named roots id) (if has_id id root then Some (named_at root) else None)
-        → (if b then Some (named_at first) else root_named (roots ++ root ∷ []) id)
-        ≡ or_named (if b then Some (named_at first) else root_named roots id) (if has_id id root then Some (named_at root) else None)
+        → root_named (roots ++ root ∷ []) id ≡ or_named (root_named roots id) (if names id root then Some (named_root root) else None)
+        → (if b then Some (named_root first) else root_named (roots ++ root ∷ []) id)
+        ≡ or_named (if b then Some (named_root first) else root_named roots id) (if names id root then Some (named_root root) else None)
     by true more = refl
     by false more = more
 
@@ -25,5 +26,5 @@ pub named_more : (before after : ℕ → Option Expect) (roots : List RootAt) (i
     → (id : ℕ) → after id ≡ root_named (take (i + 1) roots) id
 named_more before after roots i d inside so more id =
     more id
-    ∙ ap (λ o. or_named o (if has_id id (get_or roots i d) then Some (named_at (get_or roots i d)) else None)) (so id)
+    ∙ ap (λ o. or_named o (if names id (get_or roots i d) then Some (named_root (get_or roots i d)) else None)) (so id)
     ∙ sym (ap (λ l. root_named l id) (take_more roots i d inside) ∙ named_behind (take i roots) (get_or roots i d) id)

@@ -31,7 +31,7 @@ use Rattle.tree_laws.specs.TableLaw.{Tree}
 use Rattle.tree_laws.specs.Unshared.{AreOfPairs, items_in}
 use Rattle.tree_laws.proofs.Forest.{stands_as, tree_table}
 use Rattle.tree_change.specs.Gathered.{Gathers, blocks_seen}
-use Rattle.tree_change.specs.Merging.{chunks_left, named_before, root_at, roots_left}
+use Rattle.tree_change.specs.Merging.{chunks_left, named_before, roots_left}
 use Rattle.tree_change.specs.OneTree.{ChangesTree, GivesTree, HasRecords, IsAmong, IsOldOf, KnowsNothing, old_tree, unchanged, side_of}
 use Rattle.tree_change.specs.Walks.{Known, NewWalk, Parts, Side, kept_by, lasts_by, listed_by, lives_of, new_walk, no_tree, old_or_none, pairs_at, parts_of, tree_parts}
 use Rattle.tree_change.proofs.Ended.{behind_all, ends_whole, lasts_told}
@@ -193,11 +193,11 @@ module _ (image : List ℕ) (pending : FinMap nat_cmp ℕ) (old : Walked) (trees
         chunks = λ tree. in_order begins_before (chunks_left (chunks_seen o.olds) (items o.olds) (items n.news)) (chunks_seen n.news)
             (chunks_all o.olds n.news)
             (record { all = IsPermutation-refl (chunks_seen n.news); ascends = chunks_ascend shared f is.sup stored now n.news n.walk tree });
-        roots = λ tree. in_order named_before (roots_left (map root_at (roots_seen o.olds)) (items o.olds) (items n.news))
-            (map root_at (roots_seen n.news))
+        roots = λ tree. in_order named_before (roots_left (roots_seen o.olds) (items o.olds) (items n.news))
+            (roots_seen n.news)
             (roots_all o.olds n.news)
             (record {
-              all = IsPermutation-refl (map root_at (roots_seen n.news));
+              all = IsPermutation-refl (roots_seen n.news);
               ascends = named_ascend (roots_seen n.news) (roots_ascend shared f is.sup stored now n.news n.walk tree);
             });
       }

@@ -12,7 +12,6 @@ use Rattle.walk_laws.proofs.Trees.{step_ok}
 use Rattle.touched_blocks.proofs.Among.{some_same}
 use Rattle.verdict.specs.declared.key.Key.{Key}
 use Rattle.super_reader.specs.declared.Super.{Super}
-use Rattle.volume_items.specs.declared.root.RootItem.{RootItem}
 use Rattle.live_index.specs.Pairs.{Pairs}
 use Rattle.live_index.specs.declared.live.Live.{Live}
 use Rattle.node_reader.specs.Stored.{Stored, block_in, stored_in}
@@ -41,6 +40,7 @@ use Rattle.tree_change.proofs.Olds.{fine_step, gathered, old_stands, same_ok}
 use Rattle.tree_change.proofs.OfTree.{LeadsIn, read_in}
 use Rattle.tree_change.proofs.TouchedRoot.{new_unknown, unknown}
 use Rattle.tree_change.proofs.Whole.{none_of}
+use Rattle.volume_items.specs.declared.root_at.RootAt.{RootAt}
 
 -- a block that is kept has its pair
 kept_pair : (pairs : Pairs) (marked : Marks) (moved : ℕ → Bool) (under : Under) (e : Expect) (last : Key)
@@ -84,7 +84,7 @@ no_parents : (image : List ℕ) (whole : Walked) (trees : List Tree) → HasTree
 no_parents image whole trees has =
     subst (AllByRecursion (λ (tree : Tree). tree.1.parent ≡ 0)) (sym has.trees_are) (refl, (refl, by has.roots))
   where
-    by : (some : List RootItem)
+    by : (some : List RootAt)
         → AllByRecursion (λ (tree : Tree). tree.1.parent ≡ 0) (map (λ root. (stored_in image whole.chunks whole.sup.nodesize, named_root root)) some)
     by [] = tt
     by (root ∷ some) = (refl, by some)

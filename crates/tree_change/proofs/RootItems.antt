@@ -8,7 +8,6 @@ use Rattle.verdict.specs.Rules.{and_then, finding_or}
 use Rattle.verdict.specs.declared.finding.Finding.{Finding}
 use Rattle.verdict.specs.declared.place.Chunk.{Chunk}
 use Rattle.super_reader.specs.declared.Super.{Super}
-use Rattle.volume_items.specs.declared.root.RootItem.{RootItem}
 use Rattle.volume_items.specs.declared.root_at.RootAt.{RootAt}
 use Rattle.live_index.specs.Pairs.{Pairs}
 use Rattle.records.specs.Contents.{root_items_in, root_records, root_tree_root, roots_fault}
@@ -18,7 +17,7 @@ use Rattle.tree_laws.specs.LivePairs.{Walked}
 use Rattle.tree_laws.specs.MergedLaw.{IsInOrder, roots_seen}
 use Rattle.tree_laws.specs.TableLaw.{Tree}
 use Rattle.tree_laws.proofs.MergedLists.{roots_are_seen}
-use Rattle.tree_change.specs.Merging.{IsSortedOf, named_before, root_at, roots_left}
+use Rattle.tree_change.specs.Merging.{IsSortedOf, named_before, roots_left}
 use Rattle.tree_change.specs.OneTree.{IsTree, OneTreeLaw, side_of}
 use Rattle.tree_change.specs.Walks.{Known, Parts, Side, tree_parts}
 use Rattle.tree_change.proofs.Olds.{same_ok}
@@ -39,7 +38,7 @@ roots_failed sup chunks image finding is =
     and_then (finding_or (roots_fault sup.compat_ro (roots_seen all)) (tt {0})) (λ _. Ok (roots_seen all)))) is
 
 -- the root items of an image are those among the records of its root tree
-pub items_are_seen : (sup : Super) (chunks : List Chunk) (image : List ℕ) (records : List Seen) (olds : List RootItem)
+pub items_are_seen : (sup : Super) (chunks : List Chunk) (image : List ℕ) (records : List Seen) (olds : List RootAt)
     → root_records sup chunks image ≡ Ok records → root_items_in sup chunks image ≡ Ok olds → roots_seen records ≡ olds
 items_are_seen sup chunks image records olds is items =
     let step =
@@ -49,21 +48,21 @@ items_are_seen sup chunks image records olds is items =
 
 -- Where trees begin is what is merged of where they began, of what is gone and of what came, where the rules on the root items keep.
 pub roots_made : OneTreeLaw → (image : List ℕ) (pending : FinMap nat_cmp ℕ) (old : Walked) (trees : List Tree) (pairs : Pairs) (is : Side)
-    (known : Known) (parts : Parts) (olds : List RootItem) (roots : List RootAt) → root_items_in old.sup old.chunks image ≡ Ok olds
+    (known : Known) (parts : Parts) (olds : List RootAt) (roots : List RootAt) → root_items_in old.sup old.chunks image ≡ Ok olds
     → IsTree image pending old trees pairs is known (Some (root_tree_root old.sup)) (root_tree_root is.sup)
     → tree_parts pairs known (side_of image old) is (Some (root_tree_root old.sup)) (root_tree_root is.sup) ≡ Ok parts
-    → IsSortedOf named_before (roots_left (map root_at olds) parts.old_items parts.new_items) roots
-    → (items : List RootItem) × (roots ≡ map root_at items)
+    → IsSortedOf named_before (roots_left olds parts.old_items parts.new_items) roots
+    → (items : List RootAt) × (roots ≡ items)
     × (root_items_in is.sup is.chunks is.image ≡ and_then (finding_or (roots_fault is.sup.compat_ro items) (tt {0})) (λ _. Ok items))
 roots_made law image pending old trees pairs is known parts olds roots had tree given sort =
     let gives = law image pending old trees pairs is known (Some (root_tree_root old.sup)) (root_tree_root is.sup) tree in
     let p = gives.parts parts given in
     let news = p.1 in
-    let whole = roots_left (map root_at olds) parts.old_items parts.new_items in
-    let order : IsInOrder named_before whole (map root_at (roots_seen news)) =
-    subst (λ items. IsInOrder named_before (roots_left (map root_at items) parts.old_items parts.new_items) (map root_at (roots_seen news)))
+    let whole = roots_left olds parts.old_items parts.new_items in
+    let order : IsInOrder named_before whole (roots_seen news) =
+    subst (λ items. IsInOrder named_before (roots_left items parts.old_items parts.new_items) (roots_seen news))
     (items_are_seen old.sup old.chunks image p.0 olds p.2 had) (p.4.roots refl) in
-    (roots_seen news, only_list named_before whole roots (map root_at (roots_seen news)) sort order, roots_of is.sup is.chunks is.image news p.3)
+    (roots_seen news, only_list named_before whole roots (roots_seen news) sort order, roots_of is.sup is.chunks is.image news p.3)
 
 -- the first finding on the parts of a root tree is that of the root items
 pub roots_found : OneTreeLaw → (image : List ℕ) (pending : FinMap nat_cmp ℕ) (old : Walked) (trees : List Tree) (pairs : Pairs) (is : Side)

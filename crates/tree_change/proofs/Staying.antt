@@ -13,11 +13,10 @@ use Rattle.live_index.specs.Table.{pairs_of}
 use Rattle.live_index.specs.declared.live.Live.{Live}
 use Rattle.node_reader.specs.Stored.{Stored, block_in, stored_in}
 use Rattle.node_reader.specs.declared.expect.Expect.{Expect}
-use Rattle.records.specs.Contents.{named_root}
+use Rattle.records.specs.Contents.{named_root, names}
 use Rattle.records.specs.Seen.{Seen}
 use Rattle.records.specs.Walk.{Records, behind, block_and, walk_of}
 use Rattle.records.specs.WalkLaw.{children_in, visited, visited_from}
-use Rattle.volume_items.specs.declared.root.RootItem.{RootItem}
 use Rattle.volume_items.specs.declared.root_at.RootAt.{RootAt}
 use Rattle.tree_laws.specs.Ending.{Ends, Lasts, end_at, ends_below, ends_in, ends_of, ends_or, key_or, none_more, read_ends}
 use Rattle.tree_laws.specs.Keeping.{Stands, is_same, kept_of, last_if_same, live_at, starts_of}
@@ -30,9 +29,8 @@ use Rattle.tree_laws.specs.Skips.{Anew, Kept, is_below, next_of, nothing, skip_b
 use Rattle.tree_laws.specs.TableLaw.{Tree}
 use Rattle.tree_laws.specs.declared.told.Ended.{Ended}
 use Rattle.tree_change.specs.Firsts.{first_copies}
-use Rattle.tree_change.specs.AllTrees.{has_id, named_at, no_parts, root_named}
+use Rattle.tree_change.specs.AllTrees.{no_parts, root_named}
 use Rattle.tree_change.specs.Making.{is_side, named_parts_in, parts_in, was_side}
-use Rattle.tree_change.specs.Merging.{root_at}
 use Rattle.tree_change.specs.Stays.{HasRoot, RootsStand, Stays}
 use Rattle.tree_change.specs.Told.{known_by}
 use Rattle.tree_change.specs.Walks.{Known, NewWalk, Parts, Side, kept_by, last_at, lasts_by, listed_by, moved_pair, moved_to, new_walk, no_tree, old_walk, parts_of, tree_parts}
@@ -185,7 +183,7 @@ stays_none pairs known was is before now stays has low high =
 -- a root that a list names is one of those of which the table has the pairs
 pub named_stands : (pairs : Pairs) (roots : List RootAt) (id : ℕ) (e : Expect) → RootsStand pairs roots → root_named roots id ≡ Some e → HasRoot pairs e
 named_stands pairs [] id e all at = absurd (cc)
-named_stands pairs (root ∷ roots) id e all at = by (has_id id root) at (named_stands pairs roots id e all.1)
+named_stands pairs (root ∷ roots) id e all at = by (names id root) at (named_stands pairs roots id e all.1)
   where
     some_expect : Expect → Option Expect
     some_expect one = Some one
@@ -193,14 +191,14 @@ named_stands pairs (root ∷ roots) id e all at = by (has_id id root) at (named_
     same : (one : Expect) → some_expect one ≡ Some e → one ≡ e
     same one is = cc
 
-    by : (b : Bool) → (if b then Some (named_at root) else root_named roots id) ≡ Some e → (root_named roots id ≡ Some e → HasRoot pairs e)
+    by : (b : Bool) → (if b then Some (named_root root) else root_named roots id) ≡ Some e → (root_named roots id ≡ Some e → HasRoot pairs e)
         → HasRoot pairs e
-    by true is more = subst (HasRoot pairs) (same (named_at root) is) all.0
+    by true is more = subst (HasRoot pairs) (same (named_root root) is) all.0
     by false is more = more is
 
 -- a place of the list of trees that are named now, where the tree stays
 pub named_past : {L : Type 0} (sides : Sides L) (olds news : List RootAt) (i : ℕ) (d : RootAt) (before : Option Expect) (now : Expect)
-    → i < length news → before ≡ root_named olds (get_or news i d).key.objectid → now ≡ named_at (get_or news i d)
+    → i < length news → before ≡ root_named olds (get_or news i d).key.objectid → now ≡ named_root (get_or news i d)
     → Stays (pairs_of sides.table.now) (known_by sides.known) before now → RootsStand (pairs_of sides.table.now) olds → (image : List ℕ)
     → named_parts_in sides olds (drop i news) image ≡ named_parts_in sides olds (drop (i + 1) news) image
 named_past sides olds news i d before now inside is_before is_now stays stand image =
@@ -234,8 +232,8 @@ module _ (pairs : Pairs) (old : Walked) (stored : Stored)
     parent = refl;
   }
 
-  pub items_stand : (roots : List RootItem)
+  pub items_stand : (roots : List RootAt)
       → AllByRecursion (λ (tree : Tree). Stands (table_of (live_in old.seen)) old.sup tree.0 tree.1) (map (λ root. (stored, named_root root)) roots)
-      → RootsStand pairs (map root_at roots)
+      → RootsStand pairs roots
   items_stand [] all = tt
   items_stand (root ∷ roots) all = (has_root (named_root root) all.0, items_stand roots all.1)

@@ -13,23 +13,21 @@ use Rattle.verdict.specs.OnDisk.{key_same}
 use Rattle.verdict.specs.Rules.{and_then}
 use Rattle.verdict.specs.declared.finding.Finding.{Finding}
 use Rattle.verdict.specs.declared.key.Key.{Key}
-use Rattle.volume_items.specs.declared.root.RootItem.{RootItem}
 use Rattle.volume_items.specs.declared.root_at.RootAt.{RootAt}
 use Rattle.live_index.specs.Pairs.{Pairs}
 use Rattle.live_index.specs.declared.live.Live.{Live}
 use Rattle.node_reader.specs.Stored.{stored_in}
 use Rattle.node_reader.specs.declared.expect.Expect.{Expect}
-use Rattle.records.specs.Contents.{named_root}
+use Rattle.records.specs.Contents.{named_root, names}
 use Rattle.tree_laws.specs.LivePairs.{Walked, live_in, table_of}
 use Rattle.tree_laws.specs.Shared.{are_read_alike}
 use Rattle.tree_laws.specs.SharedLaw.{HasTrees}
 use Rattle.tree_laws.specs.TableLaw.{Tree}
 use Rattle.tree_laws.specs.VisitsLaw.{entries_at}
-use Rattle.tree_change.specs.AllTrees.{gone_all, has_id, named_parts, root_named, with_parts}
+use Rattle.tree_change.specs.AllTrees.{gone_all, named_parts, root_named, with_parts}
 use Rattle.tree_change.specs.Gathered.{Gathers}
 use Rattle.tree_change.specs.Looks.{gone_all_looks, gone_looks, is_expected, met_by, named_looks, new_visits, old_visits, old_visits_or, read_count, same_bound, stays_by, tree_looks}
 use Rattle.tree_change.specs.LooksLaw.{entries_of}
-use Rattle.tree_change.specs.Merging.{root_at}
 use Rattle.tree_change.specs.OneTree.{IsAmong, IsTree, old_tree, side_of}
 use Rattle.tree_change.specs.Stays.{Stays}
 use Rattle.tree_change.specs.Walks.{Known, Parts, Side, gone_parts, old_or_none, old_walk, tree_parts}
@@ -151,12 +149,12 @@ stays_false is_same pairs known before now same none stays =
 
 -- ---- the trees that are named now
 
-pub named_low : (some : List RootItem) (id : ℕ) → AllByRecursion IsLow some → IfSome (root_named (map root_at some) id) (λ e. e.level < 8)
+pub named_low : (some : List RootAt) (id : ℕ) → AllByRecursion IsLow some → IfSome (root_named some id) (λ e. e.level < 8)
 named_low [] id all = tt
 named_low (root ∷ some) id all = by (root.key.objectid == id) (named_low some id all.1)
   where
-    by : (b : Bool) → IfSome (root_named (map root_at some) id) (λ e. e.level < 8)
-        → IfSome (if b then Some (named_root root) else root_named (map root_at some) id) (λ e. e.level < 8)
+    by : (b : Bool) → IfSome (root_named some id) (λ e. e.level < 8)
+        → IfSome (if b then Some (named_root root) else root_named some id) (λ e. e.level < 8)
     by true rest = all.0
     by false rest = rest
 
@@ -169,19 +167,19 @@ fine parts = Ok parts
 paid : (a e p n b : ℕ) → a ≤ 7 + (4 * e + 3 * p + 28 * n + 22 * b) → 1 ≤ b + n → a ≤ 4 * e + 3 * p + 35 * n + 29 * b
 paid a e p n b x y = omega (arith, x, y)
 
-module _ (image : List ℕ) (pending : FinMap nat_cmp ℕ) (old : Walked) (olds : List RootItem) (trees : List Tree) (pairs : Pairs) (is : Side)
+module _ (image : List ℕ) (pending : FinMap nat_cmp ℕ) (old : Walked) (olds : List RootAt) (trees : List Tree) (pairs : Pairs) (is : Side)
     (known : Known) (is_same : Bool) (same_is : is_same ≡ are_read_alike old.sup is.sup) (low_olds : AllByRecursion IsLow olds) where
   abbrev was : Side
   was = side_of image old
 
-  abbrev before_of : RootItem → Option Expect
-  before_of root = root_named (map root_at olds) root.key.objectid
+  abbrev before_of : RootAt → Option Expect
+  before_of root = root_named olds root.key.objectid
 
-  abbrev pub IsNamed : RootItem → Type 0
+  abbrev pub IsNamed : RootAt → Type 0
   IsNamed root = IsTree image pending old trees pairs is known (before_of root) (named_root root)
 
   -- one that does not stay has a block that changes
-  one_named : (root : RootItem) (parts : Parts) → IsNamed root → IsLow root
+  one_named : (root : RootAt) (parts : Parts) → IsNamed root → IsLow root
       → tree_parts pairs known was is (before_of root) (named_root root) ≡ Ok parts
       → stays_by is_same known (before_of root) (named_root root) ≡ false
       → tree_looks known was is (before_of root) (named_root root) ≤ all_cost was is parts
@@ -194,20 +192,20 @@ module _ (image : List ℕ) (pending : FinMap nat_cmp ℕ) (old : Walked) (olds 
       (few.reads_one refl
       (λ alike stays. stays_false is_same pairs known (before_of root) (named_root root) (same_is ∙ alike) walked stays))
 
-  pub named_sum : (news : List RootItem) (parts : Parts) → AllByRecursion IsNamed news → AllByRecursion IsLow news
-      → named_parts pairs known was is (map root_at olds) (map root_at news) ≡ Ok parts
-      → named_looks is_same known was is (map root_at olds) (map root_at news) ≤ all_cost was is parts
+  pub named_sum : (news : List RootAt) (parts : Parts) → AllByRecursion IsNamed news → AllByRecursion IsLow news
+      → named_parts pairs known was is olds news ≡ Ok parts
+      → named_looks is_same known was is olds news ≤ all_cost was is parts
   unfolding named_parts named_looks
   named_sum [] parts all low given = omega arith
   named_sum (root ∷ news) parts all low given =
       let first =
       step_ok (tree_parts pairs known was is (before_of root) (named_root root))
-      (λ some. and_then (named_parts pairs known was is (map root_at olds) (map root_at news)) (λ more. fine (with_parts some more))) parts given in
+      (λ some. and_then (named_parts pairs known was is olds news) (λ more. fine (with_parts some more))) parts given in
       let rest =
-      step_ok (named_parts pairs known was is (map root_at olds) (map root_at news)) (λ more. fine (with_parts first.0 more)) parts first.2 in
+      step_ok (named_parts pairs known was is olds news) (λ more. fine (with_parts first.0 more)) parts first.2 in
       let later = named_sum news rest.0 all.1 low.1 rest.1 in
       let same = same_parts (with_parts first.0 rest.0) parts (fine (with_parts first.0 rest.0)) refl rest.2 in
-      subst (λ ps. named_looks is_same known was is (map root_at olds) (map root_at (root ∷ news)) ≤ all_cost was is ps) same
+      subst (λ ps. named_looks is_same known was is olds (root ∷ news) ≤ all_cost was is ps) same
       (by first.0 rest.0 (stays_by is_same known (before_of root) (named_root root)) refl
       (λ walked. one_named root first.0 all.0 low.0 first.1 walked) later)
     where
@@ -222,47 +220,47 @@ module _ (image : List ℕ) (pending : FinMap nat_cmp ℕ) (old : Walked) (olds 
       by : (some more : Parts) (b : Bool) → stays_by is_same known (before_of root) (named_root root) ≡ b
           → (stays_by is_same known (before_of root) (named_root root) ≡ false
           → tree_looks known was is (before_of root) (named_root root) ≤ all_cost was is some)
-          → named_looks is_same known was is (map root_at olds) (map root_at news) ≤ all_cost was is more
-          → (if b then named_looks is_same known was is (map root_at olds) (map root_at news) else
-          tree_looks known was is (before_of root) (named_root root) + named_looks is_same known was is (map root_at olds) (map root_at news))
+          → named_looks is_same known was is olds news ≤ all_cost was is more
+          → (if b then named_looks is_same known was is olds news else
+          tree_looks known was is (before_of root) (named_root root) + named_looks is_same known was is olds news)
           ≤ all_cost was is (with_parts some more)
-      by some more true here first rest = free some more (named_looks is_same known was is (map root_at olds) (map root_at news)) rest
+      by some more true here first rest = free some more (named_looks is_same known was is olds news) rest
       by some more false here first rest =
           joined_cost was is some more (tree_looks known was is (before_of root) (named_root root))
-          (named_looks is_same known was is (map root_at olds) (map root_at news)) (first here) rest
+          (named_looks is_same known was is olds news) (first here) rest
 
   -- ---- the trees that are gone
 
   pub gone_all_sum : HasTrees image old trees → ((tree address : ℕ) → pairs tree address ≡ table_of (live_in old.seen) tree address)
-      → (news : List RootAt) (some : List RootItem) (parts : Parts)
-      → AllByRecursion (λ (root : RootItem). IsAmong (old_tree image old (named_root root)) trees) some → AllByRecursion IsLow some
-      → gone_all pairs known was news (map root_at some) ≡ Ok parts
-      → gone_all_looks known was news (map root_at some) ≤ all_cost was is parts
+      → (news : List RootAt) (some : List RootAt) (parts : Parts)
+      → AllByRecursion (λ (root : RootAt). IsAmong (old_tree image old (named_root root)) trees) some → AllByRecursion IsLow some
+      → gone_all pairs known was news some ≡ Ok parts
+      → gone_all_looks known was news some ≤ all_cost was is parts
   unfolding gone_all gone_all_looks
   gone_all_sum has pairs_are news [] parts all low given = omega arith
   gone_all_sum has pairs_are news (root ∷ some) parts all low given =
-      by (list_any (has_id root.key.objectid) news) given (λ more is_more. gone_all_sum has pairs_are news some more all.1 low.1 is_more)
+      by (list_any (names root.key.objectid) news) given (λ more is_more. gone_all_sum has pairs_are news some more all.1 low.1 is_more)
     where
       wide : (a p b e n : ℕ) → a ≤ 3 * p + 29 * b → a ≤ 4 * e + 3 * p + 35 * n + 29 * b
       wide a p b e n x = omega (arith, x)
 
-      by : (b : Bool) → (if b then gone_all pairs known was news (map root_at some) else
+      by : (b : Bool) → (if b then gone_all pairs known was news some else
           and_then (gone_parts pairs known was (named_root root)) (λ parts.
-          and_then (gone_all pairs known was news (map root_at some)) (λ more.
+          and_then (gone_all pairs known was news some) (λ more.
           fine (with_parts parts more)))) ≡ Ok parts
-          → ((more : Parts) → gone_all pairs known was news (map root_at some) ≡ Ok more
-          → gone_all_looks known was news (map root_at some) ≤ all_cost was is more)
-          → (if b then gone_all_looks known was news (map root_at some) else
-          gone_looks known was (named_root root) + gone_all_looks known was news (map root_at some)) ≤ all_cost was is parts
+          → ((more : Parts) → gone_all pairs known was news some ≡ Ok more
+          → gone_all_looks known was news some ≤ all_cost was is more)
+          → (if b then gone_all_looks known was news some else
+          gone_looks known was (named_root root) + gone_all_looks known was news some) ≤ all_cost was is parts
       by true made later = later parts made
       by false made later =
           let first =
           step_ok (gone_parts pairs known was (named_root root))
-          (λ parts. and_then (gone_all pairs known was news (map root_at some)) (λ more. fine (with_parts parts more))) parts made in
-          let rest = step_ok (gone_all pairs known was news (map root_at some)) (λ more. fine (with_parts first.0 more)) parts first.2 in
+          (λ parts. and_then (gone_all pairs known was news some) (λ more. fine (with_parts parts more))) parts made in
+          let rest = step_ok (gone_all pairs known was news some) (λ more. fine (with_parts first.0 more)) parts first.2 in
           let same = same_parts (with_parts first.0 rest.0) parts (fine (with_parts first.0 rest.0)) refl rest.2 in
           let here = gone_sum image old trees pairs known (named_root root) first.0 has pairs_are all.0 low.0 first.1 in
-          subst (λ ps. gone_looks known was (named_root root) + gone_all_looks known was news (map root_at some) ≤ all_cost was is ps) same
-          (joined_cost was is first.0 rest.0 (gone_looks known was (named_root root)) (gone_all_looks known was news (map root_at some))
+          subst (λ ps. gone_looks known was (named_root root) + gone_all_looks known was news some ≤ all_cost was is ps) same
+          (joined_cost was is first.0 rest.0 (gone_looks known was (named_root root)) (gone_all_looks known was news some)
           (wide (gone_looks known was (named_root root)) (entries_of was first.0.old_blocks) (length first.0.old_blocks)
           (entries_of is first.0.new_blocks) (length first.0.new_blocks) here) (later rest.0 rest.1))

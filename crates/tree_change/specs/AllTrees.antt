@@ -16,7 +16,6 @@ use Rattle.records.specs.Part.{Located}
 use Rattle.records.specs.Seen.{Seen}
 use Rattle.touched_blocks.specs.Moves.{is_moved}
 use Rattle.touched_blocks.specs.Touched.{written_in}
-use Rattle.volume_items.specs.declared.root.RootItem.{RootItem}
 use Rattle.volume_items.specs.declared.root_at.RootAt.{RootAt}
 use Rattle.tree_laws.specs.ArrayLaw.{HasArray}
 use Rattle.tree_laws.specs.Keeping.{Marks}
@@ -27,7 +26,7 @@ use Rattle.tree_laws.specs.SharedLaw.{HasTrees, touches_old}
 use Rattle.tree_laws.specs.TableLaw.{Tree, trees_in}
 use Rattle.tree_laws.specs.Unshared.{items_in}
 use Rattle.tree_change.specs.Change.{is_before, item_before}
-use Rattle.tree_change.specs.Merging.{IsSortedOf, root_at}
+use Rattle.tree_change.specs.Merging.{IsSortedOf}
 use Rattle.tree_change.specs.OneTree.{KnowsNothing, KnowsTree, side_of}
 use Rattle.tree_change.specs.Unchanged.{ChangesListed, changed_in, unchanged_shifted}
 use Rattle.tree_change.specs.Walks.{Known, Parts, Side, gone_parts, tree_parts}
@@ -88,7 +87,7 @@ pub record KnowsTrees (image : List ℕ) (pending : FinMap nat_cmp ℕ) (old : W
 
 -- An image whose walks have no finding, by its superblock, its chunks and its root items; and pending writes over it. The table has its live
 -- pairs, and this is known of its trees.
-pub record IsOver (image : List ℕ) (pending : FinMap nat_cmp ℕ) (old : Walked) (olds : List RootItem) (trees : List Tree) (pairs : Pairs) (is : Side)
+pub record IsOver (image : List ℕ) (pending : FinMap nat_cmp ℕ) (old : Walked) (olds : List RootAt) (trees : List Tree) (pairs : Pairs) (is : Side)
     (known : Known) : Type 0 where
   pub has : HasTrees image old trees
   pub trees_are : trees ≡ trees_in old.sup old.chunks old.chunks olds image
@@ -98,12 +97,12 @@ pub record IsOver (image : List ℕ) (pending : FinMap nat_cmp ℕ) (old : Walke
 
 -- the first finding of the trees that are named now is that of their whole walks, and the walks of those that are gone have none
 abbrev pub NamedLaw : Type 0
-NamedLaw = (image : List ℕ) (pending : FinMap nat_cmp ℕ) (old : Walked) (olds : List RootItem) (trees : List Tree) (pairs : Pairs) (is : Side)
-    (known : Known) (news : List RootItem)
+NamedLaw = (image : List ℕ) (pending : FinMap nat_cmp ℕ) (old : Walked) (olds : List RootAt) (trees : List Tree) (pairs : Pairs) (is : Side)
+    (known : Known) (news : List RootAt)
     → IsOver image pending old olds trees pairs is known
-    → ((finding : Finding) → named_parts pairs known (side_of image old) is (map root_at olds) (map root_at news) ≡ Err finding
+    → ((finding : Finding) → named_parts pairs known (side_of image old) is olds news ≡ Err finding
     → tree_records is.sup is.chunks news is.image ≡ Err finding)
-    × ((parts : Parts) → named_parts pairs known (side_of image old) is (map root_at olds) (map root_at news) ≡ Ok parts
+    × ((parts : Parts) → named_parts pairs known (side_of image old) is olds news ≡ Ok parts
     → (records : List Seen) × (tree_records is.sup is.chunks news is.image ≡ Ok records))
 
 -- the new image's side by some chunks
@@ -112,7 +111,7 @@ side_by judged new chunks = record { sup = new.sup; chunks = chunks; image = jud
 
 -- All that changes from an image to the one that pending writes make of it, whose walks have no finding: in the chunk tree by the chunks of the
 -- system array, in the root tree, in the trees that are named now, and in those that are gone.
-pub record IsAll (image : List ℕ) (pending : FinMap nat_cmp ℕ) (old new : Walked) (olds news : List RootItem) (trees afters : List Tree)
+pub record IsAll (image : List ℕ) (pending : FinMap nat_cmp ℕ) (old new : Walked) (olds news : List RootAt) (trees afters : List Tree)
     (array : List Chunk) (pairs : Pairs) (by_array known : Known) (chunk_parts root_parts named gone : Parts) : Type 0 where
   pub over : IsOver image pending old olds trees pairs (side_by (overlaid pending 0 image) new new.chunks) known
   pub has : HasTrees (overlaid pending 0 image) new afters
@@ -125,14 +124,14 @@ pub record IsAll (image : List ℕ) (pending : FinMap nat_cmp ℕ) (old new : Wa
   pub root_tree : tree_parts pairs known (side_of image old) (side_by (overlaid pending 0 image) new new.chunks)
       (Some (root_tree_root old.sup)) (root_tree_root new.sup) ≡ Ok root_parts
   pub named_trees : named_parts pairs known (side_of image old) (side_by (overlaid pending 0 image) new new.chunks)
-      (map root_at olds) (map root_at news) ≡ Ok named
-  pub gone_trees : gone_all pairs known (side_of image old) (map root_at news) (map root_at olds) ≡ Ok gone
+      olds news ≡ Ok named
+  pub gone_trees : gone_all pairs known (side_of image old) news olds ≡ Ok gone
 
 -- the walks of the trees that are gone have no finding
 abbrev pub GoneLaw : Type 0
-GoneLaw = (image : List ℕ) (pending : FinMap nat_cmp ℕ) (old : Walked) (olds : List RootItem) (trees : List Tree) (pairs : Pairs) (is : Side)
+GoneLaw = (image : List ℕ) (pending : FinMap nat_cmp ℕ) (old : Walked) (olds : List RootAt) (trees : List Tree) (pairs : Pairs) (is : Side)
     (known : Known) (news : List RootAt) (finding : Finding)
-    → IsOver image pending old olds trees pairs is known → gone_all pairs known (side_of image old) news (map root_at olds) ≡ Err finding → ⊥
+    → IsOver image pending old olds trees pairs is known → gone_all pairs known (side_of image old) news olds ≡ Err finding → ⊥
 
 -- These parts are all that changes: the pairs that changed, of the old image and of the new one, in some order; in their order, the
 -- other pairs that are shifted and the items of those that changed; and how many pairs changed.
@@ -148,7 +147,7 @@ pub record AreAllParts (old new : Walked) (pending : FinMap nat_cmp ℕ) (end : 
 
 -- so it is
 abbrev pub AllTreesLaw : Type 0
-AllTreesLaw = (image : List ℕ) (pending : FinMap nat_cmp ℕ) (old new : Walked) (olds news : List RootItem) (trees afters : List Tree)
+AllTreesLaw = (image : List ℕ) (pending : FinMap nat_cmp ℕ) (old new : Walked) (olds news : List RootAt) (trees afters : List Tree)
     (array : List Chunk) (pairs : Pairs) (by_array known : Known) (chunk_parts root_parts named gone : Parts)
     → IsAll image pending old new olds news trees afters array pairs by_array known chunk_parts root_parts named gone
     → AreAllParts old new pending (length image) (with_parts chunk_parts (with_parts root_parts (with_parts named gone)))

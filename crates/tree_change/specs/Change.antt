@@ -24,7 +24,6 @@ use Rattle.tree_laws.specs.MergedLaw.{IsInOrder}
 use Rattle.tree_laws.specs.ShiftedLaw.{shifted_in}
 use Rattle.tree_laws.specs.Unshared.{items_in}
 use Rattle.tree_change.specs.Gathered.{located_item}
-use Rattle.tree_change.specs.Merging.{root_at}
 use Rattle.tree_change.specs.declared.change.Change.{Change}
 use Rattle.tree_change.specs.declared.change.Diff.{Diff}
 use Rattle.tree_change.specs.declared.change.Diff.TheVariants.{Found, Change as Changed}
@@ -61,7 +60,7 @@ pub record BasesStand (image : List ℕ) (sup : Super) (chunks : List Chunk) (ro
   pub holds : contents image ≡ Ok held
   pub super_is : sup ≡ held.sup
   pub chunks_are : chunks ≡ held.chunks
-  pub roots_are : roots ≡ map root_at held.roots
+  pub roots_are : roots ≡ held.roots
   pub free_are : (tree ino : ℕ) → sum_free tree ino ≡ has_sum_free held.records tree ino
   pub full_are : (address : ℕ) → full address ≡ no_full address
   pub trees : Walked

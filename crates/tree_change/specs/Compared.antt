@@ -12,7 +12,6 @@ use Rattle.live_index.specs.Table.{pairs_of}
 use Rattle.super_reader.specs.Superblock.{array_place}
 use Rattle.super_reader.specs.declared.Super.{Super}
 use Rattle.volume_items.specs.SystemArray.{array_chunks}
-use Rattle.volume_items.specs.declared.root.RootItem.{RootItem}
 use Rattle.volume_items.specs.declared.root_at.RootAt.{RootAt}
 use Rattle.records.specs.Contents.{chunk_map_in, chunk_tree_root, contents, root_items_in, root_tree_root, superblock_in, tree_records}
 use Rattle.records.specs.Seen.{Seen}
@@ -30,7 +29,7 @@ use Rattle.tree_change.specs.AllTrees.{IsOver, gone_all, named_parts, with_parts
 use Rattle.tree_change.specs.Change.{IsDifference, ReadsFew, is_before, item_before}
 use Rattle.tree_change.specs.Gathered.{located_item}
 use Rattle.tree_change.specs.Making.{IsAdded}
-use Rattle.tree_change.specs.Merging.{IsSortedOf, root_at}
+use Rattle.tree_change.specs.Merging.{IsSortedOf}
 use Rattle.tree_change.specs.OneTree.{KnowsNothing, KnowsTree, side_of}
 use Rattle.tree_change.specs.Walks.{Known, Parts, Side, tree_parts}
 use Rattle.tree_change.specs.declared.change.Change.{Change}
@@ -46,9 +45,9 @@ pub record IsBased (image : List ℕ) (sup : Super) (chunks : List Chunk) (roots
   pub chunks_are : chunks ≡ old.chunks
   pub array : List Chunk
   pub array_is : array_chunks (array_place old.sup) old.sup.array old.sup.array_size ≡ Ok array
-  pub olds : List RootItem
+  pub olds : List RootAt
   pub items : root_items_in old.sup old.chunks image ≡ Ok olds
-  pub roots_are : roots ≡ map root_at olds
+  pub roots_are : roots ≡ olds
   pub pairs_are : (tree address : ℕ) → pairs tree address ≡ table_of (live_in old.seen) tree address
   pub has : HasTrees image old (trees_in old.sup old.chunks old.chunks olds image)
 
@@ -110,8 +109,8 @@ TellsMap disk old new some all both array (Ok chunks) = IfSome (disk.bytes old) 
     × IsAdded some all parts (disk.reads old) (disk.reads new))
 
 -- the trees but the chunk tree have no finding, and this is what changes in them
-pub record MakesRest {L : Type 0} (both : Compared L) (image : List ℕ) (old : Walked) (olds : List RootItem) (chunks : List Chunk) (parts : Parts) : Type 0 where
-  pub news : List RootItem
+pub record MakesRest {L : Type 0} (both : Compared L) (image : List ℕ) (old : Walked) (olds : List RootAt) (chunks : List Chunk) (parts : Parts) : Type 0 where
+  pub news : List RootAt
   pub items : root_items_in both.fresh.now chunks (judged_by both image) ≡ Ok news
   pub records : List Seen
   pub fine : tree_records both.fresh.now chunks news (judged_by both image) ≡ Ok records
@@ -123,16 +122,16 @@ pub record MakesRest {L : Type 0} (both : Compared L) (image : List ℕ) (old : 
   pub gone : Parts
   pub root_tree : tree_parts (pairs_of both.table.now) known (side_of image old) (side_to both image chunks) (Some (root_tree_root old.sup))
       (root_tree_root both.fresh.now) ≡ Ok root_parts
-  pub named_trees : named_parts (pairs_of both.table.now) known (side_of image old) (side_to both image chunks) (map root_at olds) (map root_at news)
+  pub named_trees : named_parts (pairs_of both.table.now) known (side_of image old) (side_to both image chunks) olds news
       ≡ Ok named
-  pub gone_trees : gone_all (pairs_of both.table.now) known (side_of image old) (map root_at news) (map root_at olds) ≡ Ok gone
+  pub gone_trees : gone_all (pairs_of both.table.now) known (side_of image old) news olds ≡ Ok gone
   pub all : parts ≡ with_parts root_parts (with_parts named gone)
 
 -- the first finding of the root tree, of its items, or of a tree that these name
 abbrev pub FindsRest : {L : Type 0} → Compared L → List ℕ → List Chunk → Finding → Type 0
 FindsRest both image chunks finding =
     (root_items_in both.fresh.now chunks (judged_by both image) ≡ Err finding)
-    ⊎ ((news : List RootItem) × (root_items_in both.fresh.now chunks (judged_by both image) ≡ Ok news)
+    ⊎ ((news : List RootAt) × (root_items_in both.fresh.now chunks (judged_by both image) ≡ Ok news)
     × (tree_records both.fresh.now chunks news (judged_by both image) ≡ Err finding))
 
 -- these are the chunks of the new image

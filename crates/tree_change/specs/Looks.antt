@@ -5,12 +5,12 @@ use Rattle.verdict.specs.OnDisk.{key_same}
 use Rattle.verdict.specs.declared.finding.Finding.{Finding}
 use Rattle.verdict.specs.declared.key.Key.{Key}
 use Rattle.node_reader.specs.declared.expect.Expect.{Expect}
-use Rattle.records.specs.Contents.{chunk_tree_root, root_tree_root}
+use Rattle.records.specs.Contents.{chunk_tree_root, root_tree_root, names, named_root}
 use Rattle.volume_items.specs.declared.root_at.RootAt.{RootAt}
 use Rattle.tree_laws.specs.Meeting.{met_in}
 use Rattle.tree_laws.specs.OldSide.{kept_at}
 use Rattle.tree_laws.specs.Visits.{visits_in}
-use Rattle.tree_change.specs.AllTrees.{has_id, named_at, root_named}
+use Rattle.tree_change.specs.AllTrees.{root_named}
 use Rattle.tree_change.specs.Firsts.{first_copies}
 use Rattle.tree_change.specs.Gathered.{Gathers}
 use Rattle.tree_change.specs.Making.{MakesRoots, is_side, was_side}
@@ -79,15 +79,15 @@ stays_by is_same known before now =
 unfoldable pub named_looks : Bool → Known → Side → Side → List RootAt → List RootAt → ℕ
 named_looks is_same known was is olds [] = 0
 named_looks is_same known was is olds (root ∷ roots) =
-    if stays_by is_same known (root_named olds root.key.objectid) (named_at root) then named_looks is_same known was is olds roots
-    else tree_looks known was is (root_named olds root.key.objectid) (named_at root) + named_looks is_same known was is olds roots
+    if stays_by is_same known (root_named olds root.key.objectid) (named_root root) then named_looks is_same known was is olds roots
+    else tree_looks known was is (root_named olds root.key.objectid) (named_root root) + named_looks is_same known was is olds roots
 
 -- the looks for the trees that are gone: those that were named and are not now
 unfoldable pub gone_all_looks : Known → Side → List RootAt → List RootAt → ℕ
 gone_all_looks known was news [] = 0
 gone_all_looks known was news (root ∷ olds) =
-    if list_any (has_id root.key.objectid) news then gone_all_looks known was news olds
-    else gone_looks known was (named_at root) + gone_all_looks known was news olds
+    if list_any (names root.key.objectid) news then gone_all_looks known was news olds
+    else gone_looks known was (named_root root) + gone_all_looks known was news olds
 
 -- the same, of two sides
 abbrev pub looks_in : {L : Type 0} → Sides L → Option Expect → Expect → List ℕ → ℕ

@@ -12,14 +12,13 @@ use Rattle.live_index.specs.Table.{pairs_of}
 use Rattle.node_reader.specs.declared.expect.Expect.{Expect}
 use Rattle.records.specs.Contents.{chunk_tree_root, root_tree_root, roots_fault}
 use Rattle.volume_items.specs.MapRules.{map_finding}
-use Rattle.volume_items.specs.declared.root.RootItem.{RootItem}
 use Rattle.volume_items.specs.declared.root_at.RootAt.{RootAt}
 use Rattle.block_source.specs.declared.halt.Halt.{Halt}
 use Rattle.block_source.specs.declared.halt.Halt.TheVariants.{Found}
 use Rattle.tree_change.specs.AllTrees.{gone_all, named_parts, with_parts}
 use Rattle.tree_laws.specs.MergedLaw.{begins_before}
 use Rattle.tree_change.specs.Gathered.{located_item}
-use Rattle.tree_change.specs.Merging.{IsSortedOf, chunks_left, named_before, root_at, roots_left}
+use Rattle.tree_change.specs.Merging.{IsSortedOf, chunks_left, named_before, roots_left}
 use Rattle.tree_change.specs.Told.{known_by, side_with}
 use Rattle.tree_change.specs.Walks.{Parts, Side, gone_parts, tree_parts}
 use Rattle.tree_change.specs.declared.sides.Sides.{Sides}
@@ -108,7 +107,7 @@ pub record MakesRoots {L : Type 0} (sides : Sides L) (olds : List RootAt) (image
 
 -- what the rules on the list of root items say of these roots
 abbrev pub RootsJudged : ℕ → List RootAt → Result (Unit {0}) Finding → Type 0
-RootsJudged compat_ro roots judged = (items : List RootItem) → roots ≡ map root_at items → finding_or (roots_fault compat_ro items) (tt {0}) ≡ judged
+RootsJudged compat_ro roots judged = (items : List RootAt) → roots ≡ items → finding_or (roots_fault compat_ro items) (tt {0}) ≡ judged
 
 -- the same of the new roots
 abbrev pub TellsRoots : {D L : Type 0} → (disk : Ghosts D) → D → D → TreeParts → TreeParts → Sides L → List RootAt → Result (List RootAt) Halt → Type 0

@@ -22,7 +22,7 @@ use Rattle.tree_laws.specs.SharedLaw.{HasTrees, touches_old}
 use Rattle.tree_laws.specs.ShiftedLaw.{is_shifted}
 use Rattle.tree_laws.specs.TableLaw.{Tree}
 use Rattle.tree_laws.specs.Unshared.{items_in}
-use Rattle.tree_change.specs.Merging.{chunks_left, named_before, root_at, roots_left}
+use Rattle.tree_change.specs.Merging.{chunks_left, named_before, roots_left}
 use Rattle.tree_change.specs.Unchanged.{ChangesListed, is_unchanged}
 use Rattle.tree_change.specs.Walks.{Known, Parts, Side, tree_parts}
 
@@ -97,7 +97,7 @@ pub record ChangesTree (image : List ℕ) (pending : FinMap nat_cmp ℕ) (old : 
   pub count : parts.count ≡ length parts.old_blocks + 2 * length parts.new_blocks
   pub chunks : now.tree ≡ 3 → IsInOrder begins_before (chunks_left (chunks_seen olds) parts.old_items parts.new_items) (chunks_seen news)
   pub roots : now.tree ≡ 1
-      → IsInOrder named_before (roots_left (map root_at (roots_seen olds)) parts.old_items parts.new_items) (map root_at (roots_seen news))
+      → IsInOrder named_before (roots_left (roots_seen olds) parts.old_items parts.new_items) (roots_seen news)
 
 -- A tree's parts, as the two walks give them, are what changes in it; and their first finding is that of the whole walk.
 pub record GivesTree (image : List ℕ) (pending : FinMap nat_cmp ℕ) (old : Walked) (pairs : Pairs) (is : Side) (known : Known) (before : Option Expect)

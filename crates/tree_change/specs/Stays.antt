@@ -5,8 +5,8 @@ use Rattle.live_index.specs.Pairs.{Pairs}
 use Rattle.live_index.specs.declared.live.Live.{Live}
 use Rattle.node_reader.specs.declared.expect.Expect.{Expect}
 use Rattle.volume_items.specs.declared.root_at.RootAt.{RootAt}
-use Rattle.tree_change.specs.AllTrees.{named_at}
 use Rattle.tree_change.specs.Walks.{Known}
+use Rattle.records.specs.Contents.{named_root}
 
 -- Blocks are kept by the old pairs. The root of a tree is the same as before, it is not marked, it did not move, and no child is walked
 -- below it.
@@ -27,4 +27,4 @@ pub record HasRoot (pairs : Pairs) (root : Expect) : Type 0 where
 
 -- it has that of each root of a list
 abbrev pub RootsStand : Pairs → List RootAt → Type 0
-RootsStand pairs roots = AllByRecursion (λ root. HasRoot pairs (named_at root)) roots
+RootsStand pairs roots = AllByRecursion (λ root. HasRoot pairs (named_root root)) roots

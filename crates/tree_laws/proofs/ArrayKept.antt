@@ -10,7 +10,6 @@ use Rattle.verdict.specs.declared.place.Chunk.{Chunk}
 use Rattle.write_cache.specs.Cache.{overlaid}
 use Rattle.write_cache.proofs.CacheLaws.{length-overlaid}
 use Rattle.super_reader.specs.declared.Super.{Super}
-use Rattle.volume_items.specs.declared.root.RootItem.{RootItem}
 use Rattle.live_index.specs.Pairs.{Pairs}
 use Rattle.node_reader.specs.Stored.{Stored, stored_in}
 use Rattle.node_reader.specs.declared.expect.Expect.{Expect}
@@ -33,12 +32,13 @@ use Rattle.tree_laws.proofs.OldTells.{tells_shared}
 use Rattle.tree_laws.proofs.Picking.{each_both}
 use Rattle.tree_laws.proofs.Rooted.{all_apart, all_walks, roots_are}
 use Rattle.tree_laws.proofs.Treed.{Steps, chunk_tree, has_trees, steps_of, trees_walk}
+use Rattle.volume_items.specs.declared.root_at.RootAt.{RootAt}
 
 no_other : (m : ℕ) → not (3 == m) ≡ true → m ≡ 3 → ⊥
 no_other m other is = grind (arith, nat_tests)
 
 -- the trees of an image beside the chunk tree
-abbrev pub others_in : Super → List Chunk → List RootItem → List ℕ → List Tree
+abbrev pub others_in : Super → List Chunk → List RootAt → List ℕ → List Tree
 others_in sup chunks roots image =
     (stored_in image chunks sup.nodesize, root_tree_root sup) ∷ map (λ root. (stored_in image chunks sup.nodesize, named_root root)) roots
 

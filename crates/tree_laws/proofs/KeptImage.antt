@@ -9,7 +9,6 @@ use Rattle.verdict.proofs.Lists.{all_map as each_map}
 use Rattle.verdict.proofs.Truth.{and_parts}
 use Rattle.write_cache.specs.Cache.{overlaid}
 use Rattle.super_reader.specs.declared.Super.{Super}
-use Rattle.volume_items.specs.declared.root.RootItem.{RootItem}
 use Rattle.live_index.specs.Pairs.{Pairs}
 use Rattle.node_reader.specs.Stored.{stored_in}
 use Rattle.records.specs.Contents.{named_root}
@@ -24,6 +23,7 @@ use Rattle.tree_laws.proofs.Images.{stored_alike}
 use Rattle.tree_laws.proofs.Kept.{keeps_tree}
 use Rattle.tree_laws.proofs.Picking.{each_both}
 use Rattle.tree_laws.proofs.Treed.{trees_walk}
+use Rattle.volume_items.specs.declared.root_at.RootAt.{RootAt}
 
 -- a tree of an image: its root has no high key, and it is read by the chunks
 pub record IsOfImage (image : List ℕ) (whole : Walked) (tree : Tree) : Type 0 where
@@ -35,7 +35,7 @@ of_image image whole trees has =
     subst (AllByRecursion (IsOfImage image whole)) (sym has.trees_are)
     (record { high = refl; stored = refl }, (record { high = refl; stored = refl }, by has.roots))
   where
-    by : (some : List RootItem)
+    by : (some : List RootAt)
         → AllByRecursion (IsOfImage image whole) (map (λ root. (stored_in image whole.chunks whole.sup.nodesize, named_root root)) some)
     by [] = tt
     by (root ∷ some) = (record { high = refl; stored = refl }, by some)

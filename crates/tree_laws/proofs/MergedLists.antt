@@ -27,7 +27,6 @@ use Rattle.volume_items.specs.MapRules.{map_finding}
 use Rattle.volume_items.specs.RootLinkRow.{RootLinkFields, root_link_row}
 use Rattle.volume_items.specs.RootRow.{root_fields, root_row, root_rows}
 use Rattle.volume_items.specs.declared.device.DeviceItem.{DeviceItem}
-use Rattle.volume_items.specs.declared.root.RootItem.{RootItem}
 use Rattle.node_reader.specs.Layout.{LeafItem, items_of, pointers_of}
 use Rattle.node_reader.specs.Stored.{Stored}
 use Rattle.node_reader.specs.declared.expect.Expect.{Expect}
@@ -48,6 +47,7 @@ use Rattle.tree_laws.proofs.Merged.{merge_of, merged_by, read_of, walks_of}
 use Rattle.tree_laws.proofs.Mixing.{TellsApart, by_key, order_made}
 use Rattle.tree_laws.proofs.Rooted.{one_item}
 use Rattle.tree_laws.proofs.Trails.{Matches, Visit, all_own}
+use Rattle.volume_items.specs.declared.root_at.RootAt.{RootAt}
 
 -- what is held after records are taken
 chunks_after : (records : List Seen) (held : List Chunk) → fold with_chunk held records ≡ held ++ chunks_seen records
@@ -62,13 +62,13 @@ chunks_after (ItemSeen one ∷ records) held = by one.part (chunks_after records
     by (ChunkPart fields) rest = rest (held ++ chunk_of fields ∷ []) ∙ append_assoc held (chunk_of fields ∷ []) (chunks_seen records)
     by other rest = rest held
 
-roots_after : (records : List Seen) (held : List RootItem) → fold with_root held records ≡ held ++ roots_seen records
+roots_after : (records : List Seen) (held : List RootAt) → fold with_root held records ≡ held ++ roots_seen records
 roots_after [] held = sym (append-nil held)
 roots_after (BlockSeen one ∷ records) held = roots_after records held
 roots_after (PointerSeen one ∷ records) held = roots_after records held
 roots_after (ItemSeen one ∷ records) held = by one.part (roots_after records)
   where
-    by : (part : Part) → ((held : List RootItem) → fold with_root held records ≡ held ++ roots_seen records)
+    by : (part : Part) → ((held : List RootAt) → fold with_root held records ≡ held ++ roots_seen records)
         → fold with_root (with_root held (ItemSeen (record one { part = part }))) records
         ≡ held ++ roots_seen (ItemSeen (record one { part = part }) ∷ records)
     by (RootPart root) rest = rest (held ++ root ∷ []) ∙ append_assoc held (root ∷ []) (roots_seen records)
@@ -234,7 +234,7 @@ by_start = record {
 abbrev chunk_some : Chunk → Option Chunk
 chunk_some chunk = Some chunk
 
-abbrev root_some : RootItem → Option RootItem
+abbrev root_some : RootAt → Option RootAt
 root_some root = Some root
 
 offsets : (k l : Key) → k.objectid ≡ l.objectid → k.kind ≡ l.kind → key_below k l ≡ true → nat_lt k.offset l.offset ≡ true
@@ -266,16 +266,16 @@ chunks_merge shared kept sup old new before root olds news gone come read tree =
     (order_made chunk (Fits ChunkTree FitsChunk chunk_fits) stands_before begins_before chunks_keep (items news) is m.after)
 
 roots_keep : (x y : Located) → FitsRoot x.key x.part → FitsRoot y.key y.part → key_below x.key y.key ≡ true
-    → (c d : RootItem) → root_in x.part ≡ Some c → root_in y.part ≡ Some d → root_before c d ≡ true
+    → (c d : RootAt) → root_in x.part ≡ Some c → root_in y.part ≡ Some d → root_before c d ≡ true
 roots_keep x y p q less c d is at = by x.part y.part p q is at
   where
-    some_root : (a b : RootItem) → root_some a ≡ root_some b → a ≡ b
+    some_root : (a b : RootAt) → root_some a ≡ root_some b → a ≡ b
     some_root a b is = cc
 
     by : (a b : Part) → FitsRoot x.key a → FitsRoot y.key b → root_in a ≡ Some c → root_in b ≡ Some d → root_before c d ≡ true
     by (RootPart f) (RootPart g) p q is at =
-        let first : c.key ≡ x.key = sym (ap (λ (t : RootItem). t.key) (some_root f c is)) ∙ p in
-        let later : d.key ≡ y.key = sym (ap (λ (t : RootItem). t.key) (some_root g d at)) ∙ q in
+        let first : c.key ≡ x.key = sym (ap (λ (t : RootAt). t.key) (some_root f c is)) ∙ p in
+        let later : d.key ≡ y.key = sym (ap (λ (t : RootAt). t.key) (some_root g d at)) ∙ q in
         rw (first, later) less
     by (RootPart f) other p q is at = absurd (cc)
     by other b p q is at = absurd (cc)
@@ -286,7 +286,7 @@ roots_merge shared kept sup old new before root olds news gone come read tree =
     let item = λ (one : Located). root_in one.part in
     let was = walk_fits Root FitsRoot root_fits sup old before olds (ap sort_of (sym read.tree ∙ tree)) read.was in
     let is = walk_fits Root FitsRoot root_fits sup new root news (ap sort_of tree) read.is in
-    merged_by item root_before (λ a b. key_same a.key b.key) (by_key (λ (one : RootItem). one.key))
+    merged_by item root_before (λ a b. key_same a.key b.key) (by_key (λ (one : RootAt). one.key))
     (items olds) (items gone) (items come) (items news) m
     (order_made item (Fits Root FitsRoot root_fits) stands_before root_before roots_keep (items olds) was m.before)
     (order_made item (Fits Root FitsRoot root_fits) stands_before root_before roots_keep (items news) is m.after)

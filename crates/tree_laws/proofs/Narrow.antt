@@ -20,7 +20,6 @@ use Rattle.verdict.specs.declared.place.Chunk.{Chunk}
 use Rattle.verdict.specs.declared.place.Place.{Place}
 use Rattle.verdict.specs.declared.place.Place.TheVariants.{Nowhere, One, Two}
 use Rattle.verdict.proofs.Tables.{kept_at}
-use Rattle.volume_items.specs.declared.root.RootItem.{RootItem}
 use Rattle.super_reader.specs.declared.Super.{Super}
 use Rattle.live_index.specs.declared.live.Live.{Live}
 use Rattle.node_reader.specs.Faults.{block_fault, header_rules}
@@ -43,6 +42,7 @@ use Rattle.tree_laws.proofs.Trails.{trail_below, trail_of}
 use Rattle.tree_laws.proofs.Treed.{has_trees, steps_of, trees_walk}
 use Rattle.tree_laws.proofs.Visiting.{Visits, comes_from, visits_from}
 use Rattle.tree_laws.proofs.Within.{Below, within}
+use Rattle.volume_items.specs.declared.root_at.RootAt.{RootAt}
 
 -- each of these is a byte
 abbrev pub IsBytes : List ℕ → Type 0
@@ -123,11 +123,11 @@ narrow_trees sup (tree ∷ trees) records bytes is =
     (narrow_tree sup tree.0 tree.1 bytes.0 (rw split.2 refl), narrow_trees sup trees split.1 bytes.1 split.3)
 
 -- the trees of an image of bytes
-trees_bytes : (sup : Super) (array chunks : List Chunk) (roots : List RootItem) (image : List ℕ) → IsBytes image
+trees_bytes : (sup : Super) (array chunks : List Chunk) (roots : List RootAt) (image : List ℕ) → IsBytes image
     → AllByRecursion (λ tree. AreBytes tree.0) (trees_in sup array chunks roots image)
 trees_bytes sup array chunks roots image h = (stored_bytes image array sup.nodesize h, (stored_bytes image chunks sup.nodesize h, by roots))
   where
-    by : (some : List RootItem)
+    by : (some : List RootAt)
         → AllByRecursion (λ (tree : Tree). AreBytes tree.0) (map (λ root. (stored_in image chunks sup.nodesize, named_root root)) some)
     by [] = tt
     by (root ∷ some) = (stored_bytes image chunks sup.nodesize h, by some)

@@ -10,7 +10,6 @@ use Rattle.verdict.specs.Rules.{and_then, no_key}
 use Rattle.verdict.specs.declared.key.Key.{Key}
 use Rattle.write_cache.specs.Cache.{overlaid}
 use Rattle.super_reader.specs.declared.Super.{Super}
-use Rattle.volume_items.specs.declared.root.RootItem.{RootItem}
 use Rattle.live_index.specs.Pairs.{Pairs}
 use Rattle.live_index.specs.declared.live.Live.{Live}
 use Rattle.node_reader.specs.Stored.{Stored, stored_in}
@@ -39,13 +38,14 @@ use Rattle.tree_laws.proofs.Picking.{each_both}
 use Rattle.tree_laws.proofs.Sifting.{starts_level}
 use Rattle.tree_laws.proofs.Skipping.{skips}
 use Rattle.tree_laws.proofs.Treed.{trees_walk}
+use Rattle.volume_items.specs.declared.root_at.RootAt.{RootAt}
 
 -- the roots of an image's trees have no low key and no high key
 pub roots_of : (image : List ℕ) (whole : Walked) (trees : List Tree) → HasTrees image whole trees → AllByRecursion (λ tree. IsRoot tree.1) trees
 roots_of image whole trees has =
     subst (AllByRecursion (λ (tree : Tree). IsRoot tree.1)) (sym has.trees_are) ((refl, refl), ((refl, refl), by has.roots))
   where
-    by : (some : List RootItem)
+    by : (some : List RootAt)
         → AllByRecursion (λ (tree : Tree). IsRoot tree.1) (map (λ root. (stored_in image whole.chunks whole.sup.nodesize, named_root root)) some)
     by [] = tt
     by (root ∷ some) = ((refl, refl), by some)

@@ -19,7 +19,6 @@ use Rattle.super_reader.specs.Superblock.{array_place, item_place}
 use Rattle.volume_items.specs.RootRow.{is_root_id, root_fields, root_row, root_rows}
 use Rattle.volume_items.specs.RootLinkRow.{RootLinkFields, root_link_row}
 use Rattle.volume_items.specs.SystemArray.{array_chunks}
-use Rattle.volume_items.specs.declared.root.RootItem.{RootItem}
 use Rattle.node_reader.specs.Layout.{LeafItem, items_of, pointers_of}
 use Rattle.node_reader.specs.Stored.{Stored, block_in, stored_in}
 use Rattle.node_reader.specs.declared.expect.Expect.{Expect}
@@ -41,9 +40,10 @@ use Rattle.tree_laws.specs.TableLaw.{AreApart, TableLaw, Tree, is_other, trees_i
 use Rattle.tree_laws.proofs.Forest.{of_root, tables_stand, walks}
 use Rattle.tree_laws.proofs.Lives.{ok_same}
 use Rattle.tree_laws.proofs.Trails.{Matches, Tells, Trail, Visit, all_own, tells, trail_of}
+use Rattle.volume_items.specs.declared.root_at.RootAt.{RootAt}
 
 -- a root item has an id that one may have, with some set of features
-abbrev pub HasRootId : RootItem → Type 0
+abbrev pub HasRootId : RootAt → Type 0
 HasRootId root = (features : ℕ) × (is_root_id features root.key.objectid ≡ true)
 
 abbrev pub FitsPart : Part → Type 0
@@ -141,15 +141,15 @@ walk_fits sup stored root records tree is = by (trail_of sup stored root) (tells
     by (Err finding) t of = never finding t.0
     by (Ok visits) t of = subst (AllByRecursion Fits) (ok_same (all_own visits) records (sym t.0 ∙ is)) (all visits (visited sup stored root) t.1 of)
 
-roots_append : (a : List RootItem) (root : RootItem) → AllByRecursion HasRootId a → HasRootId root → AllByRecursion HasRootId (a ++ root ∷ [])
+roots_append : (a : List RootAt) (root : RootAt) → AllByRecursion HasRootId a → HasRootId root → AllByRecursion HasRootId (a ++ root ∷ [])
 roots_append [] root x y = (y, tt)
 roots_append (one ∷ a) root x y = (x.0, roots_append a root x.1 y)
 
-part_fits : (held : List RootItem) (one : Located) (part : Part) → FitsPart part → AllByRecursion HasRootId held → AllByRecursion HasRootId (with_root held (ItemSeen (record one { part = part })))
+part_fits : (held : List RootAt) (one : Located) (part : Part) → FitsPart part → AllByRecursion HasRootId held → AllByRecursion HasRootId (with_root held (ItemSeen (record one { part = part })))
 part_fits held one (RootPart root) fits has = roots_append held root has fits
 part_fits held one other fits has = has
 
-fold_fits : (records : List Seen) (held : List RootItem) → AllByRecursion Fits records → AllByRecursion HasRootId held → AllByRecursion HasRootId (fold with_root held records)
+fold_fits : (records : List Seen) (held : List RootAt) → AllByRecursion Fits records → AllByRecursion HasRootId held → AllByRecursion HasRootId (fold with_root held records)
 fold_fits [] held all has = has
 fold_fits (BlockSeen one ∷ records) held all has = fold_fits records held all.1 has
 fold_fits (PointerSeen one ∷ records) held all has = fold_fits records held all.1 has
@@ -169,12 +169,12 @@ other_id n id none is = by (n == id) refl
     by false same = refl
 
 -- no later root item has the id of one before
-none_before : (before roots : List RootItem) → repeated_after before roots ≡ None → AllByRecursion (λ r. list_any (names r.key.objectid) before ≡ false) roots
+none_before : (before roots : List RootAt) → repeated_after before roots ≡ None → AllByRecursion (λ r. list_any (names r.key.objectid) before ≡ false) roots
 unfolding repeated_after
 none_before before [] none = tt
 none_before before (r ∷ roots) none = by (list_any (names r.key.objectid) before) refl none (none_before (before ++ r ∷ []) roots)
   where
-    fewer : (some : List RootItem) → AllByRecursion (λ q. list_any (names q.key.objectid) (before ++ r ∷ []) ≡ false) some → AllByRecursion (λ q. list_any (names q.key.objectid) before ≡ false) some
+    fewer : (some : List RootAt) → AllByRecursion (λ q. list_any (names q.key.objectid) (before ++ r ∷ []) ≡ false) some → AllByRecursion (λ q. list_any (names q.key.objectid) before ≡ false) some
     fewer [] all = tt
     fewer (q ∷ some) all =
         ((neither (list_any (names q.key.objectid) before) (list_any (names q.key.objectid) (r ∷ [])) (sym (list_any-append (names q.key.objectid) before (r ∷ [])) ∙ all.0)).0, fewer some all.1)
@@ -185,7 +185,7 @@ none_before before (r ∷ roots) none = by (list_any (names r.key.objectid) befo
     by true is none rest = absurd (cc)
     by false is none rest = (is, fewer roots (rest none))
 
-rest_none : (before : List RootItem) (r : RootItem) (roots : List RootItem) → repeated_after before (r ∷ roots) ≡ None → repeated_after (before ++ r ∷ []) roots ≡ None
+rest_none : (before : List RootAt) (r : RootAt) (roots : List RootAt) → repeated_after before (r ∷ roots) ≡ None → repeated_after (before ++ r ∷ []) roots ≡ None
 unfolding repeated_after
 rest_none before r roots none = by (list_any (names r.key.objectid) before) none
   where
@@ -194,10 +194,10 @@ rest_none before r roots none = by (list_any (names r.key.objectid) before) none
     by false none = none
 
 module _ (stored : Stored) where
-  abbrev pub named : List RootItem → List Tree
+  abbrev pub named : List RootAt → List Tree
   named roots = map (λ root. (stored, named_root root)) roots
 
-  named_apart : (before roots : List RootItem) → repeated_after before roots ≡ None → AreApart (named roots)
+  named_apart : (before roots : List RootAt) → repeated_after before roots ≡ None → AreApart (named roots)
   named_apart before [] none = tt
   named_apart before (r ∷ roots) none =
       let rest = rest_none before r roots none in
@@ -207,25 +207,25 @@ module _ (stored : Stored) where
       lift true is = absurd (cc)
       lift false is = refl
 
-      each_apart : (some : List RootItem) → AllByRecursion (λ q. list_any (names q.key.objectid) (before ++ r ∷ []) ≡ false) some → AllByRecursion (λ b. is_other (stored, named_root r) b ≡ true) (named some)
+      each_apart : (some : List RootAt) → AllByRecursion (λ q. list_any (names q.key.objectid) (before ++ r ∷ []) ≡ false) some → AllByRecursion (λ b. is_other (stored, named_root r) b ≡ true) (named some)
       each_apart [] all = tt
       each_apart (q ∷ some) all =
           (lift (r.key.objectid == q.key.objectid) (neither (list_any (names q.key.objectid) before) (list_any (names q.key.objectid) (r ∷ [])) (sym (list_any-append (names q.key.objectid) before (r ∷ [])) ∙ all.0)).1, each_apart some all.1)
 
-  named_other : (tree : Tree) → ((features : ℕ) → is_root_id features tree.1.tree ≡ false) → (roots : List RootItem) → AllByRecursion HasRootId roots → AllByRecursion (λ b. is_other tree b ≡ true) (named roots)
+  named_other : (tree : Tree) → ((features : ℕ) → is_root_id features tree.1.tree ≡ false) → (roots : List RootAt) → AllByRecursion HasRootId roots → AllByRecursion (λ b. is_other tree b ≡ true) (named roots)
   named_other tree none [] all = tt
   named_other tree none (r ∷ roots) all = (other_id tree.1.tree r.key.objectid none all.0, named_other tree none roots all.1)
 
-  named_walks : (sup : Super) (chunks : List Chunk) (image : List ℕ) → stored ≡ stored_in image chunks sup.nodesize → (roots : List RootItem) → walks sup (named roots) ≡ tree_records sup chunks roots image
+  named_walks : (sup : Super) (chunks : List Chunk) (image : List ℕ) → stored ≡ stored_in image chunks sup.nodesize → (roots : List RootAt) → walks sup (named roots) ≡ tree_records sup chunks roots image
   unfolding walk_in
   named_walks sup chunks image is [] = refl
   named_walks sup chunks image is (r ∷ roots) = rw (named_walks sup chunks image is roots, is) refl
 
-ok_of : (a b : List RootItem) → finding_or {A = List RootItem} None a ≡ Ok b → a ≡ b
+ok_of : (a b : List RootAt) → finding_or {A = List RootAt} None a ≡ Ok b → a ≡ b
 ok_of a b is = cc
 
 -- root items have ids that one may have, and no two the same
-pub roots_are : (sup : Super) (chunks : List Chunk) (image : List ℕ) (roots : List RootItem) → root_items_in sup chunks image ≡ Ok roots → (repeated_after [] roots ≡ None) × AllByRecursion HasRootId roots
+pub roots_are : (sup : Super) (chunks : List Chunk) (image : List ℕ) (roots : List RootAt) → root_items_in sup chunks image ≡ Ok roots → (repeated_after [] roots ≡ None) × AllByRecursion HasRootId roots
 unfolding root_items_in roots_fault walk_in
 roots_are sup chunks image roots is =
     let held = step_ok (held_after with_root [] (root_records sup chunks image)) (λ roots. and_then (finding_or (roots_fault sup.compat_ro roots) (tt {0})) (λ _. Ok roots)) roots is in
@@ -240,17 +240,17 @@ roots_are sup chunks image roots is =
     first_none None b is = refl
     first_none (Some finding) b is = absurd (cc)
 
-    by : (walk : Records) → root_records sup chunks image ≡ walk → (rs : List RootItem) → held_after with_root [] walk ≡ Ok rs → AllByRecursion HasRootId rs
+    by : (walk : Records) → root_records sup chunks image ≡ walk → (rs : List RootAt) → held_after with_root [] walk ≡ Ok rs → AllByRecursion HasRootId rs
     by (Err finding) w rs is = absurd (cc)
     by (Ok records) w rs is =
         subst (AllByRecursion HasRootId) (ok_of (fold with_root [] records) rs is) (fold_fits records [] (walk_fits sup (stored_in image chunks sup.nodesize) (root_tree_root sup) records refl w) tt)
 
-pub all_walks : (sup : Super) (array chunks : List Chunk) (roots : List RootItem) (image : List ℕ) → walks sup (trees_in sup array chunks roots image) ≡ all_records sup array chunks roots image
+pub all_walks : (sup : Super) (array chunks : List Chunk) (roots : List RootAt) (image : List ℕ) → walks sup (trees_in sup array chunks roots image) ≡ all_records sup array chunks roots image
 unfolding all_records walk_in
 all_walks sup array chunks roots image = rw (named_walks (stored_in image chunks sup.nodesize) sup chunks image refl roots) refl
 
 -- of the trees of an image no two have one id
-pub all_apart : (sup : Super) (array chunks : List Chunk) (roots : List RootItem) (image : List ℕ) → (repeated_after [] roots ≡ None) × AllByRecursion HasRootId roots → AreApart (trees_in sup array chunks roots image)
+pub all_apart : (sup : Super) (array chunks : List Chunk) (roots : List RootAt) (image : List ℕ) → (repeated_after [] roots ≡ None) × AllByRecursion HasRootId roots → AreApart (trees_in sup array chunks roots image)
 all_apart sup array chunks roots image are =
     let stored = stored_in image chunks sup.nodesize in (
       (refl, named_other stored (stored_in image array sup.nodesize, chunk_tree_root sup) (λ features. refl) roots are.1),
@@ -270,7 +270,7 @@ table_stands image trees array roots is arrays items =
     ok_walked : (a b : Walked) → finding_or {A = Walked} None a ≡ Ok b → a ≡ b
     ok_walked a b is = cc
 
-    whole : (sup : Super) (array chunks : List Chunk) (roots : List RootItem) (seen : List Seen) → root_items_in sup chunks image ≡ Ok roots → all_records sup array chunks roots image ≡ Ok seen
+    whole : (sup : Super) (array chunks : List Chunk) (roots : List RootAt) (seen : List Seen) → root_items_in sup chunks image ≡ Ok roots → all_records sup array chunks roots image ≡ Ok seen
         → AllByRecursion (λ tree. Stands (table_of (live_in seen)) sup tree.0 tree.1) (trees_in sup array chunks roots image)
     whole sup array chunks roots seen items is =
         tables_stand sup (trees_in sup array chunks roots image) seen (all_apart sup array chunks roots image (roots_are sup chunks image roots items)) (all_walks sup array chunks roots image ∙ is)
@@ -278,7 +278,7 @@ table_stands image trees array roots is arrays items =
     both : (sup : Super) (a b : List Chunk) → array_chunks (array_place sup) sup.array sup.array_size ≡ Ok a → array_chunks (array_place sup) sup.array sup.array_size ≡ Ok b → a ≡ b
     both sup a b x y = cc
 
-    by : (sup : Super) (a c : List Chunk) (r : List RootItem) (seen : List Seen) → record { sup = sup; chunks = c; seen = seen } ≡ trees
+    by : (sup : Super) (a c : List Chunk) (r : List RootAt) (seen : List Seen) → record { sup = sup; chunks = c; seen = seen } ≡ trees
         → array_chunks (array_place sup) sup.array sup.array_size ≡ Ok a → root_items_in sup c image ≡ Ok r → all_records sup a c r image ≡ Ok seen
         → array_chunks (array_place trees.sup) trees.sup.array trees.sup.array_size ≡ Ok array → root_items_in trees.sup trees.chunks image ≡ Ok roots
         → AllByRecursion (λ tree. Stands (table_of (live_in trees.seen)) trees.sup tree.0 tree.1) (trees_in trees.sup array trees.chunks roots image)
@@ -289,5 +289,5 @@ table_stands image trees array roots is arrays items =
         (subst (λ b. all_records sup b c roots image ≡ Ok seen) (both sup a array x arrays) (subst (λ q. all_records sup a c q image ≡ Ok seen) (alike r roots y items) z)))
         arrays items
       where
-        alike : (a b : List RootItem) → root_items_in sup c image ≡ Ok a → root_items_in sup c image ≡ Ok b → a ≡ b
+        alike : (a b : List RootAt) → root_items_in sup c image ≡ Ok a → root_items_in sup c image ≡ Ok b → a ≡ b
         alike a b x y = cc

@@ -16,7 +16,6 @@ use Rattle.super_reader.specs.Superblock.{array_place, superblock_fields, superb
 use Rattle.super_reader.proofs.SuperLaws.{fields_readable}
 use Rattle.volume_items.specs.MapRules.{map_finding}
 use Rattle.volume_items.specs.SystemArray.{array_chunks}
-use Rattle.volume_items.specs.declared.root.RootItem.{RootItem}
 use Rattle.node_reader.specs.Faults.{block_of}
 use Rattle.node_reader.specs.Stored.{Stored, block_in, found_by, stored_in}
 use Rattle.node_reader.specs.declared.expect.Expect.{Expect}
@@ -36,6 +35,7 @@ use Rattle.tree_laws.proofs.Tables.{Any, any_each}
 use Rattle.tree_laws.proofs.Trails.{trail_below, trail_of}
 use Rattle.tree_laws.proofs.Visiting.{Visits, comes_from, visits_from}
 use Rattle.tree_laws.proofs.Within.{Below, within}
+use Rattle.volume_items.specs.declared.root_at.RootAt.{RootAt}
 
 -- what the steps to the walks of an image give
 pub record Steps (image : List ℕ) (whole : Walked) : Type 0 where
@@ -43,7 +43,7 @@ pub record Steps (image : List ℕ) (whole : Walked) : Type 0 where
   pub array : List Chunk
   pub arrays : array_chunks (array_place whole.sup) whole.sup.array whole.sup.array_size ≡ Ok array
   pub chunks_are : chunk_map_in whole.sup array image ≡ Ok whole.chunks
-  pub roots : List RootItem
+  pub roots : List RootAt
   pub items : root_items_in whole.sup whole.chunks image ≡ Ok roots
   pub records : all_records whole.sup array whole.chunks roots image ≡ Ok whole.seen
 
@@ -149,7 +149,7 @@ chunk_tree_alike image whole s =
     other : Stored
     other = stored_in image whole.chunks whole.sup.nodesize
 
-    others : List RootItem → List Tree
+    others : List RootAt → List Tree
     others roots = (other, root_tree_root whole.sup) ∷ map (λ root. (other, named_root root)) roots
 
     block : (w : Expect) → Below (Any whole.sup stored) whole.sup stored w → other w.address ≡ stored w.address
@@ -195,10 +195,10 @@ trees_walk image whole trees has =
           (same_roots s.roots has.roots s.items has.items) s.records),
     )
   where
-    others : List RootItem → List Tree
+    others : List RootAt → List Tree
     others roots =
         (stored_in image whole.chunks whole.sup.nodesize, root_tree_root whole.sup) ∷ map
         (λ root. (stored_in image whole.chunks whole.sup.nodesize, named_root root)) roots
 
-    same_roots : (a b : List RootItem) → root_items_in whole.sup whole.chunks image ≡ Ok a → root_items_in whole.sup whole.chunks image ≡ Ok b → a ≡ b
+    same_roots : (a b : List RootAt) → root_items_in whole.sup whole.chunks image ≡ Ok a → root_items_in whole.sup whole.chunks image ≡ Ok b → a ≡ b
     same_roots a b x y = cc

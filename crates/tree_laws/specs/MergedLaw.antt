@@ -9,7 +9,6 @@ use Rattle.verdict.specs.declared.place.Chunk.{Chunk}
 use Rattle.super_reader.specs.declared.Super.{Super}
 use Rattle.volume_items.specs.ChunkRow.{chunk_of}
 use Rattle.volume_items.specs.MapRules.{map_finding}
-use Rattle.volume_items.specs.declared.root.RootItem.{RootItem}
 use Rattle.live_index.specs.Pairs.{Pairs}
 use Rattle.live_index.specs.declared.live.Live.{Live}
 use Rattle.node_reader.specs.Stored.{Stored}
@@ -26,6 +25,7 @@ use Rattle.tree_laws.specs.OldSide.{TellsShared, kept_where}
 use Rattle.tree_laws.specs.Shared.{are_alike}
 use Rattle.tree_laws.specs.Skips.{Kept, nothing, unkept}
 use Rattle.tree_laws.specs.Unshared.{item_seen}
+use Rattle.volume_items.specs.declared.root_at.RootAt.{RootAt}
 
 -- a list has these, each before all later ones
 pub record IsInOrder {A : Type 0} (before : A → A → Bool) (whole list : List A) : Type 0 where
@@ -96,7 +96,7 @@ abbrev pub chunk_in : Part → Option Chunk
 chunk_in (ChunkPart fields) = Some (chunk_of fields)
 chunk_in other = None
 
-abbrev pub root_in : Part → Option RootItem
+abbrev pub root_in : Part → Option RootAt
 root_in (RootPart root) = Some root
 root_in other = None
 
@@ -104,7 +104,7 @@ root_in other = None
 abbrev pub chunks_seen : List Seen → List Chunk
 chunks_seen records = filter_map (λ (one : Located). chunk_in one.part) (items records)
 
-abbrev pub roots_seen : List Seen → List RootItem
+abbrev pub roots_seen : List Seen → List RootAt
 roots_seen records = filter_map (λ (one : Located). root_in one.part) (items records)
 
 -- they are what is held after the records are taken
@@ -141,11 +141,11 @@ ChunksMergedLaw = (shared : Live → Bool) (kept : Kept) (sup : Super) (old new 
     → IsInOrder begins_before (filter (λ chunk. not (begins_with (chunks_seen gone) chunk)) (chunks_seen olds) ++ chunks_seen come) (chunks_seen news)
 
 -- whether a root item stands before another, and whether one of some has the key of this one
-abbrev pub root_before : RootItem → RootItem → Bool
+abbrev pub root_before : RootAt → RootAt → Bool
 root_before a b = key_below a.key b.key
 
-abbrev pub has_root_key : List RootItem → RootItem → Bool
-has_root_key some root = list_any (λ (one : RootItem). key_same one.key root.key) some
+abbrev pub has_root_key : List RootAt → RootAt → Bool
+has_root_key some root = list_any (λ (one : RootAt). key_same one.key root.key) some
 
 -- the root items of the new root tree are the old ones, without those of which the key is gone, and those that came
 abbrev pub RootsMergedLaw : Type 0

@@ -8,7 +8,6 @@ use Rattle.write_cache.specs.Cache.{overlaid}
 use Rattle.super_reader.specs.Superblock.{array_place}
 use Rattle.super_reader.specs.declared.Super.{Super}
 use Rattle.volume_items.specs.SystemArray.{array_chunks}
-use Rattle.volume_items.specs.declared.root.RootItem.{RootItem}
 use Rattle.live_index.specs.Pairs.{Pairs}
 use Rattle.node_reader.specs.Stored.{Stored, stored_in}
 use Rattle.node_reader.specs.declared.expect.Expect.{Expect}
@@ -21,6 +20,7 @@ use Rattle.tree_laws.specs.Keeping.{AreMarked, AreUntouched, Marks, Stands, Unde
 use Rattle.tree_laws.specs.LivePairs.{Walked, live_in, table_of, walked}
 use Rattle.tree_laws.specs.Shared.{are_read_alike, is_shared_by}
 use Rattle.tree_laws.specs.TableLaw.{AreApart, Tree, trees_in}
+use Rattle.volume_items.specs.declared.root_at.RootAt.{RootAt}
 
 -- whether a write touches the block at an address, where the old chunks have it
 abbrev pub touches_old : Walked → Written → ℕ → ℕ → Bool
@@ -80,7 +80,7 @@ ChunkTreeLaw = (image : List ℕ) (whole : Walked) (array : List Chunk)
 -- the walks of an image have no finding, and these are its trees, all read by its chunks
 pub record HasTrees (image : List ℕ) (whole : Walked) (trees : List Tree) : Type 0 where
   pub walks : walked image ≡ Ok whole
-  pub roots : List RootItem
+  pub roots : List RootAt
   pub items : root_items_in whole.sup whole.chunks image ≡ Ok roots
   pub trees_are : trees ≡ trees_in whole.sup whole.chunks whole.chunks roots image
 

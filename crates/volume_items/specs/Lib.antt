@@ -1,4 +1,5 @@
 pub mod RootRow
+pub mod RootPlace
 pub mod RootLinkRow
 pub mod RootLinkItems
 pub mod DeviceRow

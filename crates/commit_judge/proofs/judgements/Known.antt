@@ -10,7 +10,6 @@ use Rattle.records.specs.FullCheck.{checked, checked_with, full_check}
 use Rattle.tree_laws.specs.LivePairs.{live_in, table_of}
 use Rattle.walk_laws.proofs.Trees.{step_ok}
 use Rattle.span_index.specs.Sectors.{times_of_span}
-use Rattle.tree_change.specs.Merging.{root_at}
 use Rattle.commit_laws.specs.Commit.{IsKnown, Known}
 use Rattle.commit_laws.specs.Steps.{all_posts, spans_of}
 use Rattle.commit_judge.specs.EachKnown.{EachIsKnown}
@@ -31,7 +30,7 @@ each_is_known image generation accepted =
       record {
         sup = held.sup;
         chunks = held.chunks;
-        roots = map root_at held.roots;
+        roots = held.roots;
         free = has_sum_free held.records;
         full = no_full;
         pairs = table_of (live_in whole.0.seen);

@@ -11,7 +11,6 @@ use Rattle.verdict.specs.declared.place.Chunk.{Chunk}
 use Rattle.super_reader.specs.Superblock.{array_place}
 use Rattle.super_reader.specs.declared.Super.{Super}
 use Rattle.volume_items.specs.SystemArray.{array_chunks}
-use Rattle.volume_items.specs.declared.root.RootItem.{RootItem}
 use Rattle.records.specs.Contents.{Contents, all_records, chunk_map_in, contents, root_items_in, superblock_in}
 use Rattle.records.specs.FullCheck.{checked, checked_with, full_check, verdict_of}
 use Rattle.records.specs.Seen.{Seen}
@@ -22,13 +21,14 @@ use Rattle.commit_laws.specs.Flags.{hot_of, is_hot}
 use Rattle.commit_laws.specs.Stops.{StopLaw}
 use Rattle.commit_judge.specs.Counts.{hot_between, may_be_harmed, over_walks}
 use Rattle.commit_judge.specs.Stops.{SafeStops}
+use Rattle.volume_items.specs.declared.root_at.RootAt.{RootAt}
 
 pub generation_ok : (r : Result ℕ Finding) (generation : ℕ) → verdict_of r ≡ Accept generation → r ≡ Ok generation
 generation_ok (Ok g) generation is = cc
 generation_ok (Err finding) generation is = absurd (cc)
 
 -- what all steps come to
-walked_by : (image : List ℕ) (sup : Super) (array chunks : List Chunk) (roots : List RootItem) (seen : List Seen)
+walked_by : (image : List ℕ) (sup : Super) (array chunks : List Chunk) (roots : List RootAt) (seen : List Seen)
     → superblock_in image ≡ Ok sup → array_chunks (array_place sup) sup.array sup.array_size ≡ Ok array
     → chunk_map_in sup array image ≡ Ok chunks → root_items_in sup chunks image ≡ Ok roots
     → all_records sup array chunks roots image ≡ Ok seen

@@ -19,7 +19,7 @@ use Rattle.span_index.specs.declared.span.Span.{Span}
 use Rattle.touched_accounts.specs.Least.{IsLeastTouched}
 use Rattle.touched_accounts.specs.Sums.{less_all, with_all}
 use Rattle.tree_change.specs.Gathered.{located_item}
-use Rattle.tree_change.specs.Merging.{IsSortedOf, named_before, root_at, roots_left}
+use Rattle.tree_change.specs.Merging.{IsSortedOf, named_before, roots_left}
 use Rattle.volume_items.specs.declared.root_at.RootAt.{RootAt}
 use Rattle.write_cache.specs.Cache.{overlaid}
 use Rattle.commit_laws.specs.Commit.{Commit, CommitLaw, Decides, IsCommit, IsJudged, IsKnown, IsMoved, Known, came_by, context_by, gone_by}
@@ -50,7 +50,7 @@ known_ascend : Laws → (image : List ℕ) (k : Known) → IsKnown image k → K
 known_ascend laws image k known =
     let b = known.bases in
     let held = laws.held image b.trees b.walks in
-    subst KeysAscend (sym (b.roots_are ∙ ap (λ (h : Contents). map root_at h.roots) (same_held image b.held held.0 b.holds held.1)))
+    subst KeysAscend (sym (b.roots_are ∙ ap (λ (h : Contents). h.roots) (same_held image b.held held.0 b.holds held.1)))
     (laws.ascend image b.trees held.0.roots b.walks held.2.roots)
 
 module _ (laws : Laws) (image : List ℕ) (pending : FinMap nat_cmp ℕ) (k : Known) (c : Commit) (roots : List RootAt) (moves : Moves) (sums : Sums)

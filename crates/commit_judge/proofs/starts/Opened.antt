@@ -8,13 +8,13 @@ use Rattle.verdict.specs.declared.place.Chunk.{Chunk}
 use Rattle.super_reader.specs.declared.Super.{Super}
 use Rattle.super_reader.specs.Superblock.{array_place}
 use Rattle.volume_items.specs.SystemArray.{array_chunks}
-use Rattle.volume_items.specs.declared.root.RootItem.{RootItem}
 use Rattle.records.specs.Contents.{all_records, chunk_map_in, chunk_records, root_items_in, root_records, superblock_in, tree_records}
 use Rattle.records.specs.Seen.{Seen}
 use Rattle.records.specs.Walk.{Records, behind, then_records}
 use Rattle.tree_laws.specs.LivePairs.{Walked, walked}
 use Rattle.plain_check.specs.Opened.{Opened, named_records, opened, top_records}
 use Rattle.plain_check.proofs.Opening.{then_next}
+use Rattle.volume_items.specs.declared.root_at.RootAt.{RootAt}
 
 -- what the walks come to of an image of which this is known, where the trees that root items name have these records
 abbrev pub walked_with : Opened → List Seen → Walked
@@ -23,7 +23,7 @@ walked_with o more = record { sup = o.sup; chunks = o.chunks; seen = o.seen ++ m
 abbrev walked_by : Super → List Chunk → List Seen → Walked
 walked_by sup chunks seen = record { sup = sup; chunks = chunks; seen = seen }
 
-abbrev opened_by : List ℕ → Super → List Chunk → List RootItem → List Seen → Opened
+abbrev opened_by : List ℕ → Super → List Chunk → List RootAt → List Seen → Opened
 opened_by raw sup chunks roots seen = record { raw = raw; sup = sup; chunks = chunks; roots = roots; seen = seen }
 
 abbrev after_named : List ℕ → Opened → Result Walked Finding
@@ -36,7 +36,7 @@ unfolding behind
 after_both sup chunks first second (Err finding) = refl
 after_both sup chunks first second (Ok third) = ap (λ (seen : List Seen). Ok (walked_by sup chunks seen)) (append_assoc first second third)
 
-after_top : (image raw : List ℕ) (sup : Super) (chunks : List Chunk) (roots : List RootItem) (first second : Records)
+after_top : (image raw : List ℕ) (sup : Super) (chunks : List Chunk) (roots : List RootAt) (first second : Records)
     → and_then {A = Opened} {B = Walked} (and_then {A = List Seen} {B = Opened} (then_records first second) (λ seen. Ok (opened_by raw sup chunks roots seen))) (after_named image)
     ≡ and_then {A = List Seen} {B = Walked} (then_records first (then_records second (tree_records sup chunks roots image))) (λ seen. Ok (walked_by sup chunks seen))
 unfolding behind

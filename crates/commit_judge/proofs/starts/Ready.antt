@@ -59,7 +59,6 @@ use Rattle.span_index.specs.declared.span.Span.{Span}
 use Rattle.super_reader.specs.declared.Super.{Super}
 use Rattle.touched_accounts.specs.Sums.{with_all}
 use Rattle.tree_change.specs.Change.{BasesStand}
-use Rattle.tree_change.specs.Merging.{root_at}
 use Rattle.write_cache.specs.Cache.{overlaid}
 use Rattle.write_cache.proofs.CacheLaws.{overlaid-empty}
 use Rattle.commit_judge.specs.Filling.{AreTablesOf, AreTablesWith, IsFoundBy, IsRefusal, named_walk}
@@ -192,7 +191,7 @@ pub record IsMade {L : Type 0} (o : Opened) (tables : Tables L) (index : Index L
   pub raw_is : index.raw ≡ o.raw
   pub sup_is : index.sup ≡ o.sup
   pub map_is : index.map ≡ o.chunks
-  pub roots_are : KeysAscend (map root_at o.roots) → index.roots.items ≡ map root_at o.roots
+  pub roots_are : KeysAscend o.roots → index.roots.items ≡ o.roots
   pub free_is : index.sum_free ≡ tables.free
   pub full_is : index.full.keys ≡ []
   pub live_is : index.live ≡ tables.live

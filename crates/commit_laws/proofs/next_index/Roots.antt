@@ -20,7 +20,6 @@ use Rattle.verdict.specs.declared.key.Key.{Key}
 use Rattle.verdict.specs.declared.place.Chunk.{Chunk}
 use Rattle.write_cache.specs.Cache.{overlaid}
 use Rattle.super_reader.specs.declared.Super.{Super}
-use Rattle.volume_items.specs.declared.root.RootItem.{RootItem}
 use Rattle.volume_items.specs.declared.root_at.RootAt.{RootAt}
 use Rattle.live_index.specs.declared.live.Live.{Live}
 use Rattle.node_reader.specs.Stored.{stored_in}
@@ -40,7 +39,7 @@ use Rattle.tree_laws.proofs.Picking.{each_both}
 use Rattle.tree_laws.proofs.Treed.{has_trees, steps_of, trees_walk}
 use Rattle.touched_blocks.specs.Touched.{written_in}
 use Rattle.tree_change.specs.Gathered.{located_item}
-use Rattle.tree_change.specs.Merging.{has_named, named_before, root_at, root_at_of, roots_among, roots_left}
+use Rattle.tree_change.specs.Merging.{has_named, named_before, roots_among, roots_left}
 use Rattle.tree_change.proofs.Free.{named_ascend, none_left, roots_ascend, roots_are}
 use Rattle.tree_change.proofs.Olds.{same_ok}
 use Rattle.tree_change.proofs.Split.{of_trees}
@@ -92,16 +91,16 @@ of_root_tree (one ∷ found) all = by (one.tree == 1) refl (of_root_tree found a
         rw is (rest ∙ ap (λ (root : Option RootAt). cons_option root (roots_among found)) (sym (no_root one.tree one.key one.part all.0 is)))
 
 -- where trees begin, by the items of an image
-pub record AreRoots (whole : Walked) (roots : List RootItem) : Type 0 where
-  pub are : map root_at roots ≡ roots_among (items whole.seen)
-  pub ascend : AllPairs (λ a b. named_before a b ≡ true) (map root_at roots)
+pub record AreRoots (whole : Walked) (roots : List RootAt) : Type 0 where
+  pub are : roots ≡ roots_among (items whole.seen)
+  pub ascend : AllPairs (λ a b. named_before a b ≡ true) roots
 
 walk_is : (sup : Super) (chunks : List Chunk) (image : List ℕ) (records : List Seen)
     → walk_of sup (stored_in image chunks sup.nodesize) (root_tree_root sup) ≡ Ok records → root_records sup chunks image ≡ Ok records
 unfolding walk_in
 walk_is sup chunks image records is = is
 
-pub known_roots : (image : List ℕ) (whole : Walked) (roots : List RootItem) → walked image ≡ Ok whole
+pub known_roots : (image : List ℕ) (whole : Walked) (roots : List RootAt) → walked image ≡ Ok whole
     → AllByRecursion (λ one. FitsPlace one.tree one.key one.part) (items whole.seen)
     → root_items_in whole.sup whole.chunks image ≡ Ok roots → AreRoots whole roots
 known_roots image whole roots is places has =
@@ -116,7 +115,7 @@ known_roots image whole roots is places has =
     record {
       are = ap (map root_at) (sym seen_is) ∙ (sym (roots_are (items g.0))
           ∙ (ap (λ (found : List Located). roots_among found) g.2.found ∙ of_root_tree (items whole.seen) places));
-      ascend = subst (λ rs. AllPairs (λ a b. named_before a b ≡ true) (map root_at rs)) seen_is
+      ascend = subst (λ rs. AllPairs (λ a b. named_before a b ≡ true) rs) seen_is
           (named_ascend (roots_seen g.0) (roots_ascend (λ live. false) (λ live. refl) whole.sup stored root g.0 g.1 refl));
     }
 
@@ -178,21 +177,21 @@ abbrev Fits : Located → Type 0
 Fits one = FitsPlace one.tree one.key one.part
 
 -- those of an image by those of the items that changed
-parted : (whole : Walked) (lives : List Live) (stay : List Located) (them : List RootItem) → map root_at them ≡ roots_among (items whole.seen)
+parted : (whole : Walked) (lives : List Live) (stay : List Located) (them : List RootAt) → them ≡ roots_among (items whole.seen)
     → IsPermutation (records_of whole) (records_at lives whole ++ stay)
-    → IsPermutation (map root_at them) (roots_among (items_in lives whole.seen) ++ roots_among stay)
+    → IsPermutation them (roots_among (items_in lives whole.seen) ++ roots_among stay)
 parted whole lives stay them are perm =
     subst (λ left. IsPermutation left (roots_among (items_in lives whole.seen) ++ roots_among stay)) (records_roots whole ∙ sym are)
     (subst (IsPermutation (roots_among (records_of whole)))
     (filter_map-append root_of (records_at lives whole) stay ∙ ap (λ xs. xs ++ roots_among stay) (roots_at lives whole))
     (filter_map_permuted root_of (records_of whole) (records_at lives whole ++ stay) perm))
 
-module _ (old new : Walked) (gone came : List Live) (went arrived : List Located) (olds news : List RootItem)
+module _ (old new : Walked) (gone came : List Live) (went arrived : List Located) (olds news : List RootAt)
     (same : HoldSame (records_of old) (records_of new) (records_at gone old) (records_at came new))
     (before : AreRoots old olds) (after : AreRoots new news)
     (goes : IsPermutation (items_in gone old.seen) went) (comes : IsPermutation (items_in came new.seen) arrived) where
   abbrev left : List RootAt
-  left = filter (λ root. not (has_named (roots_among went) root)) (map root_at olds)
+  left = filter (λ root. not (has_named (roots_among went) root)) olds
 
   abbrev rest : List RootAt
   rest = roots_among same.same
@@ -202,17 +201,17 @@ module _ (old new : Walked) (gone came : List Live) (went arrived : List Located
 
   stays : IsPermutation left rest
   stays =
-      left_of (map root_at olds) (roots_among (items_in gone old.seen)) rest (roots_among went)
-      (λ i j d p q. apart_first (slice_index_or (map root_at olds) i d).key (slice_index_or (map root_at olds) j d).key (before.ascend i j d p q))
+      left_of olds (roots_among (items_in gone old.seen)) rest (roots_among went)
+      (λ i j d p q. apart_first (slice_index_or olds i d).key (slice_index_or olds j d).key (before.ascend i j d p q))
       (parted old gone same.same olds before.are same.old) (filter_map_permuted root_of (items_in gone old.seen) went goes)
 
-  pub whole_is : IsPermutation (roots_left (map root_at olds) went arrived) (map root_at news)
+  pub whole_is : IsPermutation (roots_left olds went arrived) news
   whole_is =
-      IsPermutation-trans (left ++ roots_among arrived) (rest ++ adds) (map root_at news)
+      IsPermutation-trans (left ++ roots_among arrived) (rest ++ adds) news
       (IsPermutation-append left rest (roots_among arrived) adds stays
       (IsPermutation-sym adds (roots_among arrived) (filter_map_permuted root_of (items_in came new.seen) arrived comes)))
-      (IsPermutation-trans (rest ++ adds) (adds ++ rest) (map root_at news) (IsPermutation-append_comm rest adds)
-      (IsPermutation-sym (map root_at news) (adds ++ rest) (parted new came same.same news after.are same.new)))
+      (IsPermutation-trans (rest ++ adds) (adds ++ rest) news (IsPermutation-append_comm rest adds)
+      (IsPermutation-sym news (adds ++ rest) (parted new came same.same news after.are same.new)))
 
 pub roots : RecordsLaw → RootsLaw
 roots law image pending old new change olds news merged was is old_items new_items changes had has sort =
@@ -222,7 +221,7 @@ roots law image pending old new change olds news merged was is old_items new_ite
     let arrived = map located_item change.new_items.items in
     let before = known_roots image old olds was (recursion_from_All Fits (items_of old) old_items.places) had in
     let after = known_roots (overlaid pending 0 image) new news is (recursion_from_All Fits (items_of new) new_items.places) has in
-    only_list named_before (roots_left (map root_at olds) went arrived) merged (map root_at news) sort (record {
+    only_list named_before (roots_left olds went arrived) merged news sort (record {
       all = whole_is old new gone came went arrived olds news (law image pending old new was is) before after changes.old_items.all
           changes.new_items.all;
       ascends = after.ascend;

@@ -13,7 +13,6 @@ use Rattle.verdict.specs.declared.place.Place.TheVariants.{Nowhere, One, Two}
 use Rattle.super_reader.specs.declared.Super.{Super}
 use Rattle.super_reader.specs.Superblock.{superblock_of}
 use Rattle.volume_items.specs.MapRules.{map_finding}
-use Rattle.volume_items.specs.declared.root.RootItem.{RootItem}
 use Rattle.node_reader.specs.Stored.{alike, bytes_at, least_difference, stored_in}
 use Rattle.node_reader.specs.Stored.CopyFault.{NoPlace}
 use Rattle.node_reader.specs.declared.expect.Expect.{Expect}
@@ -35,6 +34,7 @@ use Rattle.tree_laws.proofs.Rooted.{table_stands}
 use Rattle.tree_laws.proofs.Treed.{Steps, steps_of}
 use Rattle.commit_laws.specs.Frame.{FrameLaw, HaveSame, HaveSameCopies}
 use Rattle.commit_laws.proofs.Held.{holds}
+use Rattle.volume_items.specs.declared.root_at.RootAt.{RootAt}
 
 -- what all steps come to
 walked_by : (image : List ℕ) (whole : Walked) → Steps image whole → walked image ≡ Ok whole
@@ -107,7 +107,7 @@ module _ (image other : List ℕ) (size : length other ≡ length image) where
         (SameBy whole.chunks whole.sup.nodesize) (visited whole.sup tree.0 tree.1)
         (λ v is. copies v.tree v.address (rw is refl)) stands.each.each
 
-    same_trees : (roots : List RootItem)
+    same_trees : (roots : List RootAt)
         → AllByRecursion StandsFor (map (λ root. (stored_in image whole.chunks whole.sup.nodesize, named_root root)) roots)
         → tree_records whole.sup whole.chunks roots other ≡ tree_records whole.sup whole.chunks roots image
     same_trees [] all = refl

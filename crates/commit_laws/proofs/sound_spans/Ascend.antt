@@ -5,7 +5,7 @@ use Rattle.std.proofs.lemmas.List.Elements.{recursion_from_All}
 use Rattle.verdict.specs.OnDisk.{key_below}
 use Rattle.chunk_map.specs.Roots.{KeysAscend}
 use Rattle.records.specs.Part.{FitsPlace, Located}
-use Rattle.tree_change.specs.Merging.{named_before, root_at}
+use Rattle.tree_change.specs.Merging.{named_before}
 use Rattle.volume_items.specs.declared.root_at.RootAt.{RootAt}
 use Rattle.commit_laws.specs.Items.{ItemsLaw, items_of}
 use Rattle.commit_laws.specs.Sound.{AscendLaw}
@@ -23,4 +23,4 @@ pub ascend : ItemsLaw → AscendLaw
 ascend items image whole roots is has =
     let stand = items image whole is in
     let fit = recursion_from_All (λ (one : Located). FitsPlace one.tree one.key one.part) (items_of whole) stand.places in
-    keys_ascend (map root_at roots) (known_roots image whole roots is fit has).ascend
+    keys_ascend roots (known_roots image whole roots is fit has).ascend

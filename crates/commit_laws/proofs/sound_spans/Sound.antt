@@ -23,7 +23,6 @@ use Rattle.span_index.specs.Order.{is_same}
 use Rattle.span_index.specs.Sectors.{times_of_span}
 use Rattle.span_index.specs.declared.span.Span.{Span}
 use Rattle.touched_accounts.specs.Sums.{PostTheSame}
-use Rattle.volume_items.specs.declared.root.RootItem.{RootItem}
 use Rattle.write_cache.specs.Cache.{overlaid}
 use Rattle.commit_laws.specs.Commit.{Commit, IsCommit, Known, came_by, gone_by}
 use Rattle.commit_laws.specs.Same.{records_of}
@@ -33,6 +32,7 @@ use Rattle.commit_laws.specs.Steps.{ShowTheSame, all_posts, spans_of, step_posts
 use Rattle.commit_laws.proofs.whole_commits.Commit.{known_same, ok_same}
 use Rattle.commit_laws.proofs.whole_commits.Named.{sound_of}
 use Rattle.commit_laws.proofs.whole_commits.Step.{Between, Laws, Stepped, commit_at, context_at, known_at, new_stand, old_stand, stepped}
+use Rattle.volume_items.specs.declared.root_at.RootAt.{RootAt}
 
 -- ---- what is taken away
 
@@ -62,7 +62,7 @@ sound_among n all some rest sound perm =
 
 -- ---- a commit between two images by their walks
 
-sound_by : (laws : Laws) (image : List ℕ) (pending : FinMap nat_cmp ℕ) (old new : Walked) (olds : List RootItem) (c : Commit)
+sound_by : (laws : Laws) (image : List ℕ) (pending : FinMap nat_cmp ℕ) (old new : Walked) (olds : List RootAt) (c : Commit)
     (between : Between image pending old new c.change c.changes) → Stepped laws image pending old new olds c between
     → IsSound (known_at old olds) (commit_at new.sup c)
 sound_by laws image pending old new olds c between by =

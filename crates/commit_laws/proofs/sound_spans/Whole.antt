@@ -16,7 +16,6 @@ use Rattle.tree_laws.specs.LivePairs.{Walked}
 use Rattle.span_index.specs.Sectors.{times_of_span}
 use Rattle.span_index.specs.Spans.{Table}
 use Rattle.span_index.specs.declared.span.Span.{Span}
-use Rattle.volume_items.specs.declared.root.RootItem.{RootItem}
 use Rattle.commit_laws.specs.Items.{ItemsLaw, ItemsStand, items_of}
 use Rattle.commit_laws.specs.Same.{HeldLaw, records_of}
 use Rattle.commit_laws.specs.Sound.{IsWhole, KnownSpansLaw, SpansStand}
@@ -24,6 +23,7 @@ use Rattle.commit_laws.specs.Steps.{spans_of}
 use Rattle.commit_laws.proofs.whole_commits.Commit.{known_same}
 use Rattle.commit_laws.proofs.whole_commits.Named.{times_are}
 use Rattle.commit_laws.proofs.whole_commits.Step.{known_at}
+use Rattle.volume_items.specs.declared.root_at.RootAt.{RootAt}
 
 -- ---- the span of a sound item
 
@@ -66,7 +66,7 @@ whole_of n table items are sound span stands =
     span_whole n found.0 found.0.part span found.2 (lawful_of n table items found.0 are found.1)
     (All-contains (λ (one : Located). IsLawful one.part) items found.0 sound found.1)
 
-stand_at : (whole : Walked) (roots : List RootItem) → ItemsStand whole.sup.nodesize (items_of whole) → SpansStand (known_at whole roots)
+stand_at : (whole : Walked) (roots : List RootAt) → ItemsStand whole.sup.nodesize (items_of whole) → SpansStand (known_at whole roots)
 stand_at whole roots stand =
     let n = whole.sup.nodesize in
     let table = times_of_span (spans_of n (records_of whole)) in

@@ -29,7 +29,6 @@ use Rattle.span_index.specs.Sectors.{IsFirstBad, is_bad, is_inside, times_of_spa
 use Rattle.span_index.specs.declared.span.Run.{Run}
 use Rattle.touched_accounts.proofs.LeastTouched.{touched}
 use Rattle.touched_accounts.proofs.Moved.{moves}
-use Rattle.tree_change.specs.Merging.{root_at}
 use Rattle.write_cache.specs.Cache.{overlaid}
 use Rattle.commit_laws.specs.Commit.{Commit, CommitLaw, Decides, IsCommit, IsJudged, IsKnown, IsMoved, Known, came_by, context_by, gone_by}
 use Rattle.account_tally.specs.Kept.{chosen}
@@ -135,7 +134,7 @@ module _ (laws : Laws) (image : List ℕ) (pending : FinMap nat_cmp ℕ) (old ne
       next_is moved is =
           let sup : moved.sup ≡ new.sup = is.sup in
           let chunks : moved.chunks ≡ new.chunks = is.chunks ∙ between.change_is.map in
-          let roots : moved.roots ≡ map root_at after.roots =
+          let roots : moved.roots ≡ after.roots =
           laws.roots image pending old new c.change before.roots after.roots moved.roots between.was between.is
           (old_stand laws image pending old new before.roots c between) (new_stand laws image pending old new before.roots c between)
           between.change_is old_is.roots new_is.roots is.roots in
@@ -237,7 +236,7 @@ known_same image k old held known was holds is =
     let tree : bases.trees ≡ old = ok_same (walked image) bases.trees old bases.walks was in
     let sup : k.sup ≡ old.sup = bases.super_is ∙ ap (λ (h : Contents). h.sup) same ∙ is.sup in
     let chunks : k.chunks ≡ old.chunks = bases.chunks_are ∙ ap (λ (h : Contents). h.chunks) same ∙ is.chunks in
-    let roots : k.roots ≡ map root_at held.roots = bases.roots_are ∙ ap (λ (h : Contents). map root_at h.roots) same in
+    let roots : k.roots ≡ held.roots = bases.roots_are ∙ ap (λ (h : Contents). h.roots) same in
     let records : bases.held.records ≡ records_of old = ap (λ (h : Contents). h.records) same ∙ is.records in
     let free : k.free ≡ has_sum_free (records_of old) =
     fun_ext (λ tree. fun_ext (λ ino. bases.free_are tree ino ∙ ap (λ (rs : List Located). has_sum_free rs tree ino) records)) in

@@ -25,9 +25,7 @@ use Rattle.super_reader.specs.declared.Super.{Super}
 use Rattle.touched_blocks.specs.Touched.{written_in}
 use Rattle.tree_change.specs.Change.{IsChange}
 use Rattle.tree_change.specs.Gathered.{located_item}
-use Rattle.tree_change.specs.Merging.{root_at}
 use Rattle.tree_change.specs.declared.change.Change.{Change}
-use Rattle.volume_items.specs.declared.root.RootItem.{RootItem}
 use Rattle.write_cache.specs.Cache.{overlaid}
 use Rattle.commit_laws.specs.Blocks.{BlocksLaw, HasOwnName}
 use Rattle.commit_laws.specs.Commit.{AreTheAffected, Commit, Known, came_by, gone_by}
@@ -41,6 +39,7 @@ use Rattle.commit_laws.specs.Sectors.{RunsLaw, SectorsLaw}
 use Rattle.commit_laws.specs.Steps.{IsStep, PostsLaw, SpansLaw, StepLaw, WholeStepLaw, all_posts, change_records, spans_of}
 use Rattle.commit_laws.specs.Tables.{TableMovedLaw}
 use Rattle.commit_laws.proofs.whole_commits.Named.{AreOtherwise, times_are}
+use Rattle.volume_items.specs.declared.root_at.RootAt.{RootAt}
 
 -- the other laws
 pub record Laws : Type 0 where
@@ -64,11 +63,11 @@ pub record Laws : Type 0 where
 abbrev pub context_at : Walked → Context
 context_at whole = context_with whole.chunks whole.sup.nodesize (has_sum_free (records_of whole))
 
-abbrev pub known_at : Walked → List RootItem → Known
+abbrev pub known_at : Walked → List RootAt → Known
 known_at whole roots = record {
   sup = whole.sup;
   chunks = whole.chunks;
-  roots = map root_at roots;
+  roots = roots;
   free = has_sum_free (records_of whole);
   full = no_full;
   pairs = table_of (live_in whole.seen);
@@ -89,7 +88,7 @@ pub record Between (image : List ℕ) (pending : FinMap nat_cmp ℕ) (old new : 
   pub change_is : IsChange old new (written_in pending) (length image) change
   pub says : SayChanges (are_read_alike old.sup new.sup) change.old_items.items change.new_items.items changes
 
-module _ (laws : Laws) (image : List ℕ) (pending : FinMap nat_cmp ℕ) (old new : Walked) (olds : List RootItem) (c : Commit)
+module _ (laws : Laws) (image : List ℕ) (pending : FinMap nat_cmp ℕ) (old new : Walked) (olds : List RootAt) (c : Commit)
     (between : Between image pending old new c.change c.changes) where
   abbrev k : Known
   k = known_at old olds

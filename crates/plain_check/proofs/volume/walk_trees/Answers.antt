@@ -1,11 +1,11 @@
 use Rattle.std.proofs.Common.{rules, ◌+◌, drop, get_or, Ok}
 use Rattle.std.proofs.lemmas.List.{drop_more}
-use Rattle.volume_items.specs.declared.root.RootItem.{RootItem}
 use Rattle.records.specs.Contents.{named_root, tree_records}
 use Rattle.records.specs.Walk.{walk_in}
 use Rattle.block_source.specs.Counts.{with_read}
 use Rattle.block_source.proofs.Walking.{then_held, then_same}
 use Rattle.plain_check.proofs.Counting.{trees_few}
+use Rattle.volume_items.specs.declared.root_at.RootAt.{RootAt}
 use Rattle.plain_check.proofs.volume.walk_trees.Goals as goal
 
 pub loop-root-preserved : goal.loop-root-preserved
@@ -13,7 +13,7 @@ loop-root-preserved g c =
     let sup = c.args.volume.now.sup.now in
     let chunks = c.args.volume.now.map.now in
     let i = c.loop-root.root-index in
-    let none : RootItem = record { key = record { objectid = 0; kind = 0; offset = 0 }; generation = 0; bytenr = 0; refs = 0; level = 0 } in
+    let none : RootAt = record { key = record { objectid = 0; kind = 0; offset = 0 }; generation = 0; bytenr = 0; refs = 0; level = 0 } in
     record {
       taken = record {
         kept = search (rules, then_held);

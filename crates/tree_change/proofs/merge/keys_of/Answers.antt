@@ -9,7 +9,6 @@ use Rattle.records.specs.Part.{Located}
 use Rattle.records.specs.declared.rec.ItemAt.{ItemAt}
 use Rattle.tree_laws.specs.MergedLaw.{root_in}
 use Rattle.tree_change.specs.Gathered.{located_item}
-use Rattle.tree_change.specs.Merging.{root_at_of}
 use Rattle.tree_change.proofs.Merges.{has_more}
 use Rattle.tree_change.proofs.merge.keys_of.Goals as goal
 

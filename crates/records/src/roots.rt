@@ -1,8 +1,8 @@
 //! The rules on the list of root items, and what is expected of the roots of trees.
 
-ghost use Rattle.std.specs.Prelude.{◌≡◌, []};
+ghost use Rattle.std.specs.Prelude.{◌≡◌, [], IfOk};
 ghost use Rattle.std.specs.List.{list_any};
-ghost use Rattle.verdict.specs.Rules.{finding_or, first_failing};
+ghost use Rattle.verdict.specs.Rules.{first_failing};
 ghost use Rattle.records.specs.Contents.{
   missing_finding,
   missing_rows,
@@ -12,23 +12,21 @@ ghost use Rattle.records.specs.Contents.{
   roots_fault,
   roots_finding,
 };
-ghost use Rattle.block_source.specs.Gives.{IsOutcome};
 
-use block_source::Halt;
 use node_reader::Expect;
 use std::alloc::Global;
 use std::collections::BTreeSet;
 use verdict::kinds::ROOT_ITEM;
-use verdict::{Family, Finding, Key, Rule, has_group_tree};
-use volume_items::RootItem;
+use verdict::{Family, Finding, Key, NoMemory, Rule, has_group_tree};
+use volume_items::RootAt;
 
-// What is expected of the root of the tree that a root item names.
-pub fn named(root: &RootItem) -> Expect
+/// What is expected of the root of the tree that a root item names.
+pub fn named_root(root: &RootAt) -> Expect
     ensures { result ≡ named_root root.now }
 {
     Expect {
         tree: root.key.objectid,
-        address: root.bytenr,
+        address: root.address,
         generation: root.generation,
         level: root.level,
         low: None,
@@ -37,24 +35,25 @@ pub fn named(root: &RootItem) -> Expect
     }
 }
 
-// Passes where no rule on the list of root items fails: no two of one id (X1), and one for each of the ids 2, 4, 5
-// and 7, and for 11 where the block groups have a tree of their own (X2).
-#[tactic(auto, unfolding(records::specs::Contents::roots_fault))]
-pub fn check_roots(alloc: Global, compat_ro: u64, roots: &[RootItem]) -> Result<(), Halt>
-    ensures { IsOutcome result (finding_or (roots_fault compat_ro roots.now) (tt {0})) }
+/// The first finding on the list of root items: two of one id (X1), or none for one of the ids 2, 4, 5 and 7, and for
+/// 11 where the block groups have a tree of their own (X2). The ids meanwhile take their memory from this allocator.
+#[tactic(auto, unfolding(crate::specs::Contents::roots_fault))]
+pub fn roots_fault(
+    alloc: Global,
+    compat_ro: u64,
+    roots: &[RootAt],
+) -> Result<Option<Finding>, NoMemory>
+    ensures { IfOk result (λ found. found ≡ roots_fault compat_ro roots.now) }
 {
-    if let Some(found) = repeated(alloc, roots)? {
-        return Err(Halt::Found(found));
-    }
-    match missing(compat_ro, roots) {
-        Some(found) => Err(Halt::Found(found)),
-        None => Ok(()),
+    match repeated(alloc, roots)? {
+        Some(found) => Ok(Some(found)),
+        None => Ok(missing(compat_ro, roots)),
     }
 }
 
 // The finding on the first root item with the id of an earlier one.
-fn repeated(alloc: Global, roots: &[RootItem]) -> Result<Option<Finding>, Halt>
-    ensures { IsOutcome result (Ok (repeated_after [] roots.now)) }
+fn repeated(alloc: Global, roots: &[RootAt]) -> Result<Option<Finding>, NoMemory>
+    ensures { IfOk result (λ found. found ≡ repeated_after [] roots.now) }
 {
     let mut seen = BTreeSet::new(alloc);
     for root in roots {
@@ -68,7 +67,7 @@ fn repeated(alloc: Global, roots: &[RootItem]) -> Result<Option<Finding>, Halt>
 }
 
 // The finding on the least of the ids 2, 4, 5 and 7 that no root item has, then on 11 where there is to be one.
-fn missing(compat_ro: u64, roots: &[RootItem]) -> Option<Finding>
+fn missing(compat_ro: u64, roots: &[RootAt]) -> Option<Finding>
     ensures { result ≡ first_failing (missing_rows compat_ro roots.now) }
 {
     if !is_named(roots, 2) {
@@ -90,14 +89,14 @@ fn missing(compat_ro: u64, roots: &[RootItem]) -> Option<Finding>
 }
 
 // Whether a root item names a tree.
-fn is_named(roots: &[RootItem], id: u64) -> bool
+fn is_named(roots: &[RootAt], id: u64) -> bool
     ensures { result ≡ list_any (names id) roots.now }
 {
     roots.iter().any(|root| has_id(root, id))
 }
 
 // Whether this root item names a tree.
-fn has_id(root: &RootItem, id: u64) -> bool
+fn has_id(root: &RootAt, id: u64) -> bool
     ensures { result ≡ names id root.now }
 {
     root.key.objectid == id

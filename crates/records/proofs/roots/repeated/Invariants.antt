@@ -3,7 +3,7 @@ use Rattle.std.specs.BTreeSet.{contains}
 use Rattle.std.specs.List.{list_any}
 use Rattle.std.specs.Ordering.{nat_cmp}
 use Rattle.records.specs.Contents.{names, repeated_after}
-use Rattle.plain_check.proofs.roots.repeated.Given as goal
+use Rattle.records.proofs.roots.repeated.Given as goal
 
 -- the ids so far are seen, and what is left decides
 abbrev pub invariant-loop-root : goal.invariant-loop-root
