@@ -9,7 +9,7 @@ use Rattle.accounts.specs.Context.{Context}
 use Rattle.accounts.specs.Sums.{total_of}
 use Rattle.fs_items.specs.declared.file_extent.FileExtent.{FileExtent}
 use Rattle.records.specs.Part.{Part}
-use Rattle.records.specs.Part.Part.{RootPart, LinkPart, DevicePart, ChunkPart, DevExtentPart, ExtentPart, KeyedPart, GroupPart, InodePart, NamesPart, XattrPart, OrphanPart, EntriesPart, FileExtentPart, SumsPart, UnreadPart, SuperPart, BlockPart}
+use Rattle.records.specs.Part.Part.{FileExtentPart}
 use Rattle.records.specs.SpacePostings.{is_to_sector, rest_postings, sector_sum, space_postings}
 use Rattle.records.proofs.SectorSums.{IsNoRange, IsToOther, others_total, range_sector, rest_alike, rest_total, sector_alike}
 use Rattle.account_tally.specs.Ranges.{inode_in}
@@ -37,23 +37,7 @@ rest_same chunks nodesize free tree part account field other =
 -- what has no inode of a range is no range
 no_range : (part : Part) → inode_in part ≡ None → IsNoRange part
 no_range (FileExtentPart range) is = absurd (cc is)
-no_range (SuperPart used) is = tt
-no_range (ChunkPart item) is = tt
-no_range (DevicePart item) is = tt
-no_range (DevExtentPart item) is = tt
-no_range (GroupPart item) is = tt
-no_range (ExtentPart item) is = tt
-no_range (SumsPart item) is = tt
-no_range (BlockPart address level) is = tt
-no_range (KeyedPart item) is = tt
-no_range (RootPart item) is = tt
-no_range (LinkPart item) is = tt
-no_range (InodePart item) is = tt
-no_range (NamesPart item) is = tt
-no_range (XattrPart item) is = tt
-no_range (OrphanPart item) is = tt
-no_range (EntriesPart item) is = tt
-no_range (UnreadPart bytes) is = tt
+no_range other is = tt
 
 -- and so it does to sectors, but for a range of a file
 pub sectors_alike : (chunks : List Chunk) (nodesize : ℕ) (free : Frees) (tree : ℕ) (part : Part) (address field : ℕ) → inode_in part ≡ None

@@ -5,9 +5,9 @@ use Rattle.accounts.specs.declared.account.Account.{Account}
 use Rattle.accounts.specs.Sums.{total_of}
 use Rattle.accounts.proofs.Kept.{total_joined}
 use Rattle.fs_items.specs.DirRow.{EntryFields}
-use Rattle.records.specs.InodePostings.{inode_entry_postings, inode_postings, target_postings}
+use Rattle.records.specs.InodePostings.{inode_entry_postings, inode_postings, target_postings, own_entry_postings}
 use Rattle.records.specs.Part.{Part}
-use Rattle.records.specs.Part.Part.{RootPart, LinkPart, DevicePart, ChunkPart, DevExtentPart, ExtentPart, KeyedPart, GroupPart, InodePart, NamesPart, XattrPart, OrphanPart, EntriesPart, FileExtentPart, SumsPart, UnreadPart, SuperPart, BlockPart}
+use Rattle.records.specs.Part.Part.{EntriesPart}
 use Rattle.accounts.specs.declared.postings.Posting.{Posting}
 use Rattle.accounts.specs.Apart.{AddsUp}
 use Rattle.accounts.specs.Tally.{Sums}
@@ -16,7 +16,7 @@ use Rattle.dir_rules.specs.Named.{named_postings}
 use Rattle.records.specs.DirPostings.{dir_entry_postings, dir_postings}
 use Rattle.name_tally.specs.Names.{entry_row}
 use Rattle.name_tally.proofs.Sums.{halves}
-use Rattle.inode_rules.specs.Own.{own_entry_postings, own_postings}
+use Rattle.inode_rules.specs.Own.{own_postings}
 
 -- what a record of a tree posts to the inodes that its entries lead to, A9 and A10
 unfoldable pub led_postings : ℕ → Part → List Posting
@@ -43,23 +43,7 @@ pub both_total : (tree : ℕ) (part : Part) (a : Account) (n : ℕ)
     → total_of (own_postings tree part) a n + total_of (led_postings tree part) a n ≡ total_of (inode_postings tree part) a n
 unfolding own_postings inode_postings led_postings total_of
 both_total tree (EntriesPart item) a n = entries_total tree item.key.objectid item.entries a n
-both_total tree (SuperPart used) a n = none_led _
-both_total tree (ChunkPart item) a n = none_led _
-both_total tree (DevicePart item) a n = none_led _
-both_total tree (DevExtentPart item) a n = none_led _
-both_total tree (GroupPart item) a n = none_led _
-both_total tree (ExtentPart item) a n = none_led _
-both_total tree (SumsPart item) a n = none_led _
-both_total tree (BlockPart address level) a n = none_led _
-both_total tree (KeyedPart item) a n = none_led _
-both_total tree (RootPart item) a n = none_led _
-both_total tree (LinkPart item) a n = none_led _
-both_total tree (InodePart item) a n = none_led _
-both_total tree (NamesPart item) a n = none_led _
-both_total tree (XattrPart item) a n = none_led _
-both_total tree (OrphanPart item) a n = none_led _
-both_total tree (FileExtentPart range) a n = none_led _
-both_total tree (UnreadPart bytes) a n = none_led _
+both_total tree other a n = none_led _
 
 -- ---- names and entries, with what entries lead to
 
@@ -72,23 +56,7 @@ unfolding named_postings dir_postings led_postings total_of
 named_total tree (EntriesPart item) a n =
     sym (halves (dir_entry_postings tree item.key) (target_postings tree) item.entries a n)
     ∙ total_joined (flat_map (dir_entry_postings tree item.key) item.entries) (flat_map (target_postings tree) item.entries) a n
-named_total tree (SuperPart used) a n = none_more _
-named_total tree (ChunkPart item) a n = none_more _
-named_total tree (DevicePart item) a n = none_more _
-named_total tree (DevExtentPart item) a n = none_more _
-named_total tree (GroupPart item) a n = none_more _
-named_total tree (ExtentPart item) a n = none_more _
-named_total tree (SumsPart item) a n = none_more _
-named_total tree (BlockPart address level) a n = none_more _
-named_total tree (KeyedPart item) a n = none_more _
-named_total tree (RootPart item) a n = none_more _
-named_total tree (LinkPart item) a n = none_more _
-named_total tree (InodePart item) a n = none_more _
-named_total tree (NamesPart item) a n = none_more _
-named_total tree (XattrPart item) a n = none_more _
-named_total tree (OrphanPart item) a n = none_more _
-named_total tree (FileExtentPart range) a n = none_more _
-named_total tree (UnreadPart bytes) a n = none_more _
+named_total tree other a n = none_more _
 
 pub adds_named : (old new : Sums) (before after : List Posting) (tree : ℕ) (part : Part) → AddsUp old new before after (named_postings entry_row tree part)
     → AddsUp old new before after (dir_postings tree part ++ led_postings tree part)

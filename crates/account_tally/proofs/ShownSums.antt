@@ -5,7 +5,7 @@ use Rattle.std.proofs.Math.Path.{fun_ext}
 use Rattle.verdict.specs.declared.place.Chunk.{Chunk}
 use Rattle.sector_runs.specs.Runs.{SectorSums, amount_in, amount_of, with_run}
 use Rattle.records.specs.Part.{Located, Part}
-use Rattle.records.specs.Part.Part.{RootPart, LinkPart, DevicePart, ChunkPart, DevExtentPart, ExtentPart, KeyedPart, GroupPart, InodePart, NamesPart, XattrPart, OrphanPart, EntriesPart, FileExtentPart, SumsPart, UnreadPart, SuperPart, BlockPart}
+use Rattle.records.specs.Part.Part.{FileExtentPart}
 use Rattle.fs_items.specs.declared.file_extent.FileExtent.{FileExtent}
 use Rattle.sector_runs.specs.declared.run.SectorRun.{SectorRun}
 use Rattle.records.specs.SpacePostings.{sector_sum}
@@ -26,23 +26,7 @@ shown_more (other ∷ shown) one free address field =
 -- what has the inode of a range of a file is one
 shown_range : (part : Part) (ino : ℕ) → inode_in part ≡ Some ino → (range : FileExtent) × (part ≡ FileExtentPart range) × (range.key.objectid ≡ ino)
 shown_range (FileExtentPart range) ino is = (range, refl, cc is)
-shown_range (SuperPart used) ino is = absurd (cc is)
-shown_range (ChunkPart item) ino is = absurd (cc is)
-shown_range (DevicePart item) ino is = absurd (cc is)
-shown_range (DevExtentPart item) ino is = absurd (cc is)
-shown_range (GroupPart item) ino is = absurd (cc is)
-shown_range (ExtentPart item) ino is = absurd (cc is)
-shown_range (SumsPart item) ino is = absurd (cc is)
-shown_range (BlockPart a level) ino is = absurd (cc is)
-shown_range (KeyedPart item) ino is = absurd (cc is)
-shown_range (RootPart item) ino is = absurd (cc is)
-shown_range (LinkPart item) ino is = absurd (cc is)
-shown_range (InodePart item) ino is = absurd (cc is)
-shown_range (NamesPart item) ino is = absurd (cc is)
-shown_range (XattrPart item) ino is = absurd (cc is)
-shown_range (OrphanPart item) ino is = absurd (cc is)
-shown_range (EntriesPart item) ino is = absurd (cc is)
-shown_range (UnreadPart bytes) ino is = absurd (cc is)
+shown_range other ino is = absurd (cc is)
 
 module _ (chunks : List Chunk) (nodesize : ℕ) (old new : SumsByFree) (one : Located) (run : Option SectorRun)
     (sums : (address field : ℕ) → sector_sum (context_with chunks nodesize none_free) one.tree one.part address field ≡ amount_in run address field) where

@@ -4,7 +4,7 @@ use Rattle.std.specs.List.{list_any}
 use Rattle.accounts.specs.declared.account.Account.{Account}
 use Rattle.accounts.specs.declared.postings.Posting.{Posting}
 use Rattle.accounts.specs.Kinds.{sector}
-use Rattle.accounts.specs.declared.kind.TheConstants.{SECTOR}
+use Rattle.accounts.specs.declared.kinds.TheConstants.{SECTOR}
 use Rattle.accounts.specs.Sums.{is_same, total_of}
 use Rattle.accounts.specs.Tally.{Sums, kept, sums_in}
 use Rattle.sector_runs.specs.Runs.{SectorSums, amount_of}

@@ -15,7 +15,7 @@ ghost use Rattle.account_tally.specs.Sums.{Summed, context_with, of_none, with_r
 use crate::apart::{Apart, WithTargets};
 use crate::context::ImageContext;
 use crate::shown::SectorTally;
-use accounts::{Account, Tally, finding_of, kind};
+use accounts::{Account, Tally, finding_of, kinds};
 use chunk_map::ChunkMap;
 use records::{RecAt, Record, Taker};
 use std::alloc::Global;
@@ -96,7 +96,7 @@ pub fn least_finding(
         };
     };
     match account {
-        Some(account) if account.kind < kind::SECTOR => Some(finding_of(account)),
+        Some(account) if account.kind < kinds::SECTOR => Some(finding_of(account)),
         _ => Some(finding_of(&Account::sector(alloc, address))),
     }
 }

@@ -10,9 +10,10 @@ use Rattle.accounts.specs.declared.postings.Posting.{Posting}
 use Rattle.accounts.specs.declared.totals.Totals.{Totals}
 use Rattle.accounts.specs.Order.{account_cmp}
 use Rattle.accounts.specs.Sums.{added, total_of, sum_in, is_same}
-use Rattle.accounts.specs.Tally.{balances, kept, kept_sums, no_sums, sums_at, with_amount, with_postings}
+use Rattle.accounts.specs.Tally.{kept, kept_sums, no_sums, sums_at, with_amount, with_postings}
 use Rattle.accounts.proofs.Same.{same_account}
 use Rattle.accounts.proofs.Kept.{balanced_kept, kept_more, kept_nothing}
+use Rattle.accounts.specs.Kinds.{balances}
 
 plus_none : (n : ℕ) → n + 0 ≡ n
 plus_none n = omega arith

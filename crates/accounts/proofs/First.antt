@@ -18,10 +18,12 @@ use Rattle.accounts.specs.declared.postings.Posting.{Posting}
 use Rattle.accounts.specs.Order.{account_cmp}
 use Rattle.accounts.specs.OrderLaws.{account_total, account_equiv}
 use Rattle.accounts.specs.Sums.{added, is_same, sum_in, total_of}
-use Rattle.accounts.specs.Tally.{Sums, balances, difference, extent_class, form_class, inode_class, kept, kept_as, kept_sums, no_sums, sums_at, type_class, with_postings}
-use Rattle.accounts.specs.Broken.{Line, extent_keeps, gives, inode_keeps, is_broken, line_of, lines}
+use Rattle.accounts.specs.Tally.{Sums, difference, extent_class, form_class, inode_class, kept, kept_as, kept_sums, no_sums, sums_at, type_class, with_postings}
+use Rattle.accounts.specs.Broken.{is_broken}
 use Rattle.accounts.specs.Least.{IsLeastBroken, LeastBrokenIsOne, is_broken_by, least_broken, least_posted, lesser}
 use Rattle.accounts.proofs.Same.{account_ties, is_Equal, same_account}
+use Rattle.accounts.specs.Kinds.{Line, SumRule, balances, balances_at, extent_keeps, gives, inode_keeps, is_balance, keeps, keeps_at, table}
+use Rattle.accounts.specs.Kinds.SumRule.{Balance, Own}
 
 -- the first account that is broken by the sums of its entry
 abbrev pub first_broken : List (Account × Totals) → Option Account
@@ -45,39 +47,27 @@ one_least broken (Some a) (Some b) first second = same_least broken a b (account
 
 -- ---- an account without sums keeps its rule
 
-abbrev AllKeep : List Line → Type 0
-AllKeep [] = Unit {0}
-AllKeep (l ∷ ls) = (l.keeps ≡ true) × AllKeep ls
+-- whether all rules of a table keep without sums
+abbrev all_keep : List Line → Bool
+all_keep [] = true
+all_keep (l ∷ ls) = keeps l.rule (λ _. 0) && all_keep ls
 
-line_keeps : (kind : ℕ) (ls : List Line) → AllKeep ls → line_of kind ls ≡ true
+both_true : (a b : Bool) → (a && b) ≡ true → (a ≡ true) × (b ≡ true)
+both_true true true is = (refl, refl)
+both_true true false is = absurd (cc is)
+both_true false b is = absurd (cc is)
+
+line_keeps : (kind : ℕ) (ls : List Line) → all_keep ls ≡ true → keeps_at kind ls (λ _. 0) ≡ true
 line_keeps kind [] all = refl
-line_keeps kind (l ∷ ls) all = elim (kind == l.kind) as (λ b. cond b l.keeps (line_of kind ls) ≡ true) [ true ↦ all.0 | false ↦ line_keeps kind ls all.1 ]
+line_keeps kind (l ∷ ls) all =
+    let both = both_true (keeps l.rule (λ _. 0)) (all_keep ls) all in
+    elim (kind == l.kind) as (λ b. cond b (keeps l.rule (λ _. 0)) (keeps_at kind ls (λ _. 0)) ≡ true) [ true ↦ both.0 | false ↦ line_keeps kind ls both.1 ]
 
 pub unposted : (account : Account) → is_broken account (λ _. 0) ≡ false
 unfolding is_broken
-unposted account = ap not (line_keeps account.kind (lines (λ _. 0))
-    (refl, (refl, (refl, (refl, (refl, (refl, (refl, (refl, (refl, (refl, (refl, (refl, (refl, (refl, (refl, (refl, (refl, (refl, tt)))))))))))))))))))
+unposted account = ap not (line_keeps account.kind table refl)
 
 -- ---- what is kept decides as the sums do
-
-abbrev AreAlike : ℕ → List Line → List Line → Type 0
-AreAlike kind [] [] = Unit {0}
-AreAlike kind [] (m ∷ ms) = ⊥
-AreAlike kind (l ∷ ls) [] = ⊥
-AreAlike kind (l ∷ ls) (m ∷ ms) = (l.kind ≡ m.kind) × ((kind == l.kind) ≡ true → l.keeps ≡ m.keeps) × AreAlike kind ls ms
-
-alike_case : (a b : Bool) (k m r s : Bool) → a ≡ b → (a ≡ true → k ≡ m) → r ≡ s → cond a k r ≡ cond b m s
-alike_case true true k m r s same here rest = here refl
-alike_case true false k m r s same here rest = absurd (cc same)
-alike_case false true k m r s same here rest = absurd (cc same)
-alike_case false false k m r s same here rest = rest
-
-alike_lines : (kind : ℕ) (ls ms : List Line) → AreAlike kind ls ms → line_of kind ls ≡ line_of kind ms
-alike_lines kind [] [] alike = refl
-alike_lines kind [] (m ∷ ms) alike = absurd alike
-alike_lines kind (l ∷ ls) [] alike = absurd alike
-alike_lines kind (l ∷ ls) (m ∷ ms) alike =
-    alike_case (kind == l.kind) (kind == m.kind) l.keeps m.keeps (line_of kind ls) (line_of kind ms) (ap (λ k. kind == k) alike.0) alike.1 (alike_lines kind ls ms alike.2)
 
 same_difference : (x y : ℕ) → ((x - y) == (y - x)) ≡ (x == y)
 same_difference x y =
@@ -85,72 +75,20 @@ same_difference x y =
     (λ h. let e = eqb-true (x - y) (y - x) h in let s : x ≡ y = omega arith in eq-eqb x y s)
     (λ h. let e = eqb-true x y h in let s : x - y ≡ y - x = omega arith in eq-eqb (x - y) (y - x) s)
 
-not_there : (k kind : ℕ) {A : Type 0} → balances k ≡ false → balances kind ≡ true → (kind == k) ≡ true → A
-not_there k kind off on is = absurd (cc (off, on, ap balances (eqb-true kind k is)))
+-- where the first two sums are to be equal their difference decides
+balance_alike : (rule : SumRule) (f : ℕ → ℕ) → is_balance rule ≡ true → keeps rule (difference f) ≡ keeps rule f
+balance_alike Balance f is = same_difference (f 0) (f 1)
+balance_alike (Own rule) f is = absurd (cc is)
 
-alike_rules : (kind : ℕ) (f : ℕ → ℕ) → balances kind ≡ true → AreAlike kind (lines (difference f)) (lines f)
-alike_rules kind f on =
-    let d = same_difference (f 0) (f 1) in (
-      refl,
-      λ _. d,
-      (
-        refl,
-        λ _. d,
-        (
-          refl,
-          not_there 3 kind refl on,
-          (
-            refl,
-            not_there 4 kind refl on,
-            (
-              refl,
-              not_there 5 kind refl on,
-              (
-                refl,
-                not_there 6 kind refl on,
-                (
-                  refl,
-                  not_there 7 kind refl on,
-                  (
-                    refl,
-                    not_there 8 kind refl on,
-                    (
-                      refl,
-                      not_there 9 kind refl on,
-                      (
-                        refl,
-                        not_there 10 kind refl on,
-                        (
-                          refl,
-                          λ _. d,
-                          (
-                            refl,
-                            λ _. d,
-                            (
-                              refl,
-                              not_there 13 kind refl on,
-                              (
-                                refl,
-                                λ _. d,
-                                (
-                                  refl,
-                                  λ _. d,
-                                  (refl, λ _. d, (refl, λ _. d, (refl, λ _. d, tt))),
-                                ),
-                              ),
-                            ),
-                          ),
-                        ),
-                      ),
-                    ),
-                  ),
-                ),
-              ),
-            ),
-          ),
-        ),
-      ),
-    )
+alike_lines : (kind : ℕ) (ls : List Line) (f : ℕ → ℕ) → balances_at kind ls ≡ true → keeps_at kind ls (difference f) ≡ keeps_at kind ls f
+alike_lines kind [] f is = absurd (cc is)
+alike_lines kind (l ∷ ls) f is = by (kind == l.kind) (alike_lines kind ls f) is
+  where
+    by : (b : Bool) → (balances_at kind ls ≡ true → keeps_at kind ls (difference f) ≡ keeps_at kind ls f)
+        → cond b (is_balance l.rule) (balances_at kind ls) ≡ true
+        → cond b (keeps l.rule (difference f)) (keeps_at kind ls (difference f)) ≡ cond b (keeps l.rule f) (keeps_at kind ls f)
+    by true rest is = balance_alike l.rule f is
+    by false rest is = rest is
 
 -- of an inode, and of a type
 is_some : (x : ℕ) → nat_lt 0 (min x 1) ≡ nat_lt 0 x
@@ -235,8 +173,8 @@ is_there x =
 form_alike : (f : ℕ → ℕ) → gives (nat_lt 0 (min (f 1) 1)) (nat_le 1 (min (f 0) 1)) ≡ gives (nat_lt 0 (f 1)) (nat_le 1 (f 0))
 form_alike f = let e0 = is_some (f 1) in let e1 = is_there (f 0) in λ i. gives (e0 i) (e1 i)
 
-kind_is : (n kind : ℕ) (f g : ℕ → ℕ) → (kind == n) ≡ true → line_of n (lines f) ≡ line_of n (lines g) → line_of kind (lines f) ≡ line_of kind (lines g)
-kind_is n kind f g is same = subst (λ k. line_of k (lines f) ≡ line_of k (lines g)) (sym (eqb-true kind n is)) same
+kind_is : (n kind : ℕ) (f g : ℕ → ℕ) → (kind == n) ≡ true → keeps_at n table f ≡ keeps_at n table g → keeps_at kind table f ≡ keeps_at kind table g
+kind_is n kind f g is same = subst (λ k. keeps_at k table f ≡ keeps_at k table g) (sym (eqb-true kind n is)) same
 
 broken_if : (is_inode is_type is_extent is_form b : Bool) (account : Account) (f : ℕ → ℕ)
     → (account.kind == 9) ≡ is_inode → (account.kind == 10) ≡ is_type → (account.kind == 3) ≡ is_extent → (account.kind == 4) ≡ is_form → balances account.kind ≡ b
@@ -247,7 +185,7 @@ broken_if false true is_extent is_form b account f inode type extent form is = a
 broken_if false false true is_form b account f inode type extent form is = ap not (kind_is 3 account.kind (extent_class f) f extent (extent_alike f))
 broken_if false false false true b account f inode type extent form is = ap not (kind_is 4 account.kind (form_class f) f form (form_alike f))
 broken_if false false false false true account f inode type extent form is =
-    ap not (alike_lines account.kind (lines (difference f)) (lines f) (alike_rules account.kind f is))
+    ap not (alike_lines account.kind table f is)
 broken_if false false false false false account f inode type extent form is = refl
 
 pub broken_kept : (account : Account) (f : ℕ → ℕ) → is_broken account (kept account.kind f) ≡ is_broken account f

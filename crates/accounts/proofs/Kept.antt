@@ -5,7 +5,8 @@ use Rattle.std.proofs.lemmas.Bool.{eqb-true}
 use Rattle.accounts.specs.declared.account.Account.{Account}
 use Rattle.accounts.specs.declared.postings.Posting.{Posting}
 use Rattle.accounts.specs.Sums.{added, total_of}
-use Rattle.accounts.specs.Tally.{Sums, balances, difference, difference_if, extent_class, form_class, inode_class, kept, kept_as, type_class, with_postings, no_sums}
+use Rattle.accounts.specs.Tally.{Sums, difference, difference_if, extent_class, form_class, inode_class, kept, kept_as, type_class, with_postings, no_sums}
+use Rattle.accounts.specs.Kinds.{balances}
 
 -- the difference of what was kept with more added is that of the whole
 difference_more : (f g : ℕ → ℕ) (n : ℕ) → difference (λ m. difference f m + g m) n ≡ difference (λ m. f m + g m) n

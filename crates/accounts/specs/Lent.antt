@@ -7,7 +7,7 @@ use Rattle.accounts.specs.declared.name.NameAccount.TheVariants.{Entry, Link}
 use Rattle.accounts.specs.declared.postings.Posting.{Posting}
 use Rattle.accounts.specs.declared.user.User.{User}
 use Rattle.accounts.specs.declared.user.User.TheVariants.{Tree, Block, File, Leaf}
-use Rattle.accounts.specs.declared.sum.TheConstants.{REFERENCES, USES, EXTENT_ITEMS, EXTENT_REFS_SAID, EXTENT_REFS_FOUND, FORM_ITEMS, FORM_USES, INODE_OTHERS, TYPE_ENTRIES, TYPE_ITEMS}
+use Rattle.accounts.specs.declared.kinds.TheConstants.{REFERENCES, USES, EXTENT_ITEMS, EXTENT_REFS_SAID, EXTENT_REFS_FOUND, FORM_ITEMS, FORM_USES, INODE_OTHERS, TYPE_ENTRIES, TYPE_ITEMS}
 use Rattle.accounts.specs.Kinds.{block_ref, data_ref, extent, extent_form, inode, inode_type, link, name_entry, shared_block_ref, shared_data_ref}
 
 abbrev pub account_lent : NameAccount → Account
@@ -18,6 +18,7 @@ account_lent (Link tree ino dir index name) = link tree ino dir index name.now
 abbrev pub posting_lent : NameAccount → ℕ → ℕ → Posting
 posting_lent name field amount = record { account = account_lent name; field = field; amount = amount }
 
+-- an amount to one sum of an account
 abbrev pub to : Account → ℕ → ℕ → Posting
 to account field amount = record { account = account; field = field; amount = amount }
 

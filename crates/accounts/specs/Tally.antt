@@ -2,24 +2,17 @@
 use Rattle.std.specs.Prelude.{ℕ, ◌+◌, ◌-◌, min, Bool, true, false, ◌||◌, ◌==◌, List, Option, Some, None, if◌then◌else◌}
 use Rattle.std.specs.BTreeMap.{get}
 use Rattle.accounts.specs.declared.account.Account.{Account}
-use Rattle.accounts.specs.declared.kind.TheConstants.{BLOCK_REF, DATA_REF, EXTENT, EXTENT_FORM, INODE, INODE_TYPE, NAME_ENTRY, LINK, SUBVOLUME_PAIR, STRIPE, BYTES_USED, SUBVOLUME, DEVICE}
-use Rattle.accounts.specs.declared.sum.TheConstants.{EXTENT_ITEMS, EXTENT_REFS_SAID, EXTENT_REFS_FOUND, FORM_ITEMS, FORM_USES, INODE_ITEMS, INODE_OTHERS, INODE_LINKS, INODE_NAMES, INODE_ORPHANS, DIR_SIZE, DIR_NAMES, FILE_BYTES, FILE_RANGES, TYPE_ENTRIES, TYPE_ITEMS}
+use Rattle.accounts.specs.declared.kinds.TheConstants.{EXTENT, EXTENT_FORM, INODE, INODE_TYPE, EXTENT_ITEMS, EXTENT_REFS_SAID, EXTENT_REFS_FOUND, FORM_ITEMS, FORM_USES, INODE_ITEMS, INODE_OTHERS, INODE_LINKS, INODE_NAMES, INODE_ORPHANS, DIR_SIZE, DIR_NAMES, FILE_BYTES, FILE_RANGES, TYPE_ENTRIES, TYPE_ITEMS}
 use Rattle.accounts.specs.declared.postings.Posting.{Posting}
 use Rattle.accounts.specs.declared.totals.Totals.{Totals}
 use Rattle.accounts.specs.declared.tally.Tally.{Tally}
 use Rattle.accounts.specs.Order.{account_cmp}
 use Rattle.accounts.specs.Sums.{sum_in, total_of}
+use Rattle.accounts.specs.Kinds.{balances}
 
 -- the sums of accounts, by field
 abbrev pub Sums : Type 0
 Sums = Account → ℕ → ℕ
-
--- whether the rule on a kind of account is that its first two sums are equal, so that their difference alone decides
-abbrev pub balances : ℕ → Bool
-balances kind =
-    kind == BLOCK_REF || (kind == DATA_REF
-    || (kind == NAME_ENTRY || (kind == LINK || (kind == SUBVOLUME_PAIR
-    || (kind == STRIPE || (kind == BYTES_USED || (kind == SUBVOLUME || kind == DEVICE)))))))
 
 -- the difference of the first two sums, in the one that is more; the other, and all others, are zero
 abbrev pub difference : (ℕ → ℕ) → ℕ → ℕ

@@ -1,15 +1,162 @@
-//! The accounts, a kind each, in the order of their numbers.
+//! The accounts, a kind each, in the order of their numbers: the number of a kind is that of the rule A that its sums have to
+//! keep. The sums go by what they count, up to nine, from 0 on.
 
 ghost use Rattle.std.specs.Prelude.{◌≡◌, [], IfOk};
 ghost use Rattle.accounts.specs.Kinds as kinds;
 
-use crate::{Account, Home, kind};
+use crate::{Account, Home};
 use std::alloc::Global;
 use verdict::kinds::{
     BLOCK_GROUP_ITEM, DEV_EXTENT, DEV_ITEM, DIR_ITEM, EXTENT_DATA_REF, INODE_ITEM, INODE_REF,
     ROOT_BACKREF, ROOT_ITEM, ROOT_REF, SHARED_BLOCK_REF, SHARED_DATA_REF, TREE_BLOCK_REF,
 };
 use verdict::{Bytes, Key, NoMemory};
+
+/// A1: references to a tree block, by a tree or by the block above.
+pub const BLOCK_REF: u8 = 1;
+/// A2: references to an extent of file data, by a file or by a leaf.
+pub const DATA_REF: u8 = 2;
+/// A3: an extent.
+pub const EXTENT: u8 = 3;
+/// A4: the form of an extent, its length or its level.
+pub const EXTENT_FORM: u8 = 4;
+/// A5: a sector.
+pub const SECTOR: u8 = 5;
+/// A6: a block group, and its chunk.
+pub const GROUP: u8 = 6;
+/// A7: an extent in a group of another class.
+pub const GROUP_CLASS: u8 = 7;
+/// A8: an extent outside every chunk.
+pub const OUTSIDE: u8 = 8;
+/// A9: an inode.
+pub const INODE: u8 = 9;
+/// A10: a type of an inode.
+pub const INODE_TYPE: u8 = 10;
+/// A11: a name in a directory.
+pub const NAME_ENTRY: u8 = 11;
+/// A12: a link, which is a name of an inode.
+pub const LINK: u8 = 12;
+/// A13: the entry of a subvolume in a directory.
+pub const SUBVOLUME_ENTRY: u8 = 13;
+/// A14: the name of a subvolume, from its parent and from itself.
+pub const SUBVOLUME_PAIR: u8 = 14;
+/// A15: a stripe of a chunk.
+pub const STRIPE: u8 = 15;
+/// A16: the bytes that all groups use.
+pub const BYTES_USED: u8 = 16;
+/// A17: the references to a subvolume.
+pub const SUBVOLUME: u8 = 17;
+/// A18: the bytes of a device that its ranges take.
+pub const DEVICE: u8 = 18;
+
+// ---- the sums
+
+/// A1 and A2: the references that the extent tree has.
+pub const REFERENCES: u8 = 0;
+/// A1 and A2: the uses that there are.
+pub const USES: u8 = 1;
+
+/// A3: the items of the extent.
+pub const EXTENT_ITEMS: u8 = 0;
+/// A3: the references to it that its item says.
+pub const EXTENT_REFS_SAID: u8 = 1;
+/// A3: the references to it that there are.
+pub const EXTENT_REFS_FOUND: u8 = 2;
+
+/// A4: the items that say the form.
+pub const FORM_ITEMS: u8 = 0;
+/// A4: the uses that say the form.
+pub const FORM_USES: u8 = 1;
+
+/// A5: the extents that have the sector.
+pub const SECTOR_EXTENTS: u8 = 0;
+/// A5: the extents of file data that have it.
+pub const SECTOR_DATA: u8 = 1;
+/// A5: its checksums.
+pub const SECTOR_SUMS: u8 = 2;
+/// A5: the ranges of files that show it and want a checksum.
+pub const SECTOR_SHOWN: u8 = 3;
+
+/// A6: the items of the group.
+pub const GROUP_ITEMS: u8 = 0;
+/// A6: the chunks of the group.
+pub const GROUP_CHUNKS: u8 = 1;
+/// A6: the bytes that the group says it uses.
+pub const GROUP_USED: u8 = 2;
+/// A6: the bytes that its extents take.
+pub const GROUP_TAKEN: u8 = 3;
+
+/// A7: the extents in a group of another class.
+pub const OTHER_CLASS: u8 = 0;
+
+/// A8: the extents outside every chunk.
+pub const OUTSIDE_CHUNKS: u8 = 0;
+
+/// A9: the items of the inode.
+pub const INODE_ITEMS: u8 = 0;
+/// A9: what else is of the inode.
+pub const INODE_OTHERS: u8 = 1;
+/// A9: the links that its item says.
+pub const INODE_LINKS: u8 = 2;
+/// A9: its names.
+pub const INODE_NAMES: u8 = 3;
+/// A9: its orphan items.
+pub const INODE_ORPHANS: u8 = 4;
+/// A9: its size as a directory.
+pub const DIR_SIZE: u8 = 5;
+/// A9: the lengths of the names in it as a directory.
+pub const DIR_NAMES: u8 = 6;
+/// A9: the bytes that its item says its data takes.
+pub const FILE_BYTES: u8 = 7;
+/// A9: the bytes of the ranges of its data.
+pub const FILE_RANGES: u8 = 8;
+
+/// A10: the entries that say the type.
+pub const TYPE_ENTRIES: u8 = 0;
+/// A10: the items that say the type.
+pub const TYPE_ITEMS: u8 = 1;
+
+/// A11: the entries of the name by its hash.
+pub const ENTRIES_BY_HASH: u8 = 0;
+/// A11: the entries of the name by its index.
+pub const ENTRIES_BY_INDEX: u8 = 1;
+
+/// A12: the entries of the directory that are the link.
+pub const LINK_ENTRIES: u8 = 0;
+/// A12: the names of the inode that are the link.
+pub const LINK_NAMES: u8 = 1;
+
+/// A13: the names of the subvolume in the root tree.
+pub const SUBVOLUME_REFS: u8 = 0;
+/// A13: its entries in the directory.
+pub const SUBVOLUME_ENTRIES: u8 = 1;
+
+/// A14: the names from the parent.
+pub const FROM_PARENT: u8 = 0;
+/// A14: the names from the child.
+pub const FROM_CHILD: u8 = 1;
+
+/// A15: the stripes of the chunk.
+pub const CHUNK_STRIPES: u8 = 0;
+/// A15: the ranges of the device.
+pub const DEVICE_RANGES: u8 = 1;
+
+/// A16: the bytes that the superblock says are used.
+pub const BYTES_SAID: u8 = 0;
+/// A16: the bytes that the groups use.
+pub const BYTES_IN_GROUPS: u8 = 1;
+
+/// A17: the references that the subvolume's item says.
+pub const ROOT_REFS_SAID: u8 = 0;
+/// A17: the references that there are.
+pub const ROOT_REFS_FOUND: u8 = 1;
+
+/// A18: the bytes that the device says are taken.
+pub const DEVICE_SAID: u8 = 0;
+/// A18: the bytes of its ranges.
+pub const DEVICE_TAKEN: u8 = 1;
+
+// ---- what accounts are made of
 
 // The key of three numbers.
 fn key_by(objectid: u64, kind: u8, offset: u64) -> Key
@@ -64,7 +211,7 @@ impl Account {
     {
         plain(
             alloc,
-            kind::BLOCK_REF,
+            BLOCK_REF,
             root,
             address,
             key_by(address, TREE_BLOCK_REF, root),
@@ -78,7 +225,7 @@ impl Account {
     {
         plain(
             alloc,
-            kind::BLOCK_REF,
+            BLOCK_REF,
             0,
             address,
             key_by(address, SHARED_BLOCK_REF, parent),
@@ -93,7 +240,7 @@ impl Account {
     {
         plain(
             alloc,
-            kind::DATA_REF,
+            DATA_REF,
             root,
             address,
             key_by(ino, EXTENT_DATA_REF, origin),
@@ -107,7 +254,7 @@ impl Account {
     {
         plain(
             alloc,
-            kind::DATA_REF,
+            DATA_REF,
             0,
             address,
             key_by(parent, SHARED_DATA_REF, 0),
@@ -119,28 +266,21 @@ impl Account {
     pub fn extent(alloc: Global, address: u64) -> Account
         ensures { result ≡ kinds.extent address }
     {
-        plain(alloc, kind::EXTENT, 2, address, Key::none(), 0)
+        plain(alloc, EXTENT, 2, address, Key::none(), 0)
     }
 
     /// A4: the form of the extent at a logical address: of kind 168 its length in bytes, of kind 169 its level.
     pub fn extent_form(alloc: Global, address: u64, kind: u8, form: u64) -> Account
         ensures { result ≡ kinds.extent_form address kind form }
     {
-        plain(
-            alloc,
-            kind::EXTENT_FORM,
-            2,
-            address,
-            key_by(0, kind, form),
-            0,
-        )
+        plain(alloc, EXTENT_FORM, 2, address, key_by(0, kind, form), 0)
     }
 
     /// A5: the sector at a logical address.
     pub fn sector(alloc: Global, address: u64) -> Account
         ensures { result ≡ kinds.sector address }
     {
-        plain(alloc, kind::SECTOR, 0, address, Key::none(), 0)
+        plain(alloc, SECTOR, 0, address, Key::none(), 0)
     }
 
     /// A6: the block group, and the chunk, from a logical address on with a length in bytes and a type.
@@ -149,7 +289,7 @@ impl Account {
     {
         plain(
             alloc,
-            kind::GROUP,
+            GROUP,
             0,
             0,
             key_by(start, BLOCK_GROUP_ITEM, length),
@@ -168,21 +308,21 @@ impl Account {
     pub fn group_class(alloc: Global, address: u64) -> Account
         ensures { result ≡ kinds.group_class address }
     {
-        plain(alloc, kind::GROUP_CLASS, 2, address, Key::none(), 0)
+        plain(alloc, GROUP_CLASS, 2, address, Key::none(), 0)
     }
 
     /// A8: the extent at a logical address, outside every chunk.
     pub fn outside(alloc: Global, address: u64) -> Account
         ensures { result ≡ kinds.outside address }
     {
-        plain(alloc, kind::OUTSIDE, 2, address, Key::none(), 0)
+        plain(alloc, OUTSIDE, 2, address, Key::none(), 0)
     }
 
     /// A9: an inode of a tree.
     pub fn inode(alloc: Global, tree: u64, ino: u64) -> Account
         ensures { result ≡ kinds.inode tree ino }
     {
-        plain(alloc, kind::INODE, tree, 0, key_by(ino, INODE_ITEM, 0), 0)
+        plain(alloc, INODE, tree, 0, key_by(ino, INODE_ITEM, 0), 0)
     }
 
     /// A10: a type of an inode, 1 regular file to 7 symbolic link.
@@ -191,7 +331,7 @@ impl Account {
     {
         plain(
             alloc,
-            kind::INODE_TYPE,
+            INODE_TYPE,
             tree,
             0,
             key_by(ino, INODE_ITEM, 0),
@@ -216,7 +356,7 @@ impl Account {
         tail.push(sort)?;
         tail.push(location.kind)?;
         Ok(Account {
-            kind: kind::NAME_ENTRY,
+            kind: NAME_ENTRY,
             tree,
             block: 0,
             key: key_by(dir, DIR_ITEM, u64::from(hash)),
@@ -236,14 +376,7 @@ impl Account {
     ) -> Result<Account, NoMemory>
         ensures { IfOk result (λ account. account ≡ kinds.link tree ino dir index name.now) }
     {
-        named(
-            alloc,
-            kind::LINK,
-            tree,
-            key_by(ino, INODE_REF, dir),
-            index,
-            name,
-        )
+        named(alloc, LINK, tree, key_by(ino, INODE_REF, dir), index, name)
     }
 
     /// A13: the name of the subvolume `child`, at an index of a directory of the tree `parent`.
@@ -260,7 +393,7 @@ impl Account {
     {
         named(
             alloc,
-            kind::SUBVOLUME_ENTRY,
+            SUBVOLUME_ENTRY,
             parent,
             key_by(child, ROOT_REF, dir),
             index,
@@ -282,7 +415,7 @@ impl Account {
     {
         named(
             alloc,
-            kind::SUBVOLUME_PAIR,
+            SUBVOLUME_PAIR,
             parent,
             key_by(child, ROOT_BACKREF, dir),
             index,
@@ -296,7 +429,7 @@ impl Account {
     {
         plain(
             alloc,
-            kind::STRIPE,
+            STRIPE,
             4,
             start,
             key_by(devid, DEV_EXTENT, physical),
@@ -308,20 +441,20 @@ impl Account {
     pub fn bytes_used(alloc: Global) -> Account
         ensures { result ≡ kinds.bytes_used }
     {
-        plain(alloc, kind::BYTES_USED, 0, 0, Key::none(), 0)
+        plain(alloc, BYTES_USED, 0, 0, Key::none(), 0)
     }
 
     /// A17: the references to a subvolume.
     pub fn subvolume(alloc: Global, id: u64) -> Account
         ensures { result ≡ kinds.subvolume id }
     {
-        plain(alloc, kind::SUBVOLUME, 1, 0, key_by(id, ROOT_ITEM, 0), 0)
+        plain(alloc, SUBVOLUME, 1, 0, key_by(id, ROOT_ITEM, 0), 0)
     }
 
     /// A18: the bytes of a device that its ranges take.
     pub fn device(alloc: Global, devid: u64) -> Account
         ensures { result ≡ kinds.device devid }
     {
-        plain(alloc, kind::DEVICE, 3, 0, key_by(1, DEV_ITEM, devid), 0)
+        plain(alloc, DEVICE, 3, 0, key_by(1, DEV_ITEM, devid), 0)
     }
 }

@@ -3,12 +3,10 @@
 
 mod account;
 mod context;
-pub mod kind;
-mod kinds;
+pub mod kinds;
 mod laws;
 mod name;
 mod postings;
-pub mod sum;
 mod tally;
 mod totals;
 mod user;

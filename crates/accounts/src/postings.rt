@@ -6,7 +6,7 @@ ghost use Rattle.accounts.specs.Posts.{Done, Passes, Posts};
 ghost use Rattle.accounts.specs.PostsLaws.{posts_pass};
 ghost use Rattle.accounts.specs.Taken.{IsLastTaken};
 
-use crate::sum::{
+use crate::kinds::{
     EXTENT_ITEMS, EXTENT_REFS_FOUND, EXTENT_REFS_SAID, FORM_ITEMS, FORM_USES, INODE_OTHERS,
     REFERENCES, TYPE_ENTRIES, TYPE_ITEMS, USES,
 };

@@ -2,10 +2,11 @@
 
 ghost use Rattle.std.specs.Prelude.{◌≡◌, ◌&&◌, ◌==◌, ℕ, ◌<◌, OnErr, OnOk};
 ghost use Rattle.accounts.specs.Sums.{sum_in};
-ghost use Rattle.accounts.specs.Tally.{balances, difference, kept, with_amount};
-ghost use Rattle.accounts.specs.Broken.{broken_finding, extent_keeps, group_keeps, inode_keeps, is_broken, sector_keeps};
+ghost use Rattle.accounts.specs.Tally.{difference, kept, with_amount};
+ghost use Rattle.accounts.specs.Broken.{broken_finding, is_broken};
+ghost use Rattle.accounts.specs.Kinds.{balances, extent_keeps, group_keeps, inode_keeps, sector_keeps};
 
-use crate::sum::{
+use crate::kinds::{
     BYTES_IN_GROUPS, BYTES_SAID, CHUNK_STRIPES, DEVICE_RANGES, DEVICE_SAID, DEVICE_TAKEN,
     DIR_NAMES, DIR_SIZE, ENTRIES_BY_HASH, ENTRIES_BY_INDEX, EXTENT_ITEMS, EXTENT_REFS_FOUND,
     EXTENT_REFS_SAID, FILE_BYTES, FILE_RANGES, FORM_ITEMS, FORM_USES, FROM_CHILD, FROM_PARENT,
@@ -14,7 +15,7 @@ use crate::sum::{
     ROOT_REFS_FOUND, ROOT_REFS_SAID, SECTOR_DATA, SECTOR_EXTENTS, SECTOR_SHOWN, SECTOR_SUMS,
     SUBVOLUME_ENTRIES, SUBVOLUME_REFS, TYPE_ENTRIES, TYPE_ITEMS, USES,
 };
-use crate::{Account, kind};
+use crate::{Account, kinds};
 use verdict::{Family, Finding, NoMemory, Rule};
 
 /// The nine sums of an account.
@@ -85,15 +86,15 @@ pub fn balances(kind: u8) -> bool
 {
     matches!(
         kind,
-        kind::BLOCK_REF
-            | kind::DATA_REF
-            | kind::NAME_ENTRY
-            | kind::LINK
-            | kind::SUBVOLUME_PAIR
-            | kind::STRIPE
-            | kind::BYTES_USED
-            | kind::SUBVOLUME
-            | kind::DEVICE
+        kinds::BLOCK_REF
+            | kinds::DATA_REF
+            | kinds::NAME_ENTRY
+            | kinds::LINK
+            | kinds::SUBVOLUME_PAIR
+            | kinds::STRIPE
+            | kinds::BYTES_USED
+            | kinds::SUBVOLUME
+            | kinds::DEVICE
     )
 }
 
@@ -111,24 +112,24 @@ pub fn broken(account: &Account, totals: &Totals) -> bool
 {
     let f = totals;
     !match account.kind {
-        kind::BLOCK_REF => f.at(REFERENCES) == f.at(USES),
-        kind::DATA_REF => f.at(REFERENCES) == f.at(USES),
-        kind::EXTENT => extent_keeps(f),
-        kind::EXTENT_FORM => f.at(FORM_USES) == 0 || f.at(FORM_ITEMS) >= 1,
-        kind::SECTOR => sector_keeps(f),
-        kind::GROUP => group_keeps(f),
-        kind::GROUP_CLASS => f.at(OTHER_CLASS) == 0,
-        kind::OUTSIDE => f.at(OUTSIDE_CHUNKS) == 0,
-        kind::INODE => inode_keeps(f),
-        kind::INODE_TYPE => f.at(TYPE_ENTRIES) == 0 || f.at(TYPE_ITEMS) == 1,
-        kind::NAME_ENTRY => f.at(ENTRIES_BY_HASH) == f.at(ENTRIES_BY_INDEX),
-        kind::LINK => f.at(LINK_ENTRIES) == f.at(LINK_NAMES),
-        kind::SUBVOLUME_ENTRY => f.at(SUBVOLUME_REFS) <= f.at(SUBVOLUME_ENTRIES),
-        kind::SUBVOLUME_PAIR => f.at(FROM_PARENT) == f.at(FROM_CHILD),
-        kind::STRIPE => f.at(CHUNK_STRIPES) == f.at(DEVICE_RANGES),
-        kind::BYTES_USED => f.at(BYTES_SAID) == f.at(BYTES_IN_GROUPS),
-        kind::SUBVOLUME => f.at(ROOT_REFS_SAID) == f.at(ROOT_REFS_FOUND),
-        kind::DEVICE => f.at(DEVICE_SAID) == f.at(DEVICE_TAKEN),
+        kinds::BLOCK_REF => f.at(REFERENCES) == f.at(USES),
+        kinds::DATA_REF => f.at(REFERENCES) == f.at(USES),
+        kinds::EXTENT => extent_keeps(f),
+        kinds::EXTENT_FORM => f.at(FORM_USES) == 0 || f.at(FORM_ITEMS) >= 1,
+        kinds::SECTOR => sector_keeps(f),
+        kinds::GROUP => group_keeps(f),
+        kinds::GROUP_CLASS => f.at(OTHER_CLASS) == 0,
+        kinds::OUTSIDE => f.at(OUTSIDE_CHUNKS) == 0,
+        kinds::INODE => inode_keeps(f),
+        kinds::INODE_TYPE => f.at(TYPE_ENTRIES) == 0 || f.at(TYPE_ITEMS) == 1,
+        kinds::NAME_ENTRY => f.at(ENTRIES_BY_HASH) == f.at(ENTRIES_BY_INDEX),
+        kinds::LINK => f.at(LINK_ENTRIES) == f.at(LINK_NAMES),
+        kinds::SUBVOLUME_ENTRY => f.at(SUBVOLUME_REFS) <= f.at(SUBVOLUME_ENTRIES),
+        kinds::SUBVOLUME_PAIR => f.at(FROM_PARENT) == f.at(FROM_CHILD),
+        kinds::STRIPE => f.at(CHUNK_STRIPES) == f.at(DEVICE_RANGES),
+        kinds::BYTES_USED => f.at(BYTES_SAID) == f.at(BYTES_IN_GROUPS),
+        kinds::SUBVOLUME => f.at(ROOT_REFS_SAID) == f.at(ROOT_REFS_FOUND),
+        kinds::DEVICE => f.at(DEVICE_SAID) == f.at(DEVICE_TAKEN),
         _ => true,
     }
 }

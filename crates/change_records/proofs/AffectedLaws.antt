@@ -21,7 +21,7 @@ use Rattle.fs_items.specs.declared.file_extent.FileExtent.{FileExtent}
 use Rattle.live_index.specs.Pairs.{Pairs}
 use Rattle.records.specs.declared.rec.ItemAt.{ItemAt}
 use Rattle.records.specs.Part.{Located, Part}
-use Rattle.records.specs.Part.Part.{RootPart, LinkPart, DevicePart, ChunkPart, DevExtentPart, ExtentPart, KeyedPart, GroupPart, InodePart, NamesPart, XattrPart, OrphanPart, EntriesPart, FileExtentPart, SumsPart, UnreadPart, SuperPart, BlockPart}
+use Rattle.records.specs.Part.Part.{ExtentPart, FileExtentPart, SumsPart}
 use Rattle.records.specs.SpacePostings.{is_data}
 use Rattle.span_index.specs.Spans.{Table}
 use Rattle.span_index.specs.declared.span.Span.{Span}
@@ -107,21 +107,7 @@ name_to n pairs before after one (ExtentPart item) at span is lawful differs nam
     subst (λ s. SpanNames pairs s at) (one_span (extent_span n item) span is) (extent_to n pairs one item at (is_data item) refl lawful names)
 name_to n pairs before after one (FileExtentPart range) at span is lawful differs names = written_to pairs one range at span (is_written range) refl is lawful names
 name_to n pairs before after one (SumsPart item) at span is lawful differs names = absurd (no_differs before after (sums_span item) span (one_span (sums_span item) span is) (λ h. h) differs)
-name_to n pairs before after one (RootPart x) at span is lawful differs names = absurd (cc)
-name_to n pairs before after one (LinkPart x) at span is lawful differs names = absurd (cc)
-name_to n pairs before after one (DevicePart x) at span is lawful differs names = absurd (cc)
-name_to n pairs before after one (ChunkPart x) at span is lawful differs names = absurd (cc)
-name_to n pairs before after one (DevExtentPart x) at span is lawful differs names = absurd (cc)
-name_to n pairs before after one (KeyedPart x) at span is lawful differs names = absurd (cc)
-name_to n pairs before after one (GroupPart x) at span is lawful differs names = absurd (cc)
-name_to n pairs before after one (InodePart x) at span is lawful differs names = absurd (cc)
-name_to n pairs before after one (NamesPart x) at span is lawful differs names = absurd (cc)
-name_to n pairs before after one (XattrPart x) at span is lawful differs names = absurd (cc)
-name_to n pairs before after one (OrphanPart x) at span is lawful differs names = absurd (cc)
-name_to n pairs before after one (EntriesPart x) at span is lawful differs names = absurd (cc)
-name_to n pairs before after one (UnreadPart x) at span is lawful differs names = absurd (cc)
-name_to n pairs before after one (SuperPart x) at span is lawful differs names = absurd (cc)
-name_to n pairs before after one (BlockPart x y) at span is lawful differs names = absurd (cc)
+name_to n pairs before after one other at span is lawful differs names = absurd (cc)
 
 name_back : (n : ℕ) (pairs : Pairs) (before after : Context) (one : Located) (part : Part) (at : ItemRef) (span : Span) → span_in n one.tree part ≡ Some span → IsLawfulIn n one part
     → SpanDiffers before after span → SpanNames pairs span at → NamesIn pairs one part at
@@ -129,41 +115,11 @@ name_back n pairs before after one (ExtentPart item) at span is lawful differs n
     extent_back n pairs one item at (is_data item) refl lawful (subst (λ s. SpanNames pairs s at) (sym (one_span (extent_span n item) span is)) names)
 name_back n pairs before after one (FileExtentPart range) at span is lawful differs names = written_back pairs one range at span (is_written range) refl is lawful names
 name_back n pairs before after one (SumsPart item) at span is lawful differs names = absurd (no_differs before after (sums_span item) span (one_span (sums_span item) span is) (λ h. h) differs)
-name_back n pairs before after one (RootPart x) at span is lawful differs names = absurd (cc)
-name_back n pairs before after one (LinkPart x) at span is lawful differs names = absurd (cc)
-name_back n pairs before after one (DevicePart x) at span is lawful differs names = absurd (cc)
-name_back n pairs before after one (ChunkPart x) at span is lawful differs names = absurd (cc)
-name_back n pairs before after one (DevExtentPart x) at span is lawful differs names = absurd (cc)
-name_back n pairs before after one (KeyedPart x) at span is lawful differs names = absurd (cc)
-name_back n pairs before after one (GroupPart x) at span is lawful differs names = absurd (cc)
-name_back n pairs before after one (InodePart x) at span is lawful differs names = absurd (cc)
-name_back n pairs before after one (NamesPart x) at span is lawful differs names = absurd (cc)
-name_back n pairs before after one (XattrPart x) at span is lawful differs names = absurd (cc)
-name_back n pairs before after one (OrphanPart x) at span is lawful differs names = absurd (cc)
-name_back n pairs before after one (EntriesPart x) at span is lawful differs names = absurd (cc)
-name_back n pairs before after one (UnreadPart x) at span is lawful differs names = absurd (cc)
-name_back n pairs before after one (SuperPart x) at span is lawful differs names = absurd (cc)
-name_back n pairs before after one (BlockPart x y) at span is lawful differs names = absurd (cc)
+name_back n pairs before after one other at span is lawful differs names = absurd (cc)
 
 whole_in : (n : ℕ) (one : Located) (part : Part) → IsLawfulIn n one part → IsWhole n part
 whole_in n one (ExtentPart item) lawful = lawful.whole
-whole_in n one (FileExtentPart x) lawful = tt
-whole_in n one (SumsPart x) lawful = tt
-whole_in n one (RootPart x) lawful = tt
-whole_in n one (LinkPart x) lawful = tt
-whole_in n one (DevicePart x) lawful = tt
-whole_in n one (ChunkPart x) lawful = tt
-whole_in n one (DevExtentPart x) lawful = tt
-whole_in n one (KeyedPart x) lawful = tt
-whole_in n one (GroupPart x) lawful = tt
-whole_in n one (InodePart x) lawful = tt
-whole_in n one (NamesPart x) lawful = tt
-whole_in n one (XattrPart x) lawful = tt
-whole_in n one (OrphanPart x) lawful = tt
-whole_in n one (EntriesPart x) lawful = tt
-whole_in n one (UnreadPart x) lawful = tt
-whole_in n one (SuperPart x) lawful = tt
-whole_in n one (BlockPart x y) lawful = tt
+whole_in n one other lawful = tt
 
 -- ---- the affected items
 

@@ -12,7 +12,7 @@ use Rattle.change_records.proofs.PostingLaws.{one_span}
 use Rattle.verdict.specs.declared.kinds.TheConstants.{EXTENT_DATA}
 use Rattle.fs_items.specs.declared.file_extent.FileExtent.{FileExtent}
 use Rattle.records.specs.Part.{Located, Part}
-use Rattle.records.specs.Part.Part.{RootPart, LinkPart, DevicePart, ChunkPart, DevExtentPart, ExtentPart, KeyedPart, GroupPart, InodePart, NamesPart, XattrPart, OrphanPart, EntriesPart, FileExtentPart, SumsPart, UnreadPart, SuperPart, BlockPart}
+use Rattle.records.specs.Part.Part.{ExtentPart, FileExtentPart, SumsPart}
 use Rattle.records.specs.SpacePostings.{is_data}
 use Rattle.span_index.specs.declared.span.Span.{Span}
 use Rattle.span_index.specs.declared.span.SpanSort.TheVariants.{Owned, Shown}
@@ -136,21 +136,7 @@ span_lawful n one tree (ExtentPart item) span is lawful =
     subst (IsLawfulSpan n) (one_span (extent_span n item) span is) (extent_lawful n (is_data item) item.key.objectid item.key.offset lawful.whole lawful.some lawful.fits)
 span_lawful n one tree (FileExtentPart range) span is lawful = written_lawful n one tree range span (is_written range) refl is lawful
 span_lawful n one tree (SumsPart item) span is lawful = subst (IsLawfulSpan n) (one_span (sums_span item) span is) tt
-span_lawful n one tree (RootPart x) span is lawful = absurd (cc)
-span_lawful n one tree (LinkPart x) span is lawful = absurd (cc)
-span_lawful n one tree (DevicePart x) span is lawful = absurd (cc)
-span_lawful n one tree (ChunkPart x) span is lawful = absurd (cc)
-span_lawful n one tree (DevExtentPart x) span is lawful = absurd (cc)
-span_lawful n one tree (KeyedPart x) span is lawful = absurd (cc)
-span_lawful n one tree (GroupPart x) span is lawful = absurd (cc)
-span_lawful n one tree (InodePart x) span is lawful = absurd (cc)
-span_lawful n one tree (NamesPart x) span is lawful = absurd (cc)
-span_lawful n one tree (XattrPart x) span is lawful = absurd (cc)
-span_lawful n one tree (OrphanPart x) span is lawful = absurd (cc)
-span_lawful n one tree (EntriesPart x) span is lawful = absurd (cc)
-span_lawful n one tree (UnreadPart x) span is lawful = absurd (cc)
-span_lawful n one tree (SuperPart x) span is lawful = absurd (cc)
-span_lawful n one tree (BlockPart x y) span is lawful = absurd (cc)
+span_lawful n one tree other span is lawful = absurd (cc)
 
 pub are_lawful : (n : ℕ) (table : Table) (items : List Located) → AreItemsOf n table items → AreLawful n table
 are_lawful n table items are span stands =
@@ -195,21 +181,7 @@ shown_item n one (FileExtentPart range) tree ino offset span is lawful shown =
     shown_written one range tree ino offset span (is_written range) refl is lawful shown
 shown_item n one (SumsPart item) tree ino offset span is lawful shown =
     absurd (never_shown tree ino offset (sums_span item) span (one_span (sums_span item) span is) (λ h. absurd (let no_sort : false ≡ true = h.0 in cc)) shown)
-shown_item n one (RootPart x) tree ino offset span is lawful shown = absurd (cc)
-shown_item n one (LinkPart x) tree ino offset span is lawful shown = absurd (cc)
-shown_item n one (DevicePart x) tree ino offset span is lawful shown = absurd (cc)
-shown_item n one (ChunkPart x) tree ino offset span is lawful shown = absurd (cc)
-shown_item n one (DevExtentPart x) tree ino offset span is lawful shown = absurd (cc)
-shown_item n one (KeyedPart x) tree ino offset span is lawful shown = absurd (cc)
-shown_item n one (GroupPart x) tree ino offset span is lawful shown = absurd (cc)
-shown_item n one (InodePart x) tree ino offset span is lawful shown = absurd (cc)
-shown_item n one (NamesPart x) tree ino offset span is lawful shown = absurd (cc)
-shown_item n one (XattrPart x) tree ino offset span is lawful shown = absurd (cc)
-shown_item n one (OrphanPart x) tree ino offset span is lawful shown = absurd (cc)
-shown_item n one (EntriesPart x) tree ino offset span is lawful shown = absurd (cc)
-shown_item n one (UnreadPart x) tree ino offset span is lawful shown = absurd (cc)
-shown_item n one (SuperPart x) tree ino offset span is lawful shown = absurd (cc)
-shown_item n one (BlockPart x y) tree ino offset span is lawful shown = absurd (cc)
+shown_item n one other tree ino offset span is lawful shown = absurd (cc)
 
 pub are_alone : (n : ℕ) (table : Table) (items : List Located) → AreItemsOf n table items → AreAlone table
 are_alone n table items are tree ino offset span other stands also shown too =

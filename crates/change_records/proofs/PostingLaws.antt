@@ -11,9 +11,8 @@ use Rattle.accounts.specs.declared.postings.Posting.{Posting}
 use Rattle.accounts.specs.Context.{Context, home_of}
 use Rattle.accounts.specs.Kinds.{outside, sector}
 use Rattle.fs_items.specs.declared.file_extent.FileExtent.{FileExtent}
-use Rattle.records.specs.Post.{to}
 use Rattle.records.specs.Part.{Located, Part}
-use Rattle.records.specs.Part.Part.{RootPart, LinkPart, DevicePart, ChunkPart, DevExtentPart, ExtentPart, KeyedPart, GroupPart, InodePart, NamesPart, XattrPart, OrphanPart, EntriesPart, FileExtentPart, SumsPart, UnreadPart, SuperPart, BlockPart}
+use Rattle.records.specs.Part.Part.{ExtentPart, FileExtentPart, SumsPart}
 use Rattle.records.specs.ExtentPostings.{extent_postings}
 use Rattle.records.specs.InodePostings.{inode_postings}
 use Rattle.records.specs.DirPostings.{dir_postings}
@@ -23,6 +22,7 @@ use Rattle.span_index.specs.declared.span.Span.{Span}
 use Rattle.change_records.specs.Affected.{context_with}
 use Rattle.change_records.specs.Search.{SpanDiffers, owned_bytes}
 use Rattle.change_records.specs.Spans.{extent_bytes, extent_span, is_written, shown_span, span_in, span_of, sums_span}
+use Rattle.accounts.specs.Lent.{to}
 
 -- ---- what rests on the context
 
@@ -167,21 +167,7 @@ part_differs olds news n free free' tree (ExtentPart item) span is whole differ 
 part_differs olds news n free free' tree (FileExtentPart range) span is whole differ =
     range_differs olds news n free free' tree range span (is_written range) refl is differ
 part_differs olds news n free free' tree (SumsPart item) span is whole differ = absurd (differ refl)
-part_differs olds news n free free' tree (RootPart x) span is whole differ = absurd (cc)
-part_differs olds news n free free' tree (LinkPart x) span is whole differ = absurd (cc)
-part_differs olds news n free free' tree (DevicePart x) span is whole differ = absurd (cc)
-part_differs olds news n free free' tree (ChunkPart x) span is whole differ = absurd (cc)
-part_differs olds news n free free' tree (DevExtentPart x) span is whole differ = absurd (cc)
-part_differs olds news n free free' tree (KeyedPart x) span is whole differ = absurd (cc)
-part_differs olds news n free free' tree (GroupPart x) span is whole differ = absurd (cc)
-part_differs olds news n free free' tree (InodePart x) span is whole differ = absurd (cc)
-part_differs olds news n free free' tree (NamesPart x) span is whole differ = absurd (cc)
-part_differs olds news n free free' tree (XattrPart x) span is whole differ = absurd (cc)
-part_differs olds news n free free' tree (OrphanPart x) span is whole differ = absurd (cc)
-part_differs olds news n free free' tree (EntriesPart x) span is whole differ = absurd (cc)
-part_differs olds news n free free' tree (UnreadPart x) span is whole differ = absurd (cc)
-part_differs olds news n free free' tree (SuperPart x) span is whole differ = absurd (cc)
-part_differs olds news n free free' tree (BlockPart x y) span is whole differ = absurd (cc)
+part_differs olds news n free free' tree other span is whole differ = absurd (cc)
 
 -- an item that posts otherwise has a span that differs
 pub item_differs : (olds news : List Chunk) (n : ℕ) (free free' : ℕ → ℕ → Bool) (one : Located) (span : Span) → span_of n one ≡ Some span → IsWhole n one.part
@@ -213,21 +199,7 @@ part_same olds news n free free' tree (FileExtentPart range) span is whole diffe
     range_same olds news n free free' tree range span (is_written range) refl is differ same
 part_same olds news n free free' tree (SumsPart item) span is whole differ same =
     absurd (subst (SpanDiffers (context_with olds n free) (context_with news n free')) (sym (one_span (sums_span item) span is)) differ)
-part_same olds news n free free' tree (RootPart x) span is whole differ same = absurd (cc)
-part_same olds news n free free' tree (LinkPart x) span is whole differ same = absurd (cc)
-part_same olds news n free free' tree (DevicePart x) span is whole differ same = absurd (cc)
-part_same olds news n free free' tree (ChunkPart x) span is whole differ same = absurd (cc)
-part_same olds news n free free' tree (DevExtentPart x) span is whole differ same = absurd (cc)
-part_same olds news n free free' tree (KeyedPart x) span is whole differ same = absurd (cc)
-part_same olds news n free free' tree (GroupPart x) span is whole differ same = absurd (cc)
-part_same olds news n free free' tree (InodePart x) span is whole differ same = absurd (cc)
-part_same olds news n free free' tree (NamesPart x) span is whole differ same = absurd (cc)
-part_same olds news n free free' tree (XattrPart x) span is whole differ same = absurd (cc)
-part_same olds news n free free' tree (OrphanPart x) span is whole differ same = absurd (cc)
-part_same olds news n free free' tree (EntriesPart x) span is whole differ same = absurd (cc)
-part_same olds news n free free' tree (UnreadPart x) span is whole differ same = absurd (cc)
-part_same olds news n free free' tree (SuperPart x) span is whole differ same = absurd (cc)
-part_same olds news n free free' tree (BlockPart x y) span is whole differ same = absurd (cc)
+part_same olds news n free free' tree other span is whole differ same = absurd (cc)
 
 -- an item whose span differs posts otherwise
 pub span_differs : (olds news : List Chunk) (n : ℕ) (free free' : ℕ → ℕ → Bool) (one : Located) (span : Span) → span_of n one ≡ Some span → IsWhole n one.part
@@ -248,22 +220,7 @@ part_plain : (olds news : List Chunk) (n : ℕ) (free free' : ℕ → ℕ → Bo
 unfolding space_postings
 part_plain olds news n free free' tree (ExtentPart item) is = absurd (cc)
 part_plain olds news n free free' tree (FileExtentPart range) is = range_plain olds news n free free' tree range (is_written range) refl is
-part_plain olds news n free free' tree (SumsPart x) is = refl
-part_plain olds news n free free' tree (RootPart x) is = refl
-part_plain olds news n free free' tree (LinkPart x) is = refl
-part_plain olds news n free free' tree (DevicePart x) is = refl
-part_plain olds news n free free' tree (ChunkPart x) is = refl
-part_plain olds news n free free' tree (DevExtentPart x) is = refl
-part_plain olds news n free free' tree (KeyedPart x) is = refl
-part_plain olds news n free free' tree (GroupPart x) is = refl
-part_plain olds news n free free' tree (InodePart x) is = refl
-part_plain olds news n free free' tree (NamesPart x) is = refl
-part_plain olds news n free free' tree (XattrPart x) is = refl
-part_plain olds news n free free' tree (OrphanPart x) is = refl
-part_plain olds news n free free' tree (EntriesPart x) is = refl
-part_plain olds news n free free' tree (UnreadPart x) is = refl
-part_plain olds news n free free' tree (SuperPart x) is = refl
-part_plain olds news n free free' tree (BlockPart x y) is = refl
+part_plain olds news n free free' tree other is = refl
 
 -- an item without a span posts the same
 pub item_plain : (olds news : List Chunk) (n : ℕ) (free free' : ℕ → ℕ → Bool) (one : Located) → span_of n one ≡ None

@@ -4,7 +4,6 @@ ghost use Rattle.std.specs.Prelude.{◌≡◌, [], ◌∷◌, ◌++◌, IfOk, On
 ghost use Rattle.change_records.specs.Changes.{Ascend, AreChanges, is_before};
 ghost use Rattle.change_records.specs.Next.{IsNext};
 
-use crate::same::says_the_same;
 use records::ItemAt;
 use std::alloc::Global;
 use verdict::NoMemory;
@@ -60,7 +59,7 @@ pub fn pair(alloc: Global, old: &[ItemAt], new: &[ItemAt]) -> Result<Vec<ItemCha
                 j += 1;
             }
             Next::Both => {
-                if !says_the_same(&old[i].part, &new[j].part) {
+                if !old[i].part.says_the_same(&new[j].part) {
                     let (old, new) = (i as u64, j as u64);
                     push(&mut changes, ItemChange::Altered { old, new })?;
                 }

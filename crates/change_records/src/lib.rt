@@ -9,7 +9,6 @@ mod kept;
 mod kept_items;
 mod made;
 mod reached;
-mod same;
 mod search;
 
 pub use changes::{ItemChange, pair};

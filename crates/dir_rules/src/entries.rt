@@ -2,13 +2,13 @@
 
 ghost use Rattle.std.specs.Prelude.{◌≡◌, ◌==◌, [], ◌∷◌, flat_map, if◌then◌else◌};
 ghost use Rattle.accounts.specs.Kinds as kinds;
-ghost use Rattle.accounts.specs.declared.sum.TheConstants.{LINK_ENTRIES, SUBVOLUME_ENTRIES};
+ghost use Rattle.accounts.specs.declared.kinds.TheConstants.{LINK_ENTRIES, SUBVOLUME_ENTRIES};
 ghost use Rattle.fs_items.specs.Lent.{dir_in, entry_fields, inode_ref_in, name_fields};
 ghost use Rattle.records.specs.DirPostings.{dir_entry_postings, entry_posting, indexed_postings, is_root_name, link_postings, names_postings};
-ghost use Rattle.records.specs.Post.{to};
+ghost use Rattle.accounts.specs.Lent.{to};
 
 use crate::way::NameWay;
-use accounts::sum::{
+use accounts::kinds::{
     ENTRIES_BY_HASH, ENTRIES_BY_INDEX, LINK_ENTRIES, LINK_NAMES, SUBVOLUME_ENTRIES,
 };
 use accounts::{Account, NameAccount, Poster, Posting};

@@ -2,13 +2,13 @@
 
 ghost use Rattle.std.specs.Prelude.{◌≡◌, [], ◌∷◌};
 ghost use Rattle.accounts.specs.Kinds as kinds;
-ghost use Rattle.accounts.specs.declared.sum.TheConstants.{FROM_PARENT, ROOT_REFS_FOUND, SUBVOLUME_REFS};
+ghost use Rattle.accounts.specs.declared.kinds.TheConstants.{FROM_PARENT, ROOT_REFS_FOUND, SUBVOLUME_REFS};
 ghost use Rattle.records.specs.DirPostings.{root_link_postings, root_postings};
-ghost use Rattle.records.specs.Post.{to};
 ghost use Rattle.volume_items.specs.RootLinkItems.{link_fields_in};
+ghost use Rattle.accounts.specs.Lent.{to};
 
 use crate::entries::add;
-use accounts::sum::{FROM_CHILD, FROM_PARENT, ROOT_REFS_FOUND, ROOT_REFS_SAID, SUBVOLUME_REFS};
+use accounts::kinds::{FROM_CHILD, FROM_PARENT, ROOT_REFS_FOUND, ROOT_REFS_SAID, SUBVOLUME_REFS};
 use accounts::{Account, Poster};
 use std::alloc::Global;
 use verdict::kinds::ROOT_REF;

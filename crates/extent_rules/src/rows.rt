@@ -3,10 +3,9 @@
 ghost use Rattle.std.specs.Prelude.{◌≡◌, ℕ, [], ◌∷◌, flat_map};
 ghost use Rattle.extent_items.specs.ExtentItems.{extent_fields_in};
 ghost use Rattle.accounts.specs.Kinds.{block_ref, extent_form};
-ghost use Rattle.accounts.specs.Lent.{user_account};
-ghost use Rattle.records.specs.Post.{to};
+ghost use Rattle.accounts.specs.Lent.{user_account, to};
 ghost use Rattle.verdict.specs.declared.kinds.TheConstants.{METADATA_ITEM};
-ghost use Rattle.accounts.specs.declared.sum.TheConstants.{FORM_USES, USES};
+ghost use Rattle.accounts.specs.declared.kinds.TheConstants.{FORM_USES, USES};
 ghost use Rattle.records.specs.Part.{part_of};
 ghost use Rattle.records.specs.ExtentPostings.{extent_item_postings, extent_postings, range_postings, reference_account, reference_postings};
 

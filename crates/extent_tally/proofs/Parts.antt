@@ -5,10 +5,10 @@ use Rattle.std.proofs.Math.Path.{fun_ext}
 use Rattle.std.proofs.lemmas.Bool.{eqb-true}
 use Rattle.accounts.specs.declared.account.Account.{Account}
 use Rattle.accounts.specs.declared.postings.Posting.{Posting}
-use Rattle.accounts.specs.Kinds.{block_ref, data_ref, extent, extent_form}
+use Rattle.accounts.specs.Kinds.{block_ref, data_ref, extent, extent_form, balances}
 use Rattle.accounts.specs.OrderLaws.{account_equiv}
 use Rattle.accounts.specs.Sums.{added, is_same, total_of}
-use Rattle.accounts.specs.Tally.{Sums, balances, extent_class, form_class, kept}
+use Rattle.accounts.specs.Tally.{Sums, extent_class, form_class, kept}
 use Rattle.accounts.proofs.Apart.{more_alike}
 use Rattle.accounts.proofs.Kept.{balanced_kept, total_joined}
 use Rattle.accounts.proofs.Same.{same_account}

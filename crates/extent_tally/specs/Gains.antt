@@ -4,7 +4,7 @@ use Rattle.verdict.specs.declared.key.Key.{Key}
 use Rattle.accounts.specs.declared.account.Account.{Account}
 use Rattle.accounts.specs.declared.postings.Posting.{Posting}
 use Rattle.accounts.specs.Kinds.{extent_form}
-use Rattle.accounts.specs.declared.sum.TheConstants.{USES, FORM_USES}
+use Rattle.accounts.specs.declared.kinds.TheConstants.{USES, FORM_USES}
 use Rattle.accounts.specs.Sums.{total_of}
 use Rattle.accounts.specs.Tally.{Sums, kept}
 use Rattle.accounts.specs.Lent.{to}

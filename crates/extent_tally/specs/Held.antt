@@ -4,8 +4,7 @@ use Rattle.std.specs.List.{sum_by}
 use Rattle.accounts.specs.declared.account.Account.{Account}
 use Rattle.accounts.specs.declared.postings.Posting.{Posting}
 use Rattle.accounts.specs.Kinds.{block_ref, data_ref, extent, extent_form}
-use Rattle.accounts.specs.declared.kind.TheConstants.{BLOCK_REF, EXTENT_FORM}
-use Rattle.accounts.specs.declared.sum.TheConstants.{REFERENCES, USES, EXTENT_ITEMS, EXTENT_REFS_SAID, EXTENT_REFS_FOUND, FORM_ITEMS, FORM_USES}
+use Rattle.accounts.specs.declared.kinds.TheConstants.{BLOCK_REF, EXTENT_FORM, REFERENCES, USES, EXTENT_ITEMS, EXTENT_REFS_SAID, EXTENT_REFS_FOUND, FORM_ITEMS, FORM_USES}
 use Rattle.accounts.specs.Sums.{total_of}
 use Rattle.accounts.specs.Tally.{Sums}
 use Rattle.accounts.specs.Lent.{to}

@@ -3,7 +3,7 @@
 ghost use Rattle.std.specs.Prelude.{◌≡◌, ℕ, ◌+◌, ◌∷◌, [], ◌<◌, ◌≤◌, true, IfSome};
 ghost use Rattle.accounts.specs.Kinds as kinds;
 ghost use Rattle.accounts.specs.Lent.{to, user_account};
-ghost use Rattle.accounts.specs.declared.sum.TheConstants.{EXTENT_REFS_FOUND, REFERENCES};
+ghost use Rattle.accounts.specs.declared.kinds.TheConstants.{EXTENT_REFS_FOUND, REFERENCES};
 ghost use Rattle.extent_tally.specs.Held.{class_sums, user};
 ghost use Rattle.extent_tally.specs.Gains.{Gains, IsOfUser, KeepsAll, new_class, use_postings};
 

@@ -8,12 +8,12 @@ ghost use Rattle.accounts.specs.Broken.{is_broken};
 ghost use Rattle.accounts.specs.Tally.{sums_in, with_postings};
 ghost use Rattle.accounts.specs.Lent as lent;
 ghost use Rattle.accounts.specs.Lent.{extent_triple, reference_pair, to, use_pair};
-ghost use Rattle.accounts.specs.declared.sum.TheConstants.{EXTENT_REFS_FOUND, REFERENCES};
+ghost use Rattle.accounts.specs.declared.kinds.TheConstants.{EXTENT_REFS_FOUND, REFERENCES};
 ghost use Rattle.extent_tally.specs.Held.{class_postings, class_sums, extents_apart, is_of_extents, sums_of, user_account};
 ghost use Rattle.extent_tally.specs.Gains.{AreApart, Gains, IsMore};
 
 use crate::class::{ExtentClass, Who};
-use accounts::sum::{
+use accounts::kinds::{
     EXTENT_ITEMS, EXTENT_REFS_FOUND, EXTENT_REFS_SAID, FORM_ITEMS, FORM_USES, REFERENCES, USES,
 };
 use accounts::{Account, Poster, Posting, Postings, Tally, User};

@@ -2,14 +2,13 @@
 
 ghost use Rattle.std.specs.Prelude.{◌≡◌, [], ◌∷◌, flat_map, length};
 ghost use Rattle.accounts.specs.Kinds as kinds;
-ghost use Rattle.accounts.specs.declared.sum.TheConstants.{INODE_NAMES, INODE_OTHERS};
-ghost use Rattle.records.specs.InodePostings.{data_postings, inode_entry_postings, inode_item_postings, inode_name_postings, size_postings, target_postings, type_of_mode};
-ghost use Rattle.records.specs.Post.{to};
-ghost use Rattle.inode_rules.specs.Own.{own_entry_postings};
+ghost use Rattle.accounts.specs.declared.kinds.TheConstants.{INODE_NAMES, INODE_OTHERS};
+ghost use Rattle.records.specs.InodePostings.{data_postings, inode_entry_postings, inode_item_postings, inode_name_postings, size_postings, target_postings, type_of_mode, own_entry_postings};
 ghost use Rattle.fs_items.specs.Lent.{dir_in, entry_fields, inode_ref_in};
+ghost use Rattle.accounts.specs.Lent.{to};
 
 use accounts::Poster;
-use accounts::sum::{
+use accounts::kinds::{
     DIR_NAMES, DIR_SIZE, FILE_BYTES, FILE_RANGES, INODE_ITEMS, INODE_LINKS, INODE_NAMES,
     INODE_OTHERS,
 };

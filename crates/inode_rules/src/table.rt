@@ -5,7 +5,7 @@ ghost use Rattle.records.specs.InodePostings.{inode_postings};
 ghost use Rattle.records.specs.Part.{part_of};
 
 use crate::rows::{post_entries, post_file_extent, post_inode, post_names, post_own_entries};
-use accounts::sum::{INODE_ORPHANS, INODE_OTHERS};
+use accounts::kinds::{INODE_ORPHANS, INODE_OTHERS};
 use accounts::{Ctx, Poster};
 use records::Rec;
 use std::alloc::Global;

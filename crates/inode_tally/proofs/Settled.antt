@@ -14,8 +14,8 @@ use Rattle.std.proofs.lemmas.Map.Keys.{sorted_head}
 use Rattle.accounts.specs.declared.account.Account.{Account}
 use Rattle.accounts.specs.declared.postings.Posting.{Posting}
 use Rattle.accounts.specs.declared.tally.Tally.{Tally}
-use Rattle.accounts.specs.Broken.{gives, inode_keeps, is_broken}
-use Rattle.accounts.specs.Kinds.{inode, inode_type}
+use Rattle.accounts.specs.Broken.{is_broken}
+use Rattle.accounts.specs.Kinds.{inode, inode_type, gives, inode_keeps}
 use Rattle.accounts.specs.Sums.{is_same, total_of}
 use Rattle.accounts.specs.OrderLaws.{account_equiv}
 use Rattle.accounts.specs.Apart.{AddsUp, IsSettled}

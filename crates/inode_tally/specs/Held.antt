@@ -7,8 +7,7 @@ use Rattle.std.specs.BTreeMap.{get}
 use Rattle.accounts.specs.declared.account.Account.{Account}
 use Rattle.accounts.specs.declared.postings.Posting.{Posting}
 use Rattle.accounts.specs.Kinds.{inode, inode_type}
-use Rattle.accounts.specs.declared.kind.TheConstants.{INODE, INODE_TYPE}
-use Rattle.accounts.specs.declared.sum.TheConstants.{INODE_ITEMS, INODE_OTHERS, INODE_LINKS, INODE_NAMES, INODE_ORPHANS, DIR_SIZE, DIR_NAMES, FILE_BYTES, FILE_RANGES, TYPE_ENTRIES, TYPE_ITEMS}
+use Rattle.accounts.specs.declared.kinds.TheConstants.{INODE, INODE_TYPE, INODE_ITEMS, INODE_OTHERS, INODE_LINKS, INODE_NAMES, INODE_ORPHANS, DIR_SIZE, DIR_NAMES, FILE_BYTES, FILE_RANGES, TYPE_ENTRIES, TYPE_ITEMS}
 use Rattle.accounts.specs.Sums.{total_of}
 use Rattle.accounts.specs.Tally.{Sums}
 use Rattle.inode_tally.specs.declared.class.Gathered.{Gathered}

@@ -4,13 +4,13 @@ use Rattle.std.specs.BTreeMap.{is_at}
 use Rattle.accounts.specs.declared.account.Account.{Account}
 use Rattle.accounts.specs.declared.postings.Posting.{Posting}
 use Rattle.accounts.specs.declared.tally.Tally.{Tally}
-use Rattle.accounts.specs.Broken.{gives}
-use Rattle.accounts.specs.declared.sum.TheConstants.{INODE_OTHERS}
+use Rattle.accounts.specs.declared.kinds.TheConstants.{INODE_OTHERS}
 use Rattle.accounts.specs.Sums.{total_of}
 use Rattle.accounts.specs.Tally.{Sums, inode_class, kept, sums_in, with_amount}
 use Rattle.inode_tally.specs.declared.class.Gathered.{Gathered}
 use Rattle.inode_tally.specs.declared.class.InodeClass.{InodeClass}
 use Rattle.inode_tally.specs.Held.{class_in, inode_cmp, is_of_inodes, sum_of, widened}
+use Rattle.accounts.specs.Kinds.{gives}
 
 -- a class comes to what another comes to with more amounts, as far as the rules look at them
 pub record IsJoined (class : InodeClass) (more : Gathered) (joined : InodeClass) : Type 0 where

@@ -7,13 +7,13 @@ ghost use Rattle.accounts.specs.Kinds as kinds;
 ghost use Rattle.accounts.specs.declared.account.Account.{Account as AAccount};
 ghost use Rattle.accounts.specs.Broken.{is_broken};
 ghost use Rattle.accounts.specs.Sums.{total_of};
-ghost use Rattle.accounts.specs.declared.sum.TheConstants.{INODE_OTHERS, TYPE_ENTRIES, TYPE_ITEMS};
+ghost use Rattle.accounts.specs.declared.kinds.TheConstants.{INODE_OTHERS, TYPE_ENTRIES, TYPE_ITEMS};
 ghost use Rattle.accounts.specs.Tally.{sums_in, with_postings};
 ghost use Rattle.inode_tally.specs.Held.{class_postings, class_sums, gathered_postings, inode_cmp, inodes_apart, is_of_inodes, own_sums, owns_sums, to};
 ghost use Rattle.inode_tally.specs.Joined.{Adds, Joins, LeavesOthers};
 
 use crate::class::{Gathered, InodeClass};
-use accounts::sum::{
+use accounts::kinds::{
     DIR_NAMES, DIR_SIZE, FILE_BYTES, FILE_RANGES, INODE_ITEMS, INODE_LINKS, INODE_NAMES,
     INODE_ORPHANS, INODE_OTHERS, TYPE_ENTRIES, TYPE_ITEMS,
 };

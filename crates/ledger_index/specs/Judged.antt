@@ -4,7 +4,7 @@ use Rattle.std.specs.Map.{lookup}
 use Rattle.std.specs.BTreeMap.{is_at}
 use Rattle.std.specs.Ordering.{is_lt}
 use Rattle.std.specs.declared.cmp.Ordering.TheVariants.{Less}
-use Rattle.accounts.specs.Broken.{is_broken, line_of, lines}
+use Rattle.accounts.specs.Broken.{is_broken}
 use Rattle.accounts.specs.Order.{account_cmp}
 use Rattle.accounts.specs.Tally.{Sums}
 use Rattle.accounts.specs.declared.account.Account.{Account}
@@ -16,10 +16,11 @@ use Rattle.ledger_keys.specs.LongPlace.{is_same_long, long_of}
 use Rattle.ledger_keys.specs.Place.{is_same_place, place_of}
 use Rattle.ledger_maps.specs.Entries.{entries_in}
 use Rattle.ledger_index.specs.Singles.{entry_at}
+use Rattle.accounts.specs.Kinds.{keeps_at, table}
 
 -- whether sums break an account of a kind
 unfoldable pub breaks : ℕ → (ℕ → ℕ) → Bool
-breaks kind f = not (line_of kind (lines f))
+breaks kind f = not (keeps_at kind table f)
 
 -- whether an account stands before another, if there is another
 abbrev pub stands_before : Account → Option Account → Bool

@@ -1,10 +1,11 @@
 //! Which of two accounts a ledger breaks, and what an entry's sums break.
 
 ghost use Rattle.std.specs.Prelude.{◌≡◌, slice_index, IfSome};
-ghost use Rattle.accounts.specs.Broken.{inode_keeps, is_broken};
+ghost use Rattle.accounts.specs.Broken.{is_broken};
 ghost use Rattle.ledger_keys.specs.declared.kept.Kept.TheVariants.{Long};
 ghost use Rattle.ledger_index.specs.Judged.{breaks, lesser_of, stands_before};
 ghost use Rattle.ledger_keys.specs.Kept.{kept_sum};
+ghost use Rattle.accounts.specs.Kinds.{inode_keeps};
 
 use accounts::{Account, broken};
 use ledger_keys::Kept;

@@ -8,9 +8,9 @@ use Rattle.verdict.proofs.Truth.{true_of_not, implied}
 use Rattle.verdict.specs.declared.kinds.TheConstants.{EXTENT_ITEM}
 use Rattle.extent_items.specs.ExtentRow.{ExtentFields}
 use Rattle.fs_items.specs.declared.file_extent.FileExtent.{FileExtent}
-use Rattle.accounts.specs.Broken.{gives, is_broken}
+use Rattle.accounts.specs.Broken.{is_broken}
 use Rattle.accounts.specs.Context.{Context, home_of}
-use Rattle.accounts.specs.Kinds.{extent_form, outside}
+use Rattle.accounts.specs.Kinds.{extent_form, outside, gives}
 use Rattle.accounts.specs.Least.{is_broken_by}
 use Rattle.accounts.specs.Sums.{total_of}
 use Rattle.accounts.specs.declared.account.Account.{Account}
@@ -21,7 +21,6 @@ use Rattle.records.specs.ExtentPostings.{extent_postings, has_extent}
 use Rattle.records.specs.InodePostings.{inode_postings}
 use Rattle.records.specs.Part.{Located, Part}
 use Rattle.records.specs.Part.Part.{BlockPart, ExtentPart, FileExtentPart, SuperPart}
-use Rattle.records.specs.Post.{to}
 use Rattle.records.specs.Postings.{all_postings, postings_of}
 use Rattle.records.specs.Seen.{Seen, accounted}
 use Rattle.records.specs.Seen.Seen.{BlockSeen, ItemSeen, PointerSeen}
@@ -33,6 +32,7 @@ use Rattle.commit_laws.specs.Same.{records_of}
 use Rattle.commit_laws.proofs.Elements.{Among}
 use Rattle.commit_laws.proofs.accepted.Postings.{IsForm, Says, all_say}
 use Rattle.commit_laws.proofs.accepted.Sums.{all_among, among_left, among_right, at_least, counted, given, posted}
+use Rattle.accounts.specs.Lent.{to}
 
 -- ---- items among records
 

@@ -22,7 +22,6 @@ use Rattle.records.specs.ExtentPostings.{extent_postings}
 use Rattle.records.specs.InodePostings.{inode_postings}
 use Rattle.records.specs.Part.{Located}
 use Rattle.records.specs.Part.Part.{ExtentPart}
-use Rattle.records.specs.Post.{to}
 use Rattle.records.specs.Postings.{all_postings, postings_of}
 use Rattle.records.specs.SpacePostings.{extent_length, is_data, is_to_sector, owned_postings, place_postings, sectors_from, sectors_of}
 use Rattle.records.specs.SpacePostings.{space_postings}
@@ -32,6 +31,7 @@ use Rattle.commit_laws.proofs.Elements.{Among}
 use Rattle.commit_laws.proofs.accepted.Sums.{among_left, among_right}
 use Rattle.lookup_bounds.specs.Work.{are_same_postings, has_named, is_same_posting, posts_otherwise}
 use Rattle.lookup_bounds.proofs.HousedHomes.{holder_some, kept_by}
+use Rattle.accounts.specs.Lent.{to}
 
 -- ---- members
 

@@ -25,7 +25,6 @@ use Rattle.span_index.specs.declared.span.Span.{Span}
 use Rattle.records.specs.ExtentPostings.{has_extent}
 use Rattle.records.specs.Part.{AreSectors, IsLawful, Located, Part}
 use Rattle.records.specs.Part.Part.{ExtentPart, FileExtentPart, SumsPart}
-use Rattle.records.specs.Post.{to}
 use Rattle.records.specs.Postings.{all_postings, postings_of}
 use Rattle.tree_laws.specs.LivePairs.{Walked}
 use Rattle.change_records.specs.Homes.{StandApart, is_kept}
@@ -40,6 +39,7 @@ use Rattle.commit_laws.proofs.accepted.Sums.{all_among}
 use Rattle.lookup_bounds.specs.Work.{context_in, has_named, items_that_count, posts_otherwise, spans_in, stands_in}
 use Rattle.lookup_bounds.proofs.HousedExtents.{HasExtent, extent_home, item_of_record, range_extent, record_of_item}
 use Rattle.lookup_bounds.proofs.HousedPosts.{among_of, filter_among, flat_among, gone_otherwise, made_of, names_span, posts_sector}
+use Rattle.accounts.specs.Lent.{to}
 
 -- The extent around a span: the span begins at one of its sectors or at its end, and lies inside of it. It has a sector, but where a file shows
 -- none. Where the span lies is where the extent does.

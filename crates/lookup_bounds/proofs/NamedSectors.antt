@@ -23,7 +23,6 @@ use Rattle.records.specs.ExtentPostings.{extent_postings}
 use Rattle.records.specs.InodePostings.{inode_postings}
 use Rattle.records.specs.Part.{IsLawful, Located, Part}
 use Rattle.records.specs.Part.Part.{ExtentPart, FileExtentPart, SumsPart}
-use Rattle.records.specs.Post.{to}
 use Rattle.records.specs.Postings.{all_postings, postings_of}
 use Rattle.records.specs.SpacePostings.{extent_length, is_data, is_to_sector, place_postings, shown_postings, space_postings}
 use Rattle.change_records.specs.Spans.{IsLawfulIn, extent_bytes, extent_span, is_written, shown_span, span_in, span_of, sums_span}
@@ -32,6 +31,7 @@ use Rattle.commit_laws.proofs.at_sectors.Posted.{adds_in, record_adds, is_below}
 use Rattle.commit_laws.proofs.accepted.Sums.{Posted, posted}
 use Rattle.lookup_bounds.specs.Named.{names_sector}
 use Rattle.lookup_bounds.proofs.HousedPosts.{among_of, any_among, flat_among}
+use Rattle.accounts.specs.Lent.{to}
 
 -- ---- a span that counts
 

@@ -10,11 +10,11 @@ use Rattle.accounts.specs.Kinds.{key_by, link, name_entry, subvolume_entry}
 use Rattle.accounts.specs.Tally.{Sums}
 use Rattle.records.specs.DirPostings.{entry_posting, hashed_postings, indexed_postings, link_postings}
 use Rattle.records.specs.InodePostings.{target_postings}
-use Rattle.records.specs.Post.{to}
 use Rattle.name_tally.specs.declared.slot.NameSlot.{NameSlot}
 use Rattle.name_tally.specs.Names.{entry_of, leads, link_of, name_of}
 use Rattle.name_tally.specs.Slots.{AreSame, IsAt, KeepsUp}
 use Rattle.name_tally.proofs.Sums.{keeps_none, keeps_same}
+use Rattle.accounts.specs.Lent.{to}
 
 pub keeps_nothing : (sums : Sums) → KeepsUp sums sums []
 keeps_nothing sums = keeps_none sums sums (λ a n. refl)

@@ -10,16 +10,16 @@ use Rattle.accounts.specs.declared.account.Account.{Account}
 use Rattle.accounts.specs.declared.postings.Posting.{Posting}
 use Rattle.accounts.specs.declared.tally.Tally.{Tally}
 use Rattle.accounts.specs.Apart.{AddsUp}
-use Rattle.accounts.specs.Kinds.{inode, inode_type, key_by, link, name_entry}
+use Rattle.accounts.specs.Kinds.{inode, inode_type, key_by, link, name_entry, balances}
 use Rattle.accounts.specs.Sums.{added, is_same, total_of}
-use Rattle.accounts.specs.Tally.{Sums, balances, difference, kept, kept_sums, sums_in, with_postings}
+use Rattle.accounts.specs.Tally.{Sums, difference, kept, kept_sums, sums_in, with_postings}
 use Rattle.accounts.proofs.Apart.{adds_exactly, adds_nothing, adds_then, more_alike}
 use Rattle.accounts.proofs.Kept.{balanced_kept, kept_more, total_joined, with_more}
 use Rattle.accounts.proofs.Same.{same_account}
-use Rattle.records.specs.Post.{to}
 use Rattle.name_tally.specs.declared.slot.NameSlot.{NameSlot}
 use Rattle.name_tally.specs.Names.{entry_of, leads, link_of, name_of, slot_postings, slots_sums}
 use Rattle.name_tally.specs.Slots.{AreSame, HasSums, IsFree, KeepsBut, KeepsUp, slot_sums}
+use Rattle.accounts.specs.Lent.{to}
 
 -- ---- sums with more
 

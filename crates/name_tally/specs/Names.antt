@@ -8,16 +8,16 @@ use Rattle.recon_crc.specs.Checksum.{name_hash_of}
 use Rattle.accounts.specs.declared.account.Account.{Account}
 use Rattle.accounts.specs.declared.postings.Posting.{Posting}
 use Rattle.accounts.specs.Kinds.{inode, inode_type, key_by, link, name_entry}
-use Rattle.accounts.specs.declared.sum.TheConstants.{INODE_OTHERS, TYPE_ENTRIES, ENTRIES_BY_HASH, ENTRIES_BY_INDEX, LINK_ENTRIES, LINK_NAMES}
+use Rattle.accounts.specs.declared.kinds.TheConstants.{INODE_OTHERS, TYPE_ENTRIES, ENTRIES_BY_HASH, ENTRIES_BY_INDEX, LINK_ENTRIES, LINK_NAMES}
 use Rattle.accounts.specs.Sums.{total_of}
 use Rattle.accounts.specs.Tally.{Sums}
 use Rattle.inode_tally.specs.Held.{inodes_apart}
 use Rattle.inode_tally.specs.declared.tally.InodeTally.{InodeTally}
 use Rattle.records.specs.DirPostings.{dir_entry_postings}
 use Rattle.records.specs.InodePostings.{target_postings}
-use Rattle.records.specs.Post.{to}
 use Rattle.name_tally.specs.declared.slot.NameSlot.{NameSlot}
 use Rattle.name_tally.specs.declared.tally.NameTally.{NameTally}
+use Rattle.accounts.specs.Lent.{to}
 
 -- the bytes of a slot's name
 abbrev pub name_of : NameSlot → List ℕ

@@ -4,12 +4,12 @@ ghost use Rattle.std.specs.Prelude.{◌≡◌, ◌+◌, ◌++◌, IfSome, OnOk, 
 ghost use Rattle.fs_items.specs.Lent.{entry_fields, name_fields};
 ghost use Rattle.records.specs.DirPostings.{dir_entry_postings, hashed_postings, indexed_postings, link_postings};
 ghost use Rattle.records.specs.InodePostings.{target_postings};
-ghost use Rattle.records.specs.Post.{to};
-ghost use Rattle.accounts.specs.declared.sum.TheConstants.{ENTRIES_BY_HASH, ENTRIES_BY_INDEX, LINK_ENTRIES, LINK_NAMES};
+ghost use Rattle.accounts.specs.declared.kinds.TheConstants.{ENTRIES_BY_HASH, ENTRIES_BY_INDEX, LINK_ENTRIES, LINK_NAMES};
 ghost use Rattle.name_tally.specs.Names.{entry_of, leads, link_of, name_of, slot_postings};
 ghost use Rattle.name_tally.specs.Slots.{Agrees, AreSame, HasSums, IsAt, IsFree, KeepsBut, KeepsUp, led_in, slot_sums};
+ghost use Rattle.accounts.specs.Lent.{to};
 
-use accounts::sum::{
+use accounts::kinds::{
     ENTRIES_BY_HASH, ENTRIES_BY_INDEX, INODE_OTHERS, LINK_ENTRIES, LINK_NAMES, TYPE_ENTRIES,
 };
 use accounts::{Account, Posting, Postings};

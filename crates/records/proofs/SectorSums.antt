@@ -17,13 +17,13 @@ use Rattle.accounts.specs.Kinds.{inode_type, sector}
 use Rattle.accounts.specs.OrderLaws.{account_equiv}
 use Rattle.accounts.specs.Sums.{added, is_same, total_of}
 use Rattle.accounts.proofs.Same.{same_account}
-use Rattle.records.specs.Post.{to}
 use Rattle.records.specs.Part.{Part}
 use Rattle.records.specs.Part.Part.{RootPart, LinkPart, DevicePart, ChunkPart, DevExtentPart, ExtentPart, KeyedPart, GroupPart, InodePart, NamesPart, XattrPart, OrphanPart, EntriesPart, FileExtentPart, SumsPart, SuperPart, BlockPart}
 use Rattle.records.specs.ExtentPostings.{extent_postings, has_extent, reference_postings}
 use Rattle.records.specs.InodePostings.{inode_entry_postings, inode_name_postings, inode_postings, size_postings, type_of_mode}
 use Rattle.records.specs.DirPostings.{dir_entry_postings, dir_postings, is_root_name, is_subvolume_id, link_postings}
 use Rattle.records.specs.SpacePostings.{extent_length, is_data, is_other_class, is_to_sector, owned_postings, place_postings, rest_postings, sector_sum, sectors_from, sectors_of, shown_postings, shows_sums, space_postings}
+use Rattle.accounts.specs.Lent.{to}
 
 -- ---- postings that are all of a sort
 
@@ -249,13 +249,7 @@ context_same c d chunks nodesize = λ i. record { chunks = chunks i; nodesize = 
 space_alike : (c d : Context) (tree : ℕ) (part : Part) → IsNoRange part → space_postings c tree part ≡ space_postings (with_flags c d) tree part
 unfolding space_postings
 space_alike c d tree (FileExtentPart range) sort = absurd sort
-space_alike c d tree (SuperPart used) sort = refl
-space_alike c d tree (ChunkPart item) sort = refl
-space_alike c d tree (DevicePart item) sort = refl
-space_alike c d tree (DevExtentPart item) sort = refl
-space_alike c d tree (GroupPart item) sort = refl
-space_alike c d tree (ExtentPart item) sort = refl
-space_alike c d tree (SumsPart item) sort = refl
+space_alike c d tree other sort = refl
 space_alike c d tree other sort = refl
 
 -- a range of a file posts to sectors alone

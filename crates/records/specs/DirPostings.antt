@@ -8,11 +8,11 @@ use Rattle.fs_items.specs.InodeRefRow.{NameFields, InodeRefFields}
 use Rattle.fs_items.specs.DirRow.{EntryFields}
 use Rattle.accounts.specs.declared.postings.Posting.{Posting}
 use Rattle.accounts.specs.Kinds.{name_entry, link, subvolume_entry, subvolume_pair, subvolume}
-use Rattle.accounts.specs.declared.sum.TheConstants.{ENTRIES_BY_HASH, ENTRIES_BY_INDEX, LINK_ENTRIES, LINK_NAMES, SUBVOLUME_REFS, SUBVOLUME_ENTRIES, FROM_PARENT, FROM_CHILD, ROOT_REFS_SAID, ROOT_REFS_FOUND}
-use Rattle.records.specs.Post.{to}
+use Rattle.accounts.specs.declared.kinds.TheConstants.{ENTRIES_BY_HASH, ENTRIES_BY_INDEX, LINK_ENTRIES, LINK_NAMES, SUBVOLUME_REFS, SUBVOLUME_ENTRIES, FROM_PARENT, FROM_CHILD, ROOT_REFS_SAID, ROOT_REFS_FOUND}
 use Rattle.records.specs.Part.{Part}
 use Rattle.records.specs.Part.Part.{RootPart, LinkPart, NamesPart, EntriesPart}
 use Rattle.verdict.specs.declared.kinds.TheConstants.{INODE_ITEM, INODE_REF, DIR_ITEM, ROOT_ITEM, ROOT_REF}
+use Rattle.accounts.specs.Lent.{to}
 
 -- the key (256, 12, 256): the names of a tree's root directory, which no directory of the tree has
 abbrev pub is_root_name : Key → Bool

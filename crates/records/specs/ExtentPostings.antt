@@ -7,11 +7,11 @@ use Rattle.fs_items.specs.declared.file_extent.TheConstants.{INLINE}
 use Rattle.accounts.specs.declared.account.Account.{Account}
 use Rattle.accounts.specs.declared.postings.Posting.{Posting}
 use Rattle.accounts.specs.Kinds.{block_ref, shared_block_ref, data_ref, shared_data_ref, extent, extent_form}
-use Rattle.accounts.specs.declared.sum.TheConstants.{REFERENCES, USES, EXTENT_ITEMS, EXTENT_REFS_SAID, EXTENT_REFS_FOUND, FORM_ITEMS, FORM_USES}
-use Rattle.records.specs.Post.{to}
+use Rattle.accounts.specs.declared.kinds.TheConstants.{REFERENCES, USES, EXTENT_ITEMS, EXTENT_REFS_SAID, EXTENT_REFS_FOUND, FORM_ITEMS, FORM_USES}
 use Rattle.records.specs.Part.{Part}
 use Rattle.records.specs.Part.Part.{BlockPart, ExtentPart, KeyedPart, FileExtentPart}
 use Rattle.verdict.specs.declared.kinds.TheConstants.{EXTENT_ITEM, METADATA_ITEM, TREE_BLOCK_REF, EXTENT_DATA_REF, SHARED_BLOCK_REF}
+use Rattle.accounts.specs.Lent.{to}
 
 -- who refers to an extent
 abbrev pub reference_account : ℕ → Reference → Account

@@ -7,11 +7,11 @@ use Rattle.fs_items.specs.InodeRefRow.{NameFields}
 use Rattle.fs_items.specs.DirRow.{EntryFields}
 use Rattle.accounts.specs.declared.postings.Posting.{Posting}
 use Rattle.accounts.specs.Kinds.{inode, inode_type}
-use Rattle.accounts.specs.declared.sum.TheConstants.{INODE_ITEMS, INODE_OTHERS, INODE_LINKS, INODE_NAMES, INODE_ORPHANS, DIR_SIZE, DIR_NAMES, FILE_BYTES, FILE_RANGES, TYPE_ENTRIES, TYPE_ITEMS}
-use Rattle.records.specs.Post.{to}
+use Rattle.accounts.specs.declared.kinds.TheConstants.{INODE_ITEMS, INODE_OTHERS, INODE_LINKS, INODE_NAMES, INODE_ORPHANS, DIR_SIZE, DIR_NAMES, FILE_BYTES, FILE_RANGES, TYPE_ENTRIES, TYPE_ITEMS}
 use Rattle.records.specs.Part.{Part}
 use Rattle.records.specs.Part.Part.{InodePart, NamesPart, XattrPart, OrphanPart, EntriesPart, FileExtentPart}
 use Rattle.verdict.specs.declared.kinds.TheConstants.{INODE_ITEM}
+use Rattle.accounts.specs.Lent.{to}
 
 -- the type that a mode's type bits say, as directory entries number the types: 1 regular file, 2 directory, 3 character device,
 -- 4 block device, 5 FIFO, 6 socket, 7 symbolic link; 0 for other bits, which no inode has that was read
@@ -54,10 +54,13 @@ target_postings tree entry =
     ∷ []
     else []
 
--- an entry of a directory
+-- an entry of a directory says of the directory that it is there, and how long the name is
+abbrev pub own_entry_postings : ℕ → ℕ → EntryFields → List Posting
+own_entry_postings tree dir entry = to (inode tree dir) INODE_OTHERS 1 ∷ to (inode tree dir) DIR_NAMES (length entry.name) ∷ []
+
+-- an entry of a directory: of the directory, and of what it leads to
 abbrev pub inode_entry_postings : ℕ → ℕ → EntryFields → List Posting
-inode_entry_postings tree dir entry =
-    to (inode tree dir) INODE_OTHERS 1 ∷ to (inode tree dir) DIR_NAMES (length entry.name) ∷ target_postings tree entry
+inode_entry_postings tree dir entry = own_entry_postings tree dir entry ++ target_postings tree entry
 
 -- the bytes of a file's data that a range of it takes: of an inline one its data, of a hole none
 abbrev pub data_postings : ℕ → FileExtent → List Posting

@@ -6,7 +6,6 @@ pub mod Walk
 pub mod Takes
 pub mod Contents
 pub mod Context
-pub mod Post
 pub mod ExtentPostings
 pub mod InodePostings
 pub mod DirPostings

@@ -12,12 +12,11 @@ use Rattle.accounts.specs.declared.context.Home.{Home}
 use Rattle.accounts.specs.Context.{Context, home_of}
 use Rattle.accounts.specs.Sums.{total_of}
 use Rattle.accounts.specs.Kinds.{sector, group, group_of, group_class, outside, stripe, bytes_used, device}
-use Rattle.accounts.specs.declared.sum.TheConstants.{SECTOR_EXTENTS, SECTOR_DATA, SECTOR_SUMS, SECTOR_SHOWN, GROUP_ITEMS, GROUP_CHUNKS, GROUP_USED, GROUP_TAKEN, OTHER_CLASS, OUTSIDE_CHUNKS, CHUNK_STRIPES, DEVICE_RANGES, BYTES_SAID, BYTES_IN_GROUPS, DEVICE_SAID, DEVICE_TAKEN}
-use Rattle.accounts.specs.declared.kind.TheConstants.{SECTOR}
-use Rattle.records.specs.Post.{to}
+use Rattle.accounts.specs.declared.kinds.TheConstants.{SECTOR_EXTENTS, SECTOR_DATA, SECTOR_SUMS, SECTOR_SHOWN, GROUP_ITEMS, GROUP_CHUNKS, GROUP_USED, GROUP_TAKEN, OTHER_CLASS, OUTSIDE_CHUNKS, CHUNK_STRIPES, DEVICE_RANGES, BYTES_SAID, BYTES_IN_GROUPS, DEVICE_SAID, DEVICE_TAKEN, SECTOR}
 use Rattle.records.specs.Part.{Part}
 use Rattle.records.specs.Part.Part.{SuperPart, ChunkPart, DevicePart, DevExtentPart, GroupPart, ExtentPart, FileExtentPart, SumsPart}
 use Rattle.verdict.specs.declared.kinds.TheConstants.{EXTENT_ITEM}
+use Rattle.accounts.specs.Lent.{to}
 
 -- the size of a sector in bytes
 abbrev pub sector_size : ℕ

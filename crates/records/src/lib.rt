@@ -4,6 +4,7 @@
 mod law;
 mod rec;
 mod roots;
+mod same;
 mod take;
 
 pub use law::{high_leaves, visits_decide};

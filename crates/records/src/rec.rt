@@ -1,7 +1,7 @@
 //! Records: what an item, a block or the superblock says, in the bytes that it was read from or in bytes of its own; and
 //! the reader of any item, the one place that knows the kinds of items.
 
-ghost use Rattle.std.specs.Prelude.{◌≡◌, IfOk};
+ghost use Rattle.std.specs.Prelude.{◌≡◌, ◌↔◌, IfOk, IsTrue};
 ghost use Rattle.verdict.specs.Items.{item_finding};
 ghost use Rattle.records.specs.Part.{IsLawful, located, owned_part, part_of};
 ghost use Rattle.records.specs.Seen.{block_record};
@@ -19,6 +19,7 @@ ghost use Rattle.records.specs.Item.{
   sums_tree_record,
 };
 
+use crate::same::{same_chunk, same_entries, same_extent, same_names};
 use extent_items::{ExtentItem, GroupItem, KeyedRef, read_extent, read_group, read_keyed};
 use fs_items::{
     DirItem, FileExtent, InodeItem, InodeRef, Orphan, SumRun, Xattr, read_dir, read_file_extent,
@@ -341,7 +342,45 @@ impl<'a> Rec<'a> {
     }
 }
 
+impl<'a> Rec<'a> {
+    /// Whether two records say the same: the bytes that no reader looks at are not among it.
+    pub fn says_the_same(self, other: Rec<'_>) -> bool
+        ensures { IsTrue result ↔ (part_of self.entry ≡ part_of other.entry) }
+    {
+        match self {
+            Rec::RootItem(item) => matches!(other, Rec::RootItem(its) if its == item),
+            Rec::RootLink(item) => matches!(other, Rec::RootLink(its) if its == item),
+            Rec::DeviceItem(item) => matches!(other, Rec::DeviceItem(its) if its == item),
+            Rec::ChunkItem(item) => matches!(other, Rec::ChunkItem(its) if same_chunk(item, its)),
+            Rec::DevExtent(item) => matches!(other, Rec::DevExtent(its) if its == item),
+            Rec::ExtentItem(item) => matches!(other, Rec::ExtentItem(its) if same_extent(item, its)),
+            Rec::KeyedRef(item) => matches!(other, Rec::KeyedRef(its) if its == item),
+            Rec::GroupItem(item) => matches!(other, Rec::GroupItem(its) if its == item),
+            Rec::InodeItem(item) => matches!(other, Rec::InodeItem(its) if its == item),
+            Rec::InodeRef(item) => matches!(other, Rec::InodeRef(its) if same_names(item, its)),
+            Rec::Xattr(item) => matches!(other, Rec::Xattr(its) if its == item),
+            Rec::Orphan(item) => matches!(other, Rec::Orphan(its) if its == item),
+            Rec::DirItem(item) => matches!(other, Rec::DirItem(its) if same_entries(item, its)),
+            Rec::FileExtent(item) => matches!(other, Rec::FileExtent(its) if its == item),
+            Rec::SumRun(item) => matches!(other, Rec::SumRun(its) if its == item),
+            Rec::Unread(bytes) => matches!(other, Rec::Unread(its) if its == bytes),
+            Rec::Super { bytes_used } =>
+                matches!(other, Rec::Super { bytes_used: its } if its == bytes_used),
+            Rec::Block { address, level } => {
+                matches!(other, Rec::Block { address: its, level: at } if its == address && at == level)
+            }
+        }
+    }
+}
+
 impl OwnedRec {
+    /// The same of two records that own their bytes.
+    pub fn says_the_same(&self, other: &OwnedRec) -> bool
+        ensures { IsTrue result ↔ (owned_part self.now ≡ owned_part other.now) }
+    {
+        self.lend().says_the_same(other.lend())
+    }
+
     /// The record, lent: what was copied.
     pub fn lend(&self) -> Rec<'_>
         ensures { part_of result ≡ owned_part self.now }

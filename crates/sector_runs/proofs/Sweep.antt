@@ -13,8 +13,8 @@ use Rattle.std.proofs.lemmas.Bool.{eqb-true, eqb-false, eq-eqb}
 use Rattle.std.proofs.lemmas.Bool.Decides.{nat_tests}
 use Rattle.std.proofs.lemmas.Map.Keys.{sorted_head, sorted_tail}
 use Rattle.verdict.specs.Items.{is_multiple}
-use Rattle.accounts.specs.Broken.{is_broken, sector_keeps}
-use Rattle.accounts.specs.Kinds.{sector}
+use Rattle.accounts.specs.Broken.{is_broken}
+use Rattle.accounts.specs.Kinds.{sector, sector_keeps}
 use Rattle.sector_runs.specs.declared.edge.Edges.{Edges}
 use Rattle.sector_runs.specs.declared.kept.Sectors.{Sectors}
 use Rattle.sector_runs.specs.Kept.{Entries, below, begins, ends, number_at}

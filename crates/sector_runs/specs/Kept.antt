@@ -1,7 +1,7 @@
 -- Where runs begin and end. It serves to state what private functions keep of runs.
 use Rattle.std.specs.Prelude.{◌≡◌, ℕ, zero, suc, ◌+◌, ◌≤◌, ◌==◌, true, false, Option, Some, None, IsSome, if◌then◌else◌}
 use Rattle.verdict.specs.Items.{is_multiple}
-use Rattle.accounts.specs.declared.sum.TheConstants.{SECTOR_EXTENTS, SECTOR_DATA, SECTOR_SUMS, SECTOR_SHOWN}
+use Rattle.accounts.specs.declared.kinds.TheConstants.{SECTOR_EXTENTS, SECTOR_DATA, SECTOR_SUMS, SECTOR_SHOWN}
 use Rattle.sector_runs.specs.declared.edge.Edge.{Edge}
 use Rattle.sector_runs.specs.declared.edge.Edges.{Edges}
 

@@ -2,7 +2,7 @@
 use Rattle.std.specs.Prelude.{ℕ, ◌+◌, ◌*◌, ◌<◌, ◌^◌, ◌≡◌, true, false, Bool, ◌&&◌, ◌||◌, ◌==◌, nat_le, nat_lt, Option, Some, None, if◌then◌else◌}
 use Rattle.verdict.specs.Items.{is_multiple}
 use Rattle.accounts.specs.Kinds.{sector}
-use Rattle.accounts.specs.declared.sum.TheConstants.{SECTOR_EXTENTS, SECTOR_DATA, SECTOR_SUMS, SECTOR_SHOWN}
+use Rattle.accounts.specs.declared.kinds.TheConstants.{SECTOR_EXTENTS, SECTOR_DATA, SECTOR_SUMS, SECTOR_SHOWN}
 use Rattle.accounts.specs.Broken.{is_broken}
 use Rattle.sector_runs.specs.declared.run.SectorRun.{SectorRun}
 use Rattle.sector_runs.specs.declared.run.SectorUse.{SectorUse}

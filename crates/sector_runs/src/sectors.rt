@@ -3,16 +3,16 @@
 ghost use Rattle.std.specs.Prelude.{◌≡◌, ℕ, ◌+◌, ◌-◌, ◌*◌, ◌^◌, ◌≤◌, OnOk, OnErr};
 ghost use Rattle.std.specs.Ordering.{nat_cmp};
 ghost use Rattle.std.specs.BTreeMap.{get};
-ghost use Rattle.accounts.specs.Broken.{sector_keeps};
 ghost use Rattle.accounts.specs.Sums.{sum_in};
 ghost use Rattle.sector_runs.specs.Edges.{sums_of};
 ghost use Rattle.sector_runs.specs.Kept.{IsMarked, begins, ends};
 ghost use Rattle.sector_runs.specs.Runs.{IsFit, IsLeastBroken, no_sectors, with_run};
+ghost use Rattle.accounts.specs.Kinds.{sector_keeps};
 
 use crate::edge::{Edge, Edges};
 use crate::kept::Sectors;
 use crate::run::SectorRun;
-use accounts::sum::{SECTOR_DATA, SECTOR_EXTENTS, SECTOR_SHOWN, SECTOR_SUMS};
+use accounts::kinds::{SECTOR_DATA, SECTOR_EXTENTS, SECTOR_SHOWN, SECTOR_SUMS};
 use accounts::{Totals, sector_keeps};
 use std::alloc::Global;
 use std::collections::BTreeMap;

@@ -25,7 +25,6 @@ use Rattle.sector_runs.specs.declared.run.SectorRun.{SectorRun}
 use Rattle.sector_runs.specs.declared.run.SectorUse.{SectorUse}
 use Rattle.sector_runs.specs.declared.run.SectorUse.TheVariants.{Data, Block, Summed, Shown}
 use Rattle.sector_runs.specs.Runs.{amount_in, amount_of, counts_in}
-use Rattle.records.specs.Post.{to}
 use Rattle.fs_items.specs.Lent.{sums_in}
 use Rattle.volume_items.specs.ChunkItems.{fields_in}
 use Rattle.records.specs.declared.rec.Rec.{Rec}
@@ -35,6 +34,7 @@ use Rattle.records.specs.Part.Part.{ChunkPart, ExtentPart, FileExtentPart, SumsP
 use Rattle.records.specs.SpacePostings.{extent_length, is_data, is_other_class, is_to_sector, chunk_postings, rest_postings, owned_postings, place_postings, sector_sum, sectors_from, sectors_of, shown_postings, shows_sums, space_postings}
 use Rattle.records.proofs.SectorSums.{range_no_rest}
 use Rattle.space_rules.specs.RunPostings.{owned_run, rest_of_place, run_in, run_postings, run_postings_in, shown_run, summed_run, use_postings, where_home}
+use Rattle.accounts.specs.Lent.{to}
 
 -- ---- the postings of a record are those of its run
 

@@ -6,14 +6,14 @@ use Rattle.accounts.specs.Context.{Context, home_of}
 use Rattle.accounts.specs.declared.context.Home.{Home}
 use Rattle.accounts.specs.declared.postings.Posting.{Posting}
 use Rattle.accounts.specs.Kinds.{sector, group_class, group_of, outside}
-use Rattle.accounts.specs.declared.sum.TheConstants.{SECTOR_EXTENTS, SECTOR_DATA, SECTOR_SUMS, SECTOR_SHOWN, GROUP_TAKEN, OTHER_CLASS, OUTSIDE_CHUNKS}
+use Rattle.accounts.specs.declared.kinds.TheConstants.{SECTOR_EXTENTS, SECTOR_DATA, SECTOR_SUMS, SECTOR_SHOWN, GROUP_TAKEN, OTHER_CLASS, OUTSIDE_CHUNKS}
 use Rattle.sector_runs.specs.declared.run.SectorRun.{SectorRun}
 use Rattle.sector_runs.specs.declared.run.SectorUse.{SectorUse}
 use Rattle.sector_runs.specs.declared.run.SectorUse.TheVariants.{Data, Block, Summed, Shown}
-use Rattle.records.specs.Post.{to}
 use Rattle.records.specs.Part.{Part}
 use Rattle.records.specs.Part.Part.{ExtentPart, FileExtentPart, SumsPart}
 use Rattle.records.specs.SpacePostings.{extent_length, is_data, is_other_class, sectors_from, shows_sums}
+use Rattle.accounts.specs.Lent.{to}
 
 -- the sectors of an extent
 abbrev pub owned_run : Bool → ℕ → ℕ → SectorRun

@@ -4,14 +4,14 @@ ghost use Rattle.std.specs.Prelude.{◌≡◌, ◌+◌, ◌<◌, ◌^◌, [], �
 ghost use Rattle.accounts.specs.Posts.{Posts};
 ghost use Rattle.accounts.specs.Context.{home_of};
 ghost use Rattle.accounts.specs.Kinds.{group_class, group_of, outside};
-ghost use Rattle.accounts.specs.declared.sum.TheConstants.{GROUP_TAKEN, OTHER_CLASS, OUTSIDE_CHUNKS};
+ghost use Rattle.accounts.specs.declared.kinds.TheConstants.{GROUP_TAKEN, OTHER_CLASS, OUTSIDE_CHUNKS};
 ghost use Rattle.extent_items.specs.ExtentItems.{extent_fields_in};
-ghost use Rattle.records.specs.Post.{to};
 ghost use Rattle.records.specs.SpacePostings.{extent_length, is_data, is_other_class, place_postings};
 ghost use Rattle.space_rules.specs.RunPostings.{owned_run, rest_of_place, where_home};
+ghost use Rattle.accounts.specs.Lent.{to};
 
 use crate::sectors::post_run;
-use accounts::sum::{GROUP_TAKEN, OTHER_CLASS, OUTSIDE_CHUNKS};
+use accounts::kinds::{GROUP_TAKEN, OTHER_CLASS, OUTSIDE_CHUNKS};
 use accounts::{Account, Ctx, Home, Poster, Posting, Postings};
 use extent_items::ExtentItem;
 use sector_runs::{SectorRun, SectorUse};

@@ -22,7 +22,7 @@ ghost use Rattle.space_rules.specs.RunPostings.{run_in, summed_run};
 
 use crate::place::place_of;
 use crate::sectors::{post_run_in, sectors_at};
-use accounts::sum::{
+use accounts::kinds::{
     BYTES_IN_GROUPS, BYTES_SAID, CHUNK_STRIPES, DEVICE_RANGES, DEVICE_SAID, DEVICE_TAKEN,
     GROUP_CHUNKS, GROUP_ITEMS, GROUP_USED,
 };

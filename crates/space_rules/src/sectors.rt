@@ -4,7 +4,7 @@ ghost use Rattle.std.specs.Prelude.{◌≡◌, ◌+◌, ◌*◌, ◌<◌, ◌^�
 ghost use Rattle.accounts.specs.Posts.{Posts};
 ghost use Rattle.space_rules.specs.RunPostings.{run_postings, run_postings_in, use_postings};
 
-use accounts::sum::{SECTOR_DATA, SECTOR_EXTENTS, SECTOR_SHOWN, SECTOR_SUMS};
+use accounts::kinds::{SECTOR_DATA, SECTOR_EXTENTS, SECTOR_SHOWN, SECTOR_SUMS};
 use accounts::{Account, Posting, Postings};
 use sector_runs::{SectorRun, SectorUse};
 use std::alloc::Global;

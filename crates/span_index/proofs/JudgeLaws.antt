@@ -3,9 +3,9 @@ use Rattle.std.proofs.Common.{◌≡◌, ℕ, ◌+◌, ◌<◌, ◌≤◌, ◌%�
 use Rattle.std.specs.Prelude.{◌==◌, Option, Some, None, min, nat_le, nat_lt}
 use Rattle.std.specs.List.{count_by, sum_by}
 use Rattle.std.proofs.lemmas.Bool.Decides.{nat_tests}
-use Rattle.accounts.specs.Broken.{is_broken, sector_keeps}
+use Rattle.accounts.specs.Broken.{is_broken}
 use Rattle.accounts.specs.Context.{Context}
-use Rattle.accounts.specs.Kinds.{sector}
+use Rattle.accounts.specs.Kinds.{sector, sector_keeps}
 use Rattle.span_index.specs.declared.cursor.Head.{Head}
 use Rattle.span_index.specs.declared.cursor.Head.TheVariants.{Start, At, End}
 use Rattle.span_index.specs.declared.cursor.Walk.{Walk}

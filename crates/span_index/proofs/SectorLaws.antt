@@ -4,7 +4,6 @@ use Rattle.std.specs.Prelude.{◌==◌, min, nat_le, nat_lt}
 use Rattle.std.specs.Ordering.{is_lt, nat_cmp, ordering_then}
 use Rattle.std.specs.declared.cmp.Ordering.{Ordering}
 use Rattle.std.proofs.lemmas.Bool.Decides.{nat_tests}
-use Rattle.accounts.specs.Broken.{gives, sector_keeps}
 use Rattle.accounts.specs.Context.{Context}
 use Rattle.span_index.specs.declared.cursor.Head.{Head}
 use Rattle.span_index.specs.declared.cursor.Head.TheVariants.{Start, At, End}
@@ -17,6 +16,7 @@ use Rattle.span_index.specs.Spans.{Table, end_of}
 use Rattle.span_index.specs.Sweep.{IsBegun, is_passed, passed_sum}
 use Rattle.span_index.specs.Walks.{IsBeyond, IsWalked, is_field, reach_in}
 use Rattle.span_index.proofs.SumLaws.{sum_cong}
+use Rattle.accounts.specs.Kinds.{gives, sector_keeps}
 
 -- ---- the rule on a sector needs no more of a sum than none, one, or more
 

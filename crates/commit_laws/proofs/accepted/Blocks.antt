@@ -16,9 +16,9 @@ use Rattle.verdict.specs.declared.kinds.TheConstants.{EXTENT_ITEM, METADATA_ITEM
 use Rattle.extent_items.specs.ExtentRow.{ExtentFields}
 use Rattle.extent_items.specs.declared.reference.Reference.{Reference}
 use Rattle.fs_items.specs.declared.file_extent.FileExtent.{FileExtent}
-use Rattle.accounts.specs.Broken.{broken_finding, gives, is_broken, line_of, lines}
+use Rattle.accounts.specs.Broken.{broken_finding, is_broken}
 use Rattle.accounts.specs.Context.{Context}
-use Rattle.accounts.specs.Kinds.{extent, extent_form}
+use Rattle.accounts.specs.Kinds.{extent, extent_form, gives, keeps_at, table}
 use Rattle.accounts.specs.Least.{IsLeastBroken, is_broken_by, least_broken}
 use Rattle.accounts.specs.OrderLaws.{account_equiv}
 use Rattle.accounts.specs.Sums.{is_same, total_of}
@@ -34,7 +34,6 @@ use Rattle.records.specs.ExtentPostings.{extent_postings, has_extent, reference_
 use Rattle.records.specs.FullCheck.{checked_with, full_check, verdict_of}
 use Rattle.records.specs.Part.{FitsPlace, Located, Part}
 use Rattle.records.specs.Part.Part.{BlockPart, ExtentPart, FileExtentPart}
-use Rattle.records.specs.Post.{to}
 use Rattle.records.specs.Postings.{account_fault, all_postings, postings_of}
 use Rattle.records.specs.Seen.{Seen, accounted, block_record}
 use Rattle.records.specs.Seen.Seen.{BlockSeen, ItemSeen, PointerSeen}
@@ -52,6 +51,7 @@ use Rattle.commit_laws.proofs.accepted.Postings.{IsForm, Refers, Says, Touches, 
 use Rattle.commit_laws.proofs.accepted.Sums.{Adds, all_among, among_left, at_least, counted, given, posted, two_counted}
 use Rattle.commit_laws.proofs.accepted.Items.{IsKept, items_kept, items_stand}
 use Rattle.commit_laws.proofs.accepted.Rows.{NoBlock}
+use Rattle.accounts.specs.Lent.{to}
 
 -- ---- no account of an accepted image is broken
 
@@ -90,7 +90,7 @@ extent_keeps_is a b c is some =
     let more : 1 ≤ b = leb-true _ _ both.1 in
     (low, omega (arith, same, more))
 
-balanced : (k : ℕ) (f : ℕ → ℕ) → nat_lt k 3 ≡ true → nat_lt 0 k ≡ true → not (line_of k (lines f)) ≡ false → f 0 ≡ f 1
+balanced : (k : ℕ) (f : ℕ → ℕ) → nat_lt k 3 ≡ true → nat_lt 0 k ≡ true → not (keeps_at k table f) ≡ false → f 0 ≡ f 1
 balanced k f low some is = by (k == 1) refl
   where
     two_of : (k : ℕ) → nat_lt k 3 ≡ true → nat_lt 0 k ≡ true → (k == 1) ≡ false → k ≡ 2
@@ -98,9 +98,9 @@ balanced k f low some is = by (k == 1) refl
 
     by : (b : Bool) → (k == 1) ≡ b → f 0 ≡ f 1
     by true at =
-        subst (λ n. not (line_of n (lines f)) ≡ false → f 0 ≡ f 1) (sym (eqb-true k 1 at)) (λ h. eqb-true (f 0) (f 1) (true_of_not (f 0 == f 1) h)) is
+        subst (λ n. not (keeps_at n table f) ≡ false → f 0 ≡ f 1) (sym (eqb-true k 1 at)) (λ h. eqb-true (f 0) (f 1) (true_of_not (f 0 == f 1) h)) is
     by false at =
-        subst (λ n. not (line_of n (lines f)) ≡ false → f 0 ≡ f 1) (sym (two_of k low some at))
+        subst (λ n. not (keeps_at n table f) ≡ false → f 0 ≡ f 1) (sym (two_of k low some at))
         (λ h. eqb-true (f 0) (f 1) (true_of_not (f 0 == f 1) h)) is
 
 -- an extent has one form

@@ -19,12 +19,12 @@ use Rattle.records.specs.InodePostings.{inode_entry_postings, inode_name_posting
 use Rattle.records.specs.Part.{Located, Part}
 use Rattle.records.specs.Part.Part.{BlockPart, ChunkPart, DevExtentPart, DevicePart, EntriesPart, ExtentPart, FileExtentPart, GroupPart, InodePart}
 use Rattle.records.specs.Part.Part.{KeyedPart, LinkPart, NamesPart, OrphanPart, RootPart, SumsPart, SuperPart, XattrPart}
-use Rattle.records.specs.Post.{to}
 use Rattle.records.specs.Postings.{postings_of}
 use Rattle.records.specs.SpacePostings.{extent_length, is_data, is_other_class, owned_postings, place_postings, sectors_from, sectors_of}
 use Rattle.records.specs.SpacePostings.{shown_postings, shows_sums, space_postings}
 use Rattle.commit_laws.proofs.Elements.{Among}
 use Rattle.commit_laws.proofs.accepted.Sums.{among_left}
+use Rattle.accounts.specs.Lent.{to}
 
 abbrev All : (Posting → Type 0) → List Posting → Type 0
 All P ps = AllByRecursion P ps

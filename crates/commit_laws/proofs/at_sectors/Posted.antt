@@ -20,7 +20,6 @@ use Rattle.accounts.proofs.Kept.{total_joined}
 use Rattle.sector_runs.specs.declared.run.SectorUse.{SectorUse}
 use Rattle.sector_runs.specs.declared.run.SectorUse.TheVariants.{Data, Block, Summed as SummedUse, Shown as ShownUse}
 use Rattle.sector_runs.specs.Runs.{amount_in, amount_of, counts_in}
-use Rattle.records.specs.Post.{to}
 use Rattle.records.specs.Part.{IsLawful, Located, Part}
 use Rattle.records.specs.Part.Part.{ChunkPart, ExtentPart, FileExtentPart, SumsPart}
 use Rattle.records.specs.ExtentPostings.{extent_postings}
@@ -39,6 +38,7 @@ use Rattle.span_index.specs.Sectors.{adds, adds_to, counts, has_sector, sector_s
 use Rattle.change_records.specs.Spans.{IsLawfulIn, extent_bytes, shown_span, span_in, span_of}
 use Rattle.commit_laws.specs.Sectors.{SectorsLaw}
 use Rattle.commit_laws.specs.Steps.{spans_of}
+use Rattle.accounts.specs.Lent.{to}
 
 -- ---- a run of sectors and the span of the same sectors
 

@@ -13,10 +13,10 @@ use Rattle.extent_items.specs.ExtentRow.{ExtentFields}
 use Rattle.fs_items.specs.declared.file_extent.FileExtent.{FileExtent}
 use Rattle.records.specs.Part.{FitsPlace, Part}
 use Rattle.records.specs.Part.Part.{RootPart, ExtentPart, FileExtentPart}
-use Rattle.records.specs.Post.{to}
 use Rattle.records.specs.Postings.{postings_of}
 use Rattle.records.specs.SpacePostings.{is_to_sector, rest_postings, sectors_of, shown_postings, shows_sums, space_postings}
 use Rattle.commit_laws.specs.Kept.{extent_at, placed_postings}
+use Rattle.accounts.specs.Lent.{to}
 
 -- no posting to a sector is among the others
 none_to_sectors : (addresses : List ℕ) → filter (λ posting. not (is_to_sector posting)) (map (λ address. to (sector address) 3 1) addresses) ≡ []

@@ -1,6 +1,6 @@
 use Rattle.fs_items.specs.Lent.{dir_in, entries_left}
-use Rattle.inode_rules.specs.Own.{own_entry_postings}
 use Rattle.accounts.proofs.Behind.{Leaves}
+use Rattle.records.specs.InodePostings.{own_entry_postings}
 use Rattle.inode_rules.proofs.rows.post_own_entries.Given as goal
 
 -- what posts those that are left posts all

@@ -1,6 +1,6 @@
 use Rattle.std.proofs.Common.{◌∙◌, ◌++◌, ap}
-use Rattle.records.specs.Post.{to}
 use Rattle.name_tally.proofs.Sums.{entry_named, link_named, on_ok, posted_slot}
+use Rattle.accounts.specs.Lent.{to}
 use Rattle.name_tally.proofs.slot.post_slot.Goals as goal
 
 pub returns : goal.returns

@@ -2,8 +2,8 @@ use Rattle.std.proofs.Common.{◌≡◌, [], ◌∷◌, map, ap, sym, refl, rule
 use Rattle.volume_items.specs.ChunkItems.{fields_in, stripes_left}
 use Rattle.accounts.specs.Kinds.{group, stripe}
 use Rattle.accounts.proofs.Behind.{left_all, left_cut, left_none, left_rest, posts_cut}
-use Rattle.records.specs.Post.{to}
 use Rattle.records.specs.SpacePostings.{chunk_postings}
+use Rattle.accounts.specs.Lent.{to}
 use Rattle.space_rules.proofs.rows.post_chunk.Goals as goal
 
 pub returns-in_err-put : goal.returns-in_err-put

@@ -2,8 +2,8 @@ use Rattle.std.proofs.Common.{map}
 use Rattle.volume_items.specs.ChunkItems.{fields_in, stripes_left}
 use Rattle.accounts.specs.Kinds.{stripe}
 use Rattle.accounts.proofs.Behind.{Left}
-use Rattle.records.specs.Post.{to}
 use Rattle.records.specs.SpacePostings.{chunk_postings}
+use Rattle.accounts.specs.Lent.{to}
 use Rattle.space_rules.proofs.rows.post_chunk.Given as goal
 
 -- the stripes that the iterator has are left

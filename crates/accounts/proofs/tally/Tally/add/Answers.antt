@@ -4,10 +4,11 @@ use Rattle.std.specs.BTreeMap.{get}
 use Rattle.std.proofs.lemmas.Grind.{common_steps}
 use Rattle.accounts.specs.Order.{account_cmp}
 use Rattle.accounts.specs.Sums.{sum_in}
-use Rattle.accounts.specs.Tally.{balances, sums_at}
+use Rattle.accounts.specs.Tally.{sums_at}
 use Rattle.accounts.proofs.Entries.{above_kept, added_put, added_removed, zero_kept}
 use Rattle.accounts.proofs.tally.Tally.add.Goals as goal
 use Rattle.accounts.proofs.tally.Tally.add.Goals.{then-field-gt8-via-then-field-gt8, then-field-gt8-via-else-field-gt8+then-posting-eq0}
+use Rattle.accounts.specs.Kinds.{balances}
 
 -- src/tally.rt:53:13
 pub returns-then-field-gt8 : goal.returns-then-field-gt8

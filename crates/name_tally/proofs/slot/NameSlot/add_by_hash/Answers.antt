@@ -2,11 +2,11 @@ use Rattle.std.proofs.Common.{◌∷◌, ◌++◌}
 use Rattle.fs_items.specs.Lent.{entry_fields}
 use Rattle.records.specs.DirPostings.{hashed_postings}
 use Rattle.records.specs.InodePostings.{target_postings}
-use Rattle.records.specs.Post.{to}
 use Rattle.name_tally.specs.Names.{entry_of, leads}
 use Rattle.name_tally.specs.Slots.{slot_sums}
 use Rattle.name_tally.proofs.Claims.{hashed_is, keeps_as}
 use Rattle.name_tally.proofs.Sums.{keeps_none}
+use Rattle.accounts.specs.Lent.{to}
 use Rattle.name_tally.proofs.slot.NameSlot.add_by_hash.Goals as goal
 
 pub returns-then-not-claim_entry : goal.returns-then-not-claim_entry

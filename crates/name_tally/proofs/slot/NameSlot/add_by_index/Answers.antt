@@ -2,11 +2,11 @@ use Rattle.std.proofs.Common.{◌∙◌, ◌∷◌, ◌++◌}
 use Rattle.fs_items.specs.Lent.{entry_fields}
 use Rattle.records.specs.DirPostings.{indexed_postings}
 use Rattle.records.specs.InodePostings.{target_postings}
-use Rattle.records.specs.Post.{to}
 use Rattle.name_tally.specs.Names.{entry_of, leads, link_of}
 use Rattle.name_tally.specs.Slots.{slot_sums}
 use Rattle.name_tally.proofs.Claims.{at_then, indexed_is, keeps_as}
 use Rattle.name_tally.proofs.Sums.{keeps_none, same_then}
+use Rattle.accounts.specs.Lent.{to}
 use Rattle.name_tally.proofs.slot.NameSlot.add_by_index.Goals as goal
 
 pub returns-then-not-claim_entry : goal.returns-then-not-claim_entry

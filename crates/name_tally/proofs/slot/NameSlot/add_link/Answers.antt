@@ -1,11 +1,11 @@
 use Rattle.std.proofs.Common.{◌∷◌, []}
 use Rattle.fs_items.specs.Lent.{name_fields}
 use Rattle.records.specs.DirPostings.{link_postings}
-use Rattle.records.specs.Post.{to}
 use Rattle.name_tally.specs.Names.{link_of}
 use Rattle.name_tally.specs.Slots.{slot_sums}
 use Rattle.name_tally.proofs.Claims.{at_then, keeps_as, linked_is}
 use Rattle.name_tally.proofs.Sums.{keeps_none, same_then}
+use Rattle.accounts.specs.Lent.{to}
 use Rattle.name_tally.proofs.slot.NameSlot.add_link.Goals as goal
 
 pub returns-then-not-claim : goal.returns-then-not-claim

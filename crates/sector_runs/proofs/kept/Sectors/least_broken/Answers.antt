@@ -1,11 +1,11 @@
 use Rattle.std.proofs.Common.{◌≡◌, ◌<◌, ◌^◌, true, false, ◌∷◌, ap, arith, subst, sym, ◌∙◌}
 use Rattle.std.proofs.Math.Path.{fun_ext}
 use Rattle.std.proofs.lemmas.Grind.{common_steps}
-use Rattle.accounts.specs.Broken.{sector_keeps}
 use Rattle.accounts.specs.Sums.{sum_in}
 use Rattle.sector_runs.specs.Edges.{sums_of}
 use Rattle.sector_runs.specs.Runs.{IsLeastBroken}
 use Rattle.sector_runs.proofs.Sweep.{HaveRoom, IsSwept, all_room, all_swept, first_begun, first_room, room_more, sweep, sweep_here, sweep_on, swept_least, swept_more, zero_sums}
+use Rattle.accounts.specs.Kinds.{sector_keeps}
 use Rattle.sector_runs.proofs.kept.Sectors.least_broken.Goals as goal
 
 pub loop-address-init : goal.loop-address-init

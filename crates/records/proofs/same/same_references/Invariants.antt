@@ -1,6 +1,6 @@
 use Rattle.std.proofs.Common.{◌≡◌, ◌↔◌, length}
 use Rattle.extent_items.specs.ExtentItems.{references_left}
-use Rattle.change_records.proofs.same.same_references.Given as goal
+use Rattle.records.proofs.same.same_references.Given as goal
 
 abbrev pub invariant-loop-one : goal.invariant-loop-one
 invariant-loop-one l = (references_left l.ones ≡ references_left l.others) ↔ (references_left l.initial.ones ≡ references_left l.initial.others)
