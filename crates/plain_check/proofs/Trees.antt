@@ -1,11 +1,10 @@
 -- What the walks of the chunk tree and of the root tree give, whose records are kept.
-use Rattle.std.proofs.Common.{◌≡◌, ℕ, List, [], length, Option, Some, None, Result, Ok, Err, IfSome, ap, refl, sym, ◌∙◌}
+use Rattle.std.proofs.Common.{◌≡◌, ℕ, List, [], length, Option, Some, None, Result, Ok, IfSome, ap, refl, sym, ◌∙◌}
 use Rattle.std.specs.Ordering.{nat_cmp}
 use Rattle.std.specs.FinMap.{FinMap}
 use Rattle.verdict.specs.Rules.{and_then, finding_or}
 use Rattle.verdict.specs.declared.finding.Finding.{Finding}
 use Rattle.verdict.specs.declared.place.Chunk.{Chunk}
-use Rattle.recon_disk.specs.declared.disk.Disk.{Ghosts}
 use Rattle.write_cache.specs.Cache.{overlaid}
 use Rattle.write_cache.proofs.CacheLaws.{length-overlaid}
 use Rattle.super_reader.specs.declared.Super.{Super}
@@ -15,9 +14,6 @@ use Rattle.records.specs.Seen.{Seen}
 use Rattle.records.specs.Takes.{held_after, with_both, with_chunk, with_root}
 use Rattle.records.specs.Walk.{behind, walk_in}
 use Rattle.records.specs.Contents.{chunk_map_in, chunk_records, chunk_tree_root, root_items_in, root_records, root_tree_root, roots_fault}
-use Rattle.block_source.specs.declared.halt.Halt.{Halt}
-use Rattle.block_source.specs.declared.halt.Halt.TheVariants.{Found, Disk, NoMemory}
-use Rattle.block_source.specs.Gives.{Gives, IsOutcome}
 use Rattle.plain_check.specs.Kept.{with_kept}
 use Rattle.plain_check.proofs.Keeping.{first_held, second_told, second_told_first}
 use Rattle.volume_items.specs.declared.root_at.RootAt.{RootAt}
@@ -79,42 +75,16 @@ roots_made m sup chunks e none before roots said kept image p r is same =
     ap (λ (held : Result (List RootAt) Finding). and_then {A = List RootAt} {B = List RootAt} held (λ rs. and_then {A = Unit {0}} {B = List RootAt} (finding_or (roots_fault sup.compat_ro rs) (tt {0})) (λ _. Ok rs))) walked
     ∙ ap (λ (rs : List RootAt). and_then {A = Unit {0}} {B = List RootAt} (finding_or (roots_fault sup.compat_ro rs) (tt {0})) (λ _. Ok roots)) (sym same)
 
--- the rules on them keep
-pub roots_passed : (told : Option (List ℕ)) (m : FinMap nat_cmp ℕ) (sup : Super) (chunks : List Chunk) (e : Expect) (none : List RootAt) (before : List Seen) (roots said : List RootAt) (kept : List Seen) (done : Unit {0})
+-- the root items, or the finding on them
+pub roots_told : (told : Option (List ℕ)) (m : FinMap nat_cmp ℕ) (sup : Super) (chunks : List Chunk) (e : Expect) (none : List RootAt) (before : List Seen) (roots said : List RootAt) (kept : List Seen) (found : Option Finding)
     → none ≡ [] → e ≡ root_tree_root sup
     → IfSome told (λ image. held_after (with_both with_root with_kept) (none, before) (walk_in sup chunks e (overlaid m 0 image)) ≡ Ok (roots, kept)) → said ≡ roots
-    → finding_or (roots_fault sup.compat_ro said) (tt {0}) ≡ Ok done
-    → IfSome told (λ image. root_items_in sup chunks (overlaid m 0 image) ≡ Ok roots)
-roots_passed None m sup chunks e none before roots said kept done p r is same keep = tt
-roots_passed (Some image) m sup chunks e none before roots said kept done p r is same keep =
+    → found ≡ roots_fault sup.compat_ro said
+    → IfSome told (λ image. root_items_in sup chunks (overlaid m 0 image) ≡ and_then {A = Unit {0}} {B = List RootAt} (finding_or found (tt {0})) (λ _. Ok roots))
+roots_told None m sup chunks e none before roots said kept found p r is same finds = tt
+roots_told (Some image) m sup chunks e none before roots said kept found p r is same finds =
     roots_made m sup chunks e none before roots said kept (overlaid m 0 image) p r is same
-    ∙ ap (λ (r : Result (Unit {0}) Finding). and_then {A = Unit {0}} {B = List RootAt} r (λ _. Ok roots)) keep
-
-pub halted_told : (told : Option (List ℕ)) → IfSome told (λ _. Unit {0})
-halted_told None = tt
-halted_told (Some image) = tt
-
-found_told : (told : Option (List ℕ)) (m : FinMap nat_cmp ℕ) (sup : Super) (chunks : List Chunk) (e : Expect) (none : List RootAt) (before : List Seen) (roots said : List RootAt) (kept : List Seen) (finding : Finding)
-    → none ≡ [] → e ≡ root_tree_root sup
-    → IfSome told (λ image. held_after (with_both with_root with_kept) (none, before) (walk_in sup chunks e (overlaid m 0 image)) ≡ Ok (roots, kept)) → said ≡ roots
-    → finding_or (roots_fault sup.compat_ro said) (tt {0}) ≡ Err finding
-    → IfSome told (λ image. root_items_in sup chunks (overlaid m 0 image) ≡ Err finding)
-found_told None m sup chunks e none before roots said kept finding p r is same stop = tt
-found_told (Some image) m sup chunks e none before roots said kept finding p r is same stop =
-    roots_made m sup chunks e none before roots said kept (overlaid m 0 image) p r is same
-    ∙ ap (λ (r : Result (Unit {0}) Finding). and_then {A = Unit {0}} {B = List RootAt} r (λ _. Ok roots)) stop
-
--- they stopped the step
-pub roots_halted : {D : Type 0} (disk : Ghosts D) (at : D) (m : FinMap nat_cmp ℕ) (sup : Super) (chunks : List Chunk) (e : Expect) (none : List RootAt) (before : List Seen) (roots said : List RootAt) (kept : List Seen) (halt : Halt)
-    → none ≡ [] → e ≡ root_tree_root sup
-    → IfSome (disk.bytes at) (λ image. held_after (with_both with_root with_kept) (none, before) (walk_in sup chunks e (overlaid m 0 image)) ≡ Ok (roots, kept)) → said ≡ roots
-    → IsOutcome {A = Unit {0}} (Err halt) (finding_or (roots_fault sup.compat_ro said) (tt {0}))
-    → Gives {A = List RootAt} disk at m (Err halt) (λ image. root_items_in sup chunks image)
-roots_halted disk at m sup chunks e none before roots said kept Disk p r is same stop = tt
-roots_halted disk at m sup chunks e none before roots said kept NoMemory p r is same stop =
-    halted_told (disk.bytes at)
-roots_halted disk at m sup chunks e none before roots said kept (Found finding) p r is same stop =
-    found_told (disk.bytes at) m sup chunks e none before roots said kept finding p r is same stop
+    ∙ ap (λ (f : Option Finding). and_then {A = Unit {0}} {B = List RootAt} (finding_or f (tt {0})) (λ _. Ok roots)) (sym finds)
 
 -- its records behind others
 pub roots_kept : (told : Option (List ℕ)) (m : FinMap nat_cmp ℕ) (sup : Super) (chunks : List Chunk) (e : Expect) (none : List RootAt) (before : List Seen) (roots : List RootAt) (kept : List Seen)

@@ -33,7 +33,7 @@ use crate::takers::Roots;
 use block_source::{BlockSource, Chunks, Halt, chunk_root, system_chunks, top_root, walk_into};
 use chunk_map::ChunkMap;
 use recon_disk::Disk;
-use records::{Both, Rec, RecAt, Record, Taker};
+use records::{Both, Rec, RecAt, Record, Taker, named_root, roots_fault};
 use std::alloc::Global;
 use super_reader::Super;
 use verdict::Key;

@@ -250,7 +250,6 @@ space_alike : (c d : Context) (tree : ℕ) (part : Part) → IsNoRange part → 
 unfolding space_postings
 space_alike c d tree (FileExtentPart range) sort = absurd sort
 space_alike c d tree other sort = refl
-space_alike c d tree other sort = refl
 
 -- a range of a file posts to sectors alone
 no_rest_shown : (addresses : List ℕ) → filter (λ q. not (is_to_sector q)) (map (λ address. to (sector address) 3 1) addresses) ≡ []

@@ -353,7 +353,8 @@ impl<'a> Rec<'a> {
             Rec::DeviceItem(item) => matches!(other, Rec::DeviceItem(its) if its == item),
             Rec::ChunkItem(item) => matches!(other, Rec::ChunkItem(its) if same_chunk(item, its)),
             Rec::DevExtent(item) => matches!(other, Rec::DevExtent(its) if its == item),
-            Rec::ExtentItem(item) => matches!(other, Rec::ExtentItem(its) if same_extent(item, its)),
+            Rec::ExtentItem(item) =>
+                matches!(other, Rec::ExtentItem(its) if same_extent(item, its)),
             Rec::KeyedRef(item) => matches!(other, Rec::KeyedRef(its) if its == item),
             Rec::GroupItem(item) => matches!(other, Rec::GroupItem(its) if its == item),
             Rec::InodeItem(item) => matches!(other, Rec::InodeItem(its) if its == item),

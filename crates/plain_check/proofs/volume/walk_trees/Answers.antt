@@ -13,20 +13,20 @@ loop-root-preserved g c =
     let sup = c.args.volume.now.sup.now in
     let chunks = c.args.volume.now.map.now in
     let i = c.loop-root.root-index in
-    let none : RootAt = record { key = record { objectid = 0; kind = 0; offset = 0 }; generation = 0; bytenr = 0; refs = 0; level = 0 } in
+    let none : RootAt = record { key = record { objectid = 0; kind = 0; offset = 0 }; address = 0; generation = 0; level = 0 } in
     record {
       taken = record {
         kept = search (rules, then_held);
         same = then_same (g.D.Disk.bytes c.args.disk.now) c.args.volume.now.cache.now g.T.Taker.with (g.T.Taker.held c.args.into.now) (g.T.Taker.held c.loop-root.into) (g.T.Taker.held c.walk_into.new.into)
             (walk_in sup chunks (named_root (get_or c.args.roots.now i none))) (tree_records sup chunks (drop (i + 1) c.args.roots.now)) (tree_records sup chunks c.args.roots.now)
             (rw (drop_more c.args.roots.now i none c.loop-root-test.true) at c.loop-root.invariant.taken.same)
-            (rw (← c.named.ensures, ← c.loop-root.invariant.taken.kept.bytes) c.in_ok-walk_into.ensures.taken);
+            (rw (← c.named_root.ensures, ← c.loop-root.invariant.taken.kept.bytes) c.in_ok-walk_into.ensures.taken);
       };
       counted = record {
         reads = then_same (g.D.Disk.bytes c.args.disk.now) c.args.volume.now.cache.now (with_read c.args.volume.now) (g.D.Disk.reads c.args.disk.now) (g.D.Disk.reads c.loop-root.disk) (g.D.Disk.reads c.walk_into.new.disk)
             (walk_in sup chunks (named_root (get_or c.args.roots.now i none))) (tree_records sup chunks (drop (i + 1) c.args.roots.now)) (tree_records sup chunks c.args.roots.now)
             (rw (drop_more c.args.roots.now i none c.loop-root-test.true) at c.loop-root.invariant.counted.reads)
-            (rw (← c.named.ensures, ← c.loop-root.invariant.taken.kept.bytes) c.in_ok-walk_into.ensures.reads);
+            (rw (← c.named_root.ensures, ← c.loop-root.invariant.taken.kept.bytes) c.in_ok-walk_into.ensures.reads);
       };
     }
 
