@@ -6,6 +6,7 @@ use Rattle.accounts.specs.declared.account.Account.{Account}
 use Rattle.accounts.specs.declared.context.Home.{Home}
 use Rattle.accounts.specs.declared.kinds.TheConstants.{BLOCK_REF, DATA_REF, EXTENT, EXTENT_FORM, SECTOR, GROUP, GROUP_CLASS, OUTSIDE, INODE, INODE_TYPE, NAME_ENTRY, LINK, SUBVOLUME_ENTRY, SUBVOLUME_PAIR, STRIPE, BYTES_USED, SUBVOLUME, DEVICE, EXTENT_ITEMS, EXTENT_REFS_SAID, EXTENT_REFS_FOUND, FORM_ITEMS, FORM_USES, SECTOR_EXTENTS, SECTOR_DATA, SECTOR_SUMS, SECTOR_SHOWN, GROUP_ITEMS, GROUP_CHUNKS, GROUP_USED, GROUP_TAKEN, OTHER_CLASS, OUTSIDE_CHUNKS, INODE_ITEMS, INODE_OTHERS, INODE_LINKS, INODE_NAMES, INODE_ORPHANS, DIR_SIZE, DIR_NAMES, FILE_BYTES, FILE_RANGES, TYPE_ENTRIES, TYPE_ITEMS, SUBVOLUME_REFS, SUBVOLUME_ENTRIES}
 use Rattle.verdict.specs.declared.kinds.TheConstants.{INODE_ITEM, INODE_REF, DIR_ITEM, ROOT_ITEM, ROOT_BACKREF, ROOT_REF, TREE_BLOCK_REF, EXTENT_DATA_REF, SHARED_BLOCK_REF, SHARED_DATA_REF, BLOCK_GROUP_ITEM, DEV_EXTENT, DEV_ITEM}
+use Rattle.verdict.specs.declared.trees.TheConstants.{EXTENT_TREE, DEV_TREE, ROOT_TREE, CHUNK_TREE}
 
 abbrev pub key_by : ℕ → ℕ → ℕ → Key
 key_by objectid kind offset = record { objectid = objectid; kind = kind; offset = offset }
@@ -32,11 +33,11 @@ shared_data_ref parent address = plain DATA_REF 0 address (key_by parent SHARED_
 
 -- A3: an extent
 abbrev pub extent : ℕ → Account
-extent address = plain EXTENT 2 address no_key 0
+extent address = plain EXTENT EXTENT_TREE address no_key 0
 
 -- A4: an extent's kind with its length (168) or its level (169)
 abbrev pub extent_form : ℕ → ℕ → ℕ → Account
-extent_form address kind form = plain EXTENT_FORM 2 address (key_by 0 kind form) 0
+extent_form address kind form = plain EXTENT_FORM EXTENT_TREE address (key_by 0 kind form) 0
 
 -- A5: a sector, 4096 bytes
 abbrev pub sector : ℕ → Account
@@ -48,11 +49,11 @@ group start len class = plain GROUP 0 0 (key_by start BLOCK_GROUP_ITEM len) clas
 
 -- A7: an extent in a group of another class
 abbrev pub group_class : ℕ → Account
-group_class address = plain GROUP_CLASS 2 address no_key 0
+group_class address = plain GROUP_CLASS EXTENT_TREE address no_key 0
 
 -- A8: an extent outside every chunk
 abbrev pub outside : ℕ → Account
-outside address = plain OUTSIDE 2 address no_key 0
+outside address = plain OUTSIDE EXTENT_TREE address no_key 0
 
 -- A9: an inode
 abbrev pub inode : ℕ → ℕ → Account
@@ -81,7 +82,7 @@ subvolume_pair parent child dir index name = named SUBVOLUME_PAIR parent 0 (key_
 
 -- A15: a stripe of a chunk, and its range of the device
 abbrev pub stripe : ℕ → ℕ → ℕ → ℕ → Account
-stripe start devid physical len = plain STRIPE 4 start (key_by devid DEV_EXTENT physical) len
+stripe start devid physical len = plain STRIPE DEV_TREE start (key_by devid DEV_EXTENT physical) len
 
 -- A16: the bytes that all groups use
 abbrev pub bytes_used : Account
@@ -89,11 +90,11 @@ bytes_used = plain BYTES_USED 0 0 no_key 0
 
 -- A17: the references to a subvolume
 abbrev pub subvolume : ℕ → Account
-subvolume id = plain SUBVOLUME 1 0 (key_by id ROOT_ITEM 0) 0
+subvolume id = plain SUBVOLUME ROOT_TREE 0 (key_by id ROOT_ITEM 0) 0
 
 -- A18: the bytes of a device that its ranges take
 abbrev pub device : ℕ → Account
-device devid = plain DEVICE 3 0 (key_by 1 DEV_ITEM devid) 0
+device devid = plain DEVICE CHUNK_TREE 0 (key_by 1 DEV_ITEM devid) 0
 
 -- the group of a home
 abbrev pub group_of : Home → Account

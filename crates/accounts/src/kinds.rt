@@ -10,6 +10,7 @@ use verdict::kinds::{
     BLOCK_GROUP_ITEM, DEV_EXTENT, DEV_ITEM, DIR_ITEM, EXTENT_DATA_REF, INODE_ITEM, INODE_REF,
     ROOT_BACKREF, ROOT_ITEM, ROOT_REF, SHARED_BLOCK_REF, SHARED_DATA_REF, TREE_BLOCK_REF,
 };
+use verdict::trees::{CHUNK_TREE, DEV_TREE, EXTENT_TREE, ROOT_TREE};
 use verdict::{Bytes, Key, NoMemory};
 
 /// A1: references to a tree block, by a tree or by the block above.
@@ -266,14 +267,21 @@ impl Account {
     pub fn extent(alloc: Global, address: u64) -> Account
         ensures { result ≡ kinds.extent address }
     {
-        plain(alloc, EXTENT, 2, address, Key::none(), 0)
+        plain(alloc, EXTENT, EXTENT_TREE, address, Key::none(), 0)
     }
 
     /// A4: the form of the extent at a logical address: of kind 168 its length in bytes, of kind 169 its level.
     pub fn extent_form(alloc: Global, address: u64, kind: u8, form: u64) -> Account
         ensures { result ≡ kinds.extent_form address kind form }
     {
-        plain(alloc, EXTENT_FORM, 2, address, key_by(0, kind, form), 0)
+        plain(
+            alloc,
+            EXTENT_FORM,
+            EXTENT_TREE,
+            address,
+            key_by(0, kind, form),
+            0,
+        )
     }
 
     /// A5: the sector at a logical address.
@@ -308,14 +316,14 @@ impl Account {
     pub fn group_class(alloc: Global, address: u64) -> Account
         ensures { result ≡ kinds.group_class address }
     {
-        plain(alloc, GROUP_CLASS, 2, address, Key::none(), 0)
+        plain(alloc, GROUP_CLASS, EXTENT_TREE, address, Key::none(), 0)
     }
 
     /// A8: the extent at a logical address, outside every chunk.
     pub fn outside(alloc: Global, address: u64) -> Account
         ensures { result ≡ kinds.outside address }
     {
-        plain(alloc, OUTSIDE, 2, address, Key::none(), 0)
+        plain(alloc, OUTSIDE, EXTENT_TREE, address, Key::none(), 0)
     }
 
     /// A9: an inode of a tree.
@@ -430,7 +438,7 @@ impl Account {
         plain(
             alloc,
             STRIPE,
-            4,
+            DEV_TREE,
             start,
             key_by(devid, DEV_EXTENT, physical),
             length,
@@ -448,13 +456,13 @@ impl Account {
     pub fn subvolume(alloc: Global, id: u64) -> Account
         ensures { result ≡ kinds.subvolume id }
     {
-        plain(alloc, SUBVOLUME, 1, 0, key_by(id, ROOT_ITEM, 0), 0)
+        plain(alloc, SUBVOLUME, ROOT_TREE, 0, key_by(id, ROOT_ITEM, 0), 0)
     }
 
     /// A18: the bytes of a device that its ranges take.
     pub fn device(alloc: Global, devid: u64) -> Account
         ensures { result ≡ kinds.device devid }
     {
-        plain(alloc, DEVICE, 3, 0, key_by(1, DEV_ITEM, devid), 0)
+        plain(alloc, DEVICE, CHUNK_TREE, 0, key_by(1, DEV_ITEM, devid), 0)
     }
 }

@@ -122,7 +122,7 @@ fn taken(alloc: Global, order: Order, count: u64, size: usize) -> Result<WriteCa
     Ok(cache)
 }
 
-/// How many pieces wait, and the sum of their lengths.
+/// How many pieces are pending, and the sum of their lengths.
 fn sizes(cache: &mut WriteCache) -> (u64, u64) {
     let mut count = 0u64;
     let mut length = 0u64;

@@ -22,12 +22,12 @@ use Rattle.block_source.specs.Takes.{leaving, unless_found}
 abbrev pub copies_of : BlockSource → ℕ → Place
 copies_of source address = place source.map.now address source.sup.now.nodesize source.end
 
--- whether writes that wait cover n bytes from an offset on
+-- whether pending writes cover n bytes from an offset on
 unfoldable pub cover : FinMap nat_cmp ℕ → ℕ → ℕ → Bool
 cover waiting at zero = true
 cover waiting at (suc n) = is_some (get waiting at) && cover waiting (at + 1) n
 
--- a counter of reads after a copy of n bytes is read: one more, but none where writes that wait cover the copy
+-- a counter of reads after a copy of n bytes is read: one more, but none where pending writes cover the copy
 abbrev pub after_copy : FinMap nat_cmp ℕ → ℕ → ℕ → ℕ → ℕ
 after_copy waiting n at reads = if cover waiting at n then reads else counted reads
 

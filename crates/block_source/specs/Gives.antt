@@ -1,4 +1,4 @@
--- What a step that reads gives, over a disk with writes that wait. A step that has a finding stops there.
+-- What a step that reads gives, over a disk with pending writes. A step that has a finding stops there.
 use Rattle.std.specs.Prelude.{ℕ, ◌≡◌, Bool, true, false, List, IfSome, Result, Ok, Err}
 use Rattle.std.specs.Ordering.{nat_cmp}
 use Rattle.std.specs.FinMap.{FinMap}
@@ -39,7 +39,7 @@ IsOutcome (Err (Found finding)) whole = whole ≡ Err finding
 IsOutcome (Err NoMemory) whole = Unit {0}
 IsOutcome (Err Disk) whole = ⊥
 
--- where the disk tells its bytes, a step gives the value or the finding of its definition, of these bytes with what waits over them
+-- where the disk tells its bytes, a step gives the value or the finding of its definition, of these bytes with the pending writes over them
 abbrev pub Gives : {D A : Type 0} → Ghosts D → D → FinMap nat_cmp ℕ → Result A Halt → (List ℕ → Result A Finding) → Type 0
 Gives disk before waiting (Err Disk) of = Unit {0}
 Gives disk before waiting result of = IfSome (disk.bytes before) (λ image. IsOutcome result (of (overlaid waiting 0 image)))

@@ -1,4 +1,4 @@
-//! The tree blocks of a disk with writes that wait over its bytes: reading a block where a walk expects it, and walking a
+//! The tree blocks of a disk with pending writes over its bytes: reading a block where a walk expects it, and walking a
 //! tree.
 #![tactic(auto)]
 

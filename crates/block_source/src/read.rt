@@ -26,7 +26,7 @@ use write_cache::WriteCache;
 /// Where the tree blocks of a file system are read from.
 #[derive(Clone, Copy)]
 pub struct BlockSource<'a> {
-    /// The writes that wait, which lie over the disk's bytes.
+    /// The pending writes, which lie over the disk's bytes.
     pub cache: &'a WriteCache,
     /// The chunks by which logical addresses stand on the disk.
     pub map: &'a ChunkMap,

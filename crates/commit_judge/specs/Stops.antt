@@ -11,7 +11,7 @@ use Rattle.commit_laws.specs.Stops.{KeepsUnwritten}
 use Rattle.commit_judge.specs.Counts.{hot_between}
 
 -- Where the next image is accepted and no live block is hot, what a stop may leave, with the superblock place as it was and each byte at
--- which no write waits, has the full check of the image before.
+-- which no write is pending, has the full check of the image before.
 abbrev pub SafeStops : Type 0
 SafeStops = (image other : List ℕ) (pending : FinMap nat_cmp ℕ) (k : Known) (generation : ℕ) → IsKnown image k
     → full_check (overlaid pending 0 image) ≡ Accept generation → hot_between image pending ≡ 0

@@ -30,7 +30,7 @@ fn arguments<R: Env + AllocGlobal>(rt: &R) -> io::Result<Vec<String>> {
     Ok(arguments)
 }
 
-// The sectors of a new image that an old one of the same length has otherwise, as writes that wait.
+// The sectors of a new image that an old one of the same length has otherwise, as pending writes.
 fn writes_between(alloc: Global, old: &[u8], new: &[u8]) -> Result<WriteCache, Why> {
     let mut cache = WriteCache::new(alloc);
     if old.len() != new.len() {

@@ -3,7 +3,7 @@
 ghost use Rattle.recon_core.specs.Law.{OrderDecidesNothing};
 ghost use Rattle.recon_core.specs.Safe.{StopsAreSafe};
 
-/// Writes that wait may come in any order where their ranges do not meet. From one state, two runs of the same
+/// Pending writes may come in any order where their ranges do not meet. From one state, two runs of the same
 /// such writes in different orders leave states of one image, and every list of events that follows has equal
 /// answers, and equal images after each event. So how submitters take turns between two judged events decides
 /// nothing where their writes do not overlap.

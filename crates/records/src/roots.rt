@@ -17,6 +17,7 @@ use node_reader::Expect;
 use std::alloc::Global;
 use std::collections::BTreeSet;
 use verdict::kinds::ROOT_ITEM;
+use verdict::trees::{BLOCK_GROUP_TREE, CSUM_TREE, DEV_TREE, EXTENT_TREE, FS_TREE, ROOT_TREE};
 use verdict::{Family, Finding, Key, NoMemory, Rule, has_group_tree};
 use volume_items::RootAt;
 
@@ -70,20 +71,20 @@ fn repeated(alloc: Global, roots: &[RootAt]) -> Result<Option<Finding>, NoMemory
 fn missing(compat_ro: u64, roots: &[RootAt]) -> Option<Finding>
     ensures { result ≡ first_failing (missing_rows compat_ro roots.now) }
 {
-    if !is_named(roots, 2) {
-        return Some(missing_tree(2));
+    if !is_named(roots, EXTENT_TREE) {
+        return Some(missing_tree(EXTENT_TREE));
     }
-    if !is_named(roots, 4) {
-        return Some(missing_tree(4));
+    if !is_named(roots, DEV_TREE) {
+        return Some(missing_tree(DEV_TREE));
     }
-    if !is_named(roots, 5) {
-        return Some(missing_tree(5));
+    if !is_named(roots, FS_TREE) {
+        return Some(missing_tree(FS_TREE));
     }
-    if !is_named(roots, 7) {
-        return Some(missing_tree(7));
+    if !is_named(roots, CSUM_TREE) {
+        return Some(missing_tree(CSUM_TREE));
     }
-    if has_group_tree(compat_ro) && !is_named(roots, 11) {
-        return Some(missing_tree(11));
+    if has_group_tree(compat_ro) && !is_named(roots, BLOCK_GROUP_TREE) {
+        return Some(missing_tree(BLOCK_GROUP_TREE));
     }
     None
 }
@@ -125,7 +126,7 @@ fn finding(number: u8, key: Key) -> Finding
             family: Family::X,
             number,
         },
-        tree: 1,
+        tree: ROOT_TREE,
         block: 0,
         key,
         detail: 0,

@@ -50,7 +50,7 @@ impl WriteCache {
     ghost use Rattle.std.specs.Borrow.{sem};
     ghost use Rattle.write_cache.specs.Lending.{StaysAsItWas};
 
-    /// A cache in which nothing waits. It takes its memory from this allocator.
+    /// A cache without pending writes. It takes its memory from this allocator.
     #[tactic(auto, using(crate::proofs::RunLaws::no_runs))]
     pub fn new(alloc: Global) -> WriteCache
         ensures { result ≡ map.empty }
@@ -99,7 +99,7 @@ impl WriteCache {
         }
     }
 
-    /// Puts what waits over a buffer that begins at the offset `at` of the device.
+    /// Puts the pending bytes over a buffer that begins at the offset `at` of the device.
     pub fn overlay(&self, at: u64, into: &mut [u8])
         ensures { into.new ≡ overlaid self.now at into.old }
     {
@@ -115,7 +115,7 @@ impl WriteCache {
         }
     }
 
-    /// Whether one of the `len` bytes from the offset `at` on waits.
+    /// Whether one of the `len` bytes from the offset `at` on is pending.
     pub fn touches(&self, at: u64, len: u64) -> bool
         ensures { IsTrue result
             ↔ ((i : ℕ) × (at ≤ i) × (i < at + len) × IsSome (map.get self.now i)) }
@@ -167,7 +167,7 @@ impl WriteCache {
         Some(lent)
     }
 
-    /// Lets go of all that waits.
+    /// Lets go of all pending writes.
     #[tactic(auto, using(crate::proofs::RunLaws::no_runs))]
     pub fn clear(&mut self)
         ensures { self.new ≡ map.empty }
@@ -177,7 +177,7 @@ impl WriteCache {
     }
 
     /// Joins the runs that touch, and lends the cache as one in which no two do. A byte is moved a few times in
-    /// all, however the writes came. Out of memory, what waits stays.
+    /// all, however the writes came. Out of memory, the pending writes stay.
     pub fn join(&mut self) -> Result<Joined<'_>, NoMemory>
         ensures* stays { sem 𝓛 (StaysAsItWas self.entry) }
         ensures lent { IfOk result (λ joined. joined.cache.now ≡ self.old) }

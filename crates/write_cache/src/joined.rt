@@ -22,7 +22,7 @@ pub struct Joined<'a> {
 }
 
 impl<'a> Joined<'a> {
-    /// The pieces: the maximal runs of offsets at which a byte waits, in rising order, each in one buffer.
+    /// The pieces: the maximal runs of offsets at which a byte is pending, in rising order, each in one buffer.
     pub fn pieces(&self) -> Pieces<'a>
         ensures { ArePiecesOf self.now.cache.now (pieces_left result) }
     {
