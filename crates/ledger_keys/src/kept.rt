@@ -63,10 +63,7 @@ impl Kept {
         if let Some(kept) = Kept::in_place(&totals) {
             return Ok(kept);
         }
-        match Box::new(alloc, totals) {
-            Ok(whole) => Ok(Kept::Whole(whole)),
-            Err(_) => Err(NoMemory),
-        }
+        Ok(Kept::Whole(Box::new(alloc, totals)?))
     }
 
     /// One amount alone.

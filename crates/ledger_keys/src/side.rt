@@ -111,10 +111,7 @@ impl Kept {
         } else if self.sum(side.mark()) != u128::from(side.number()) {
             return Ok(None);
         }
-        match self.raise_side(alloc, side, field, amount) {
-            Ok(full) => Ok(Some(full)),
-            Err(_) => Err(NoMemory),
-        }
+        Ok(Some(self.raise_side(alloc, side, field, amount)?))
     }
 
     // Puts the number of a side that has no sums. Out of memory, all sums stay.
