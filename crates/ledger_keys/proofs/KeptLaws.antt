@@ -7,6 +7,7 @@ use Rattle.ledger_keys.specs.declared.kept.Kept.{Kept}
 use Rattle.ledger_keys.specs.declared.kept.Kept.TheVariants.{Few, Long, Whole}
 use Rattle.ledger_keys.specs.Kept.{IsZero, are_zero, is_zero, kept_sum, stands, sums_at}
 use Rattle.ledger_keys.specs.PlaceLaws.{both, join}
+use Rattle.verdict.proofs.Truth.{true_of_not}
 
 pub kept_first : (few long : List ℕ) (n : ℕ) → n < 7 → kept_sum (Long few long) n ≡ slice_index few n
 unfolding kept_sum
@@ -100,11 +101,7 @@ then_zero (Long few long) zeros =
     last_is xs n = ap (slice_index xs) (omega arith)
 then_zero (Whole totals) zeros = list_zero totals.value.f zeros
 
-not_false : (b : Bool) → not b ≡ false → b ≡ true
-not_false true is = refl
-not_false false is = absurd (cc is)
-
 -- something is kept of exactly the accounts whose sums are not all zero
 pub stands_law : (entry : Option Kept) → (stands entry ≡ false) ↔ ((n : ℕ) → sums_at entry n ≡ 0)
 stands_law None = (λ is n. refl, λ zeros. refl)
-stands_law (Some kept) = (λ is. zero_then kept (not_false (is_zero kept) is), λ zeros. ap not (then_zero kept zeros))
+stands_law (Some kept) = (λ is. zero_then kept (true_of_not (is_zero kept) is), λ zeros. ap not (then_zero kept zeros))

@@ -1,8 +1,8 @@
 -- An account is found by its place: no two accounts have one.
-use Rattle.std.proofs.Common.{◌≡◌, ◌^◌, ◌&&◌, ◌==◌, ◌++◌, ℕ, Bool, true, false, cond, List, [], ◌∷◌, length, take, refl, ap, sym, ◌∙◌, subst, arith}
+use Rattle.std.proofs.Common.{◌≡◌, ◌^◌, ◌&&◌, ◌==◌, ◌++◌, ℕ, Bool, true, false, cond, List, [], ◌∷◌, length, take, refl, ap, sym, ◌∙◌, subst}
 use Rattle.std.specs.Prelude.{Option, Some, None, nat_lt}
 use Rattle.std.proofs.lemmas.Bool.{eqb-true}
-use Rattle.verdict.proofs.Truth.{both_ways}
+use Rattle.verdict.proofs.Truth.{both_ways, false_if}
 use Rattle.verdict.proofs.Lists.{empty_is}
 use Rattle.verdict.proofs.Answers.{some_is}
 use Rattle.accounts.proofs.Same.{same_account}
@@ -71,17 +71,13 @@ pub of_long_place : (a : Account) (p : LongPlace) → longer.long_of a ≡ Some 
 unfolding longer.long_of
 of_long_place a p is = long_case a p _ _ refl is
 
-apart_case : (b : Bool) → (b ≡ true → ⊥) → b ≡ false
-apart_case true not = absurd (not refl)
-apart_case false not = refl
-
 module _ {P : Type 0} (of : Account → Option P) where
   -- an account with a place is none without one
   pub apart : (a b : Account) (p : P) → of a ≡ Some p → of b ≡ None → is_same a b ≡ false
-  apart a b p at_a at_b = apart_case (is_same a b) (λ is. absurd (cc (sym at_a ∙ ap of (same_account a b is) ∙ at_b)))
+  apart a b p at_a at_b = false_if (is_same a b) (λ is. absurd (cc (sym at_a ∙ ap of (same_account a b is) ∙ at_b)))
 
   pub apart' : (a b : Account) (p : P) → of a ≡ None → of b ≡ Some p → is_same a b ≡ false
-  apart' a b p at_a at_b = apart_case (is_same a b) (λ is. absurd (cc (sym at_a ∙ ap of (same_account a b is) ∙ at_b)))
+  apart' a b p at_a at_b = false_if (is_same a b) (λ is. absurd (cc (sym at_a ∙ ap of (same_account a b is) ∙ at_b)))
 
   -- two accounts are one exactly where their places are
   pub alike : (back : P → Account) (same : P → P → Bool) → ((a : Account) (p : P) → of a ≡ Some p → back p ≡ a)
