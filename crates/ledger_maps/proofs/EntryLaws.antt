@@ -100,10 +100,6 @@ amount_stands kept field amount is small more zero =
     let e = is field ∙ ap (λ b. cond b amount 0) (at_field field small) in
     absurd (omega arith)
 
-pub in_err : {A E P : Type 0} (result : Result A E) → P → OnErr result P
-in_err (Ok a) is = tt
-in_err (Err e) is = is
-
 pub on_err : {A E P Q : Type 0} (result : Result A E) → (P → Q) → OnErr result P → OnErr result Q
 on_err (Ok a) follows is = is
 on_err (Err e) follows is = follows is

@@ -1,6 +1,6 @@
 -- What is kept of names once an entry is another.
 use Rattle.std.proofs.Common.{◌≡◌, ◌<◌, ◌==◌, ◌&&◌, ℕ, Bool, true, false, cond, not, List, length, set, refl, ap, sym, ◌∙◌, subst, arith}
-use Rattle.std.specs.Prelude.{Option, Some, None, Result, Ok, Err, IfOk, nat_lt, slice_get}
+use Rattle.std.specs.Prelude.{Option, Some, None, nat_lt, slice_get}
 use Rattle.std.specs.Map.{lookup}
 use Rattle.std.proofs.lemmas.Bool.{eqb-false, eqb-true}
 use Rattle.indexmap.specs.IndexMap.{IndexMap}
@@ -77,10 +77,6 @@ module _ (old new : List (LongPlace × Kept)) (key : LongPlace) (w : Option Kept
   pub entries_rest : Rests (side_of (sums_at (lookup (is_same_long key) old))) (side_of (sums_at w))
       → Rests (names_by (λ q. lookup (is_same_long q) old)) (names_by (λ q. lookup (is_same_long q) new))
   entries_rest = names_rest (λ q. lookup (is_same_long q) old) (λ q. lookup (is_same_long q) new) key w updates (own_long key)
-
-pub if_ok : {A E : Type 0} {P Q : A → Type 0} (result : Result A E) → ((a : A) → P a → Q a) → IfOk result P → IfOk result Q
-if_ok (Ok a) follows is = follows a is
-if_ok (Err e) follows is = is
 
 -- where no entry stands, nothing is taken
 module _ (entries : Entries LongPlace) (name : Name) (absent : entries name.place ≡ None) where
@@ -195,15 +191,3 @@ module _ {S : Type 0} (parts : List (IndexMap LongPlace Kept S)) (i : ℕ) (part
       shifts_set raise raise_none field amount is.0,
       (λ low. subst (λ x. x < greatest) (sym (new_of name field (sym here))) (is.1.0 low), λ no. has_set ∙ is.1.1 no),
     )
-
-same_has : (f g : ℕ → ℕ) → g 0 ≡ f 0 → g 1 ≡ f 1 → has_sums f ≡ has_sums g
-same_has f g is1 is2 = ap (λ x. not (x == 0 && f 1 == 0)) (sym is1) ∙ ap (λ x. not (g 0 == 0 && x == 0)) (sym is2)
-
--- of sums that were first put into other parts
-pub posted_after : (old mid new : Name → ℕ → ℕ) (may_begin : Bool) (name : Name) (field amount : ℕ) (full : Option Bool) → Rests old mid
-    → Posted is_same_name may_begin name field amount mid new full → Posted is_same_name may_begin name field amount old new full
-posted_after old mid new may_begin name field amount None rest is = (same_has (old name) (mid name) (rest name 0) (rest name 1) ∙ is.0, λ t n. is.1 t n ∙ rest t n)
-posted_after old mid new may_begin name field amount (Some full) rest is = (
-  (λ t n. is.0 t n ∙ ap (raise (cond (is_same_name name t && (field == n && nat_lt n 9)) amount 0)) (rest t n)),
-  (is.1.0, λ no. same_has (old name) (mid name) (rest name 0) (rest name 1) ∙ is.1.1 no),
-)

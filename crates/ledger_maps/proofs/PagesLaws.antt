@@ -1,5 +1,5 @@
 -- What pages say once one of them is changed.
-use Rattle.std.proofs.Common.{◌≡◌, ◌<◌, ◌≤◌, ◌^◌, ◌==◌, ◌&&◌, ℕ, zero, suc, Bool, true, false, cond, List, [], ◌∷◌, ◌++◌, length, set, ⊎_elim, refl, ap, sym, ◌∙◌, subst, arith}
+use Rattle.std.proofs.Common.{◌≡◌, ◌<◌, ◌≤◌, ◌^◌, ◌==◌, ◌&&◌, ℕ, zero, suc, Bool, true, false, cond, List, [], ◌∷◌, length, set, ⊎_elim, refl, ap, sym, ◌∙◌, subst, arith}
 use Rattle.std.specs.Prelude.{Option, Some, None, Result, Ok, Err, OnOk, OnErr, nat_lt, slice_get}
 use Rattle.std.specs.Map.{lookup}
 use Rattle.std.proofs.lemmas.Bool.{cases_lt, eq-eqb, eqb-false, eqb-true, lt-ltb}
@@ -8,7 +8,7 @@ use Rattle.ledger_maps.specs.declared.page.Page.{Page}
 use Rattle.ledger_keys.specs.declared.seat.PageKey.{PageKey}
 use Rattle.ledger_keys.specs.declared.seat.Seat.{Seat}
 use Rattle.ledger_maps.specs.Entries.{Changes, Stays}
-use Rattle.ledger_keys.specs.Kept.{IsZero, kept_sum, sums_at}
+use Rattle.ledger_keys.specs.Kept.{kept_sum, sums_at}
 use Rattle.ledger_maps.specs.Pages.{ArePages, AreZero, SlotChanges, SlotsStay, seats_by, slots_of}
 use Rattle.ledger_keys.specs.Seat.{is_same_page, is_same_seat}
 use Rattle.ledger_keys.specs.SeatLaws.{same_page}
@@ -17,13 +17,6 @@ use Rattle.ledger_keys.proofs.SumLaws.{lower_none, raise_none, raised_nothing}
 use Rattle.ledger_maps.proofs.PartLaws.{set_apart, set_here}
 
 -- ---- the slots of a page
-
--- one more without sums
-pub zero_more : (xs : List Kept) (x : Kept) → AreZero xs → IsZero x → AreZero (xs ++ x ∷ [])
-zero_more [] x zeros none zero n = none n
-zero_more [] x zeros none (suc i) n = refl
-zero_more (y ∷ ys) x zeros none zero n = zeros 0 n
-zero_more (y ∷ ys) x zeros none (suc i) n = zero_more ys x (λ j m. zeros (suc j) m) none i n
 
 pub get_past : (xs : List Kept) (i : ℕ) → length xs ≤ i → slice_get xs i ≡ None
 get_past [] i past = refl

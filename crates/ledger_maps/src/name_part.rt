@@ -64,18 +64,14 @@ pub fn post_to(
     ensures counted { CountedOf map.old → CountedOf map.new }
     ensures few { index_map_len map.new ≤ index_map_len map.old + 1 }
 {
-    match map.entry(name.place) {
-        Ok(Entry::Occupied(entry)) => {
+    match map.entry(name.place)? {
+        Entry::Occupied(entry) => {
             let at = entry.index();
-            match entry
-                .into_mut()
-                .post(alloc, name.side, field, amount, may_begin)
-            {
-                Ok(full) => Ok((full, at)),
-                Err(_) => Err(NoMemory),
-            }
+            let kept = entry.into_mut();
+            let full = kept.post(alloc, name.side, field, amount, may_begin)?;
+            Ok((full, at))
         }
-        Ok(Entry::Vacant(entry)) => {
+        Entry::Vacant(entry) => {
             let mut kept = Kept::no_name();
             match kept.post(alloc, name.side, field, amount, may_begin) {
                 Ok(Some(full)) => {
@@ -93,7 +89,6 @@ pub fn post_to(
                 }
             }
         }
-        Err(_) => Err(NoMemory),
     }
 }
 

@@ -26,13 +26,9 @@ impl Page {
         ensures { IfOk result (λ page. SlotChanges raise [] page.slots.items slot field amount) }
     {
         let mut slots = Vec::new(alloc);
-        if slots.reserve(16).is_err() {
-            return Err(NoMemory);
-        }
+        slots.reserve(16)?;
         for _slot in 0..16usize {
-            if slots.push(Kept::none()).is_err() {
-                return Err(NoMemory);
-            }
+            slots.push(Kept::none())?;
         }
         slots[usize::from(slot)] = Kept::one(alloc, field, amount)?;
         Ok(Page { slots })

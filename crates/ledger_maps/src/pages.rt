@@ -235,15 +235,13 @@ fn add_to(
     ensures stand { StandIn map.old → StandIn map.new }
     ensures few { index_map_len map.new ≤ index_map_len map.old + 1 }
 {
-    match map.entry(seat.page) {
-        Ok(Entry::Occupied(entry)) => {
+    match map.entry(seat.page)? {
+        Entry::Occupied(entry) => {
             let at = entry.index();
-            match entry.into_mut().raise(alloc, seat.slot, field, amount) {
-                Ok(full) => Ok((full, at)),
-                Err(_) => Err(NoMemory),
-            }
+            let full = entry.into_mut().raise(alloc, seat.slot, field, amount)?;
+            Ok((full, at))
         }
-        Ok(Entry::Vacant(entry)) => match Page::one(alloc, seat.slot, field, amount) {
+        Entry::Vacant(entry) => match Page::one(alloc, seat.slot, field, amount) {
             Ok(page) => {
                 let at = entry.index();
                 entry.insert(page);
@@ -254,7 +252,6 @@ fn add_to(
                 Err(NoMemory)
             }
         },
-        Err(_) => Err(NoMemory),
     }
 }
 

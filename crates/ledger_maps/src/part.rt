@@ -88,15 +88,13 @@ pub fn add_by_hash<K: Exact>(
     ensures tidy { AreTidy (by_key K.eq part.old) → AreTidy (by_key K.eq part.new) }
     ensures few { index_map_len part.new ≤ index_map_len part.old + 1 }
 {
-    match part.entry(*key) {
-        Ok(Entry::Occupied(entry)) => {
+    match part.entry(*key)? {
+        Entry::Occupied(entry) => {
             let at = entry.index();
-            match entry.into_mut().raise(alloc, field, amount) {
-                Ok(full) => Ok((full, at)),
-                Err(_) => Err(NoMemory),
-            }
+            let full = entry.into_mut().raise(alloc, field, amount)?;
+            Ok((full, at))
         }
-        Ok(Entry::Vacant(entry)) => match Kept::one(alloc, field, amount) {
+        Entry::Vacant(entry) => match Kept::one(alloc, field, amount) {
             Ok(kept) => {
                 let at = entry.index();
                 entry.insert(kept);
@@ -107,7 +105,6 @@ pub fn add_by_hash<K: Exact>(
                 Err(NoMemory)
             }
         },
-        Err(_) => Err(NoMemory),
     }
 }
 

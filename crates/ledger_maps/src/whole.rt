@@ -71,10 +71,8 @@ impl Whole {
         }
         let kept = Kept::one(alloc, field, amount)?;
         let account = copy_of(alloc, account)?;
-        match self.entries.insert(account, kept) {
-            Ok(_) => Ok(false),
-            Err(_) => Err(NoMemory),
-        }
+        self.entries.insert(account, kept)?;
+        Ok(false)
     }
 
     /// Takes an amount from a sum of an account, or all of it where it is less.

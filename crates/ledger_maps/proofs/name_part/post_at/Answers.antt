@@ -9,8 +9,9 @@ use Rattle.ledger_keys.specs.LongPlaceLaws.{long_equiv, own_long}
 use Rattle.ledger_keys.specs.Shifts.{Posted, Rests}
 use Rattle.ledger_keys.specs.Side.{IsCounted, is_same_side, side_of}
 use Rattle.ledger_maps.proofs.EntryLaws.{on_err}
-use Rattle.ledger_maps.proofs.NamesLaws.{counted_put, if_ok, names_posted, names_rest, others_put}
+use Rattle.ledger_maps.proofs.NamesLaws.{counted_put, names_posted, names_rest, others_put}
 use Rattle.ledger_maps.proofs.PlacedLaws.{kept_at, put_at}
+use Rattle.verdict.proofs.Answers.{each_ok}
 use Rattle.ledger_maps.proofs.name_part.post_at.Goals as goal
 
 pub returns-clause-counted : goal.returns-clause-counted
@@ -36,7 +37,7 @@ returns-clause-ok c =
     let put = put_at is_same_long long_equiv m c.args.at key c.post.new.self c.get_index_mut.ensures.unique c.requires.there in
     let had : by_key is_same_long m key ≡ Some c.unwrap-kept.result.now = kept_at is_same_long m m c.args.at key c.get_index_mut.result c.unwrap-kept.result refl c.requires.there
     c.unwrap-kept.ensures c.get_index_mut.ensures.value in
-    if_ok c.post.result (λ full is. names_posted (by_key is_same_long m) (by_key is_same_long (with_value_at m c.args.at c.post.new.self)) key (Some c.post.new.self) put (own_long key)
+    each_ok c.post.result (λ full is. names_posted (by_key is_same_long m) (by_key is_same_long (with_value_at m c.args.at c.post.new.self)) key (Some c.post.new.self) put (own_long key)
     c.args.may_begin c.args.name.now.side c.args.field c.args.amount full
     (subst (λ o. Posted is_same_side c.args.may_begin c.args.name.now.side c.args.field c.args.amount (side_of (sums_at o)) (side_of (kept_sum c.post.new.self)) full) (sym had) is))
     c.post.ensures.ok

@@ -43,8 +43,8 @@ invariant_of-self-2 c =
           (amount_stands c.in_ok-kept.kept c.args.field c.args.amount (search rules) c.requires.named c.requires.more);
     }
 
-pub returns-in-Ok-clause-ok : goal.returns-in-Ok-clause-ok
-returns-in-Ok-clause-ok c =
+pub returns-clause-ok : goal.returns-clause-ok
+returns-clause-ok c =
     let same : (q : Account) → by_account c.get_mut.follows.lender-at-none q ≡ by_account c.args.self.now.entries q = λ q. ap (λ m. by_account m q) c.get_mut.follows.holds-at-none in
     changed_entry is_same same_account raise raise_none (by_account c.args.self.now.entries) (by_account c.insert.new.self) c.args.account.now c.args.field c.args.amount (Some c.in_ok-kept.kept)
     (λ q. grind (arith, common_steps))
