@@ -35,6 +35,7 @@ use Rattle.ledger_keys.specs.Place.{account_of, is_same_place, part_of, place_of
 use Rattle.ledger_keys.specs.PlaceLaws.{same_place}
 use Rattle.ledger_index.proofs.SinglesLaws.{at_long, at_place, at_whole}
 use Rattle.ledger_keys.proofs.PlaceLaws.{of_long_place, of_place}
+use Rattle.verdict.proofs.Truth.{is_less}
 
 -- ---- an account is judged
 
@@ -43,11 +44,6 @@ not_itself a k same less =
     let tie : account_cmp k k ≡ Equal = is_Equal (account_cmp k k) (account_equiv.refl k) in
     let it : account_cmp k k ≡ Less = subst (λ b. account_cmp b k ≡ Less) same less in
     absurd (cc (tie, it))
-
-is_less : (o : Ordering) → is_lt o ≡ true → o ≡ Less
-is_less Less is = refl
-is_less Equal is = absurd (cc is)
-is_less Greater is = absurd (cc is)
 
 not_less : (o : Ordering) {A : Type 0} → is_lt o ≡ false → o ≡ Less → A
 not_less Less is less = absurd (cc is)

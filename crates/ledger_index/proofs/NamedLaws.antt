@@ -1,9 +1,8 @@
 -- The least broken account of those of names, one name and one side after the other.
-use Rattle.std.proofs.Common.{◌≡◌, ◌<◌, ◌^◌, ◌==◌, ◌&&◌, ◌||◌, ℕ, Bool, true, false, not, cond, List, [], ◌∷◌, ◌⊎◌, inl, inr, refl, ap, sym, ◌∙◌, subst, arith}
+use Rattle.std.proofs.Common.{◌≡◌, ◌<◌, ◌^◌, ◌&&◌, ◌||◌, ℕ, Bool, true, false, cond, List, [], ◌∷◌, ◌⊎◌, inl, inr, refl, ap, sym, ◌∙◌, subst, arith}
 use Rattle.std.specs.Prelude.{Option, Some, None, is_some}
 use Rattle.std.specs.Map.{lookup}
 use Rattle.std.proofs.Math.Path.{fun_ext}
-use Rattle.std.proofs.lemmas.Bool.{eq-eqb}
 use Rattle.verdict.proofs.Answers.{some_is}
 use Rattle.accounts.specs.declared.account.Account.{Account}
 use Rattle.accounts.specs.Broken.{is_broken}
@@ -30,9 +29,7 @@ use Rattle.ledger_keys.proofs.NameLaws.{of_name, small_number}
 use Rattle.ledger_maps.proofs.NamesLaws.{nothing_had}
 use Rattle.ledger_keys.proofs.SideLaws.{side_is, stands_number}
 use Rattle.ledger_index.proofs.UnpagedLaws.{at_free, at_has, at_none, rule_of}
-
-even_keeps : (x y : ℕ) → x ≡ y → not (x == y) ≡ false
-even_keeps x y is = ap not (eq-eqb x y is)
+use Rattle.verdict.proofs.Numbers.{not_differs}
 
 -- which accounts are passed
 module _ (names : Name → ℕ → ℕ) (entries : List (LongPlace × Kept)) (p : LongPlace) (kept : Kept)
@@ -136,7 +133,7 @@ module _ (unpaged : Unpaged) where
       at_has unpaged a (record { place = p; side = s }) at (ap (λ o. has_sums (side_of (sums_at o) s)) there ∙ has) n low ∙ ap (λ o. side_of (sums_at o) s n) there
 
   keeps : (a : Account) (t : Name) → name_of a ≡ Some t → sums_of unpaged a 0 ≡ sums_of unpaged a 1 → is_broken a (sums_of unpaged a) ≡ false
-  keeps a t at even = rule_of a t at (sums_of unpaged a) ∙ even_keeps (sums_of unpaged a 0) (sums_of unpaged a 1) even
+  keeps a t at even = rule_of a t at (sums_of unpaged a) ∙ not_differs (sums_of unpaged a 0) (sums_of unpaged a 1) even
 
   module _ (p : LongPlace) (kept : Kept) (there : by_parts is_same_long part_of unpaged.names.parts.items p ≡ Some kept) where
     pub has_there : (t : Name) → t.place ≡ p → has_sums (names_in unpaged.names.parts.items t) ≡ has_sums (side_of (kept_sum kept) t.side)
@@ -216,7 +213,7 @@ module _ (unpaged : Unpaged) where
       go true has =
           let z0 = unpaged.once l t at has 0 (omega arith) in
           let z1 = unpaged.once l t at has 1 (omega arith) in
-          absurd (cc (sym broken ∙ rule_of l t at (single.sums_of unpaged.singles l) ∙ even_keeps _ _ (z0 ∙ sym z1)))
+          absurd (cc (sym broken ∙ rule_of l t at (single.sums_of unpaged.singles l) ∙ not_differs _ _ (z0 ∙ sym z1)))
 
   pub names_start : (found : Option Account) → IsLeastBroken (λ account. is_broken account (single.sums_of unpaged.singles account)) found
       → IsLeastBut (sums_of unpaged) (left_names (names_in unpaged.names.parts.items) (entries_in unpaged.names.parts.items)) found

@@ -155,13 +155,11 @@ impl<K: Exact> Table<K> {
         ensures few { count_in self.new.parts.items ≤ count_in self.old.parts.items + 1 }
     {
         match self.parts.get_mut(key.part()) {
-            Some(part) => match add_by_hash(part, alloc, key, field, amount) {
-                Ok((full, at)) => {
-                    self.near[slot_of(mixed)] = hint_of(mixed, at);
-                    Ok(full)
-                }
-                Err(_) => Err(NoMemory),
-            },
+            Some(part) => {
+                let (full, at) = add_by_hash(part, alloc, key, field, amount)?;
+                self.near[slot_of(mixed)] = hint_of(mixed, at);
+                Ok(full)
+            }
             None => Err(NoMemory),
         }
     }
@@ -325,10 +323,8 @@ impl Table<LongPlace> {
         if let Some(at) = at {
             return self.post_at(alloc, at, name, field, amount, may_begin);
         }
-        match self.seed(alloc, seed) {
-            Ok(()) => self.post_by_hash(alloc, name, field, amount, may_begin),
-            Err(_) => Err(NoMemory),
-        }
+        self.seed(alloc, seed)?;
+        self.post_by_hash(alloc, name, field, amount, may_begin)
     }
 
     // Adds as `post` does, to an account of a name whose entry stands at this index of its part.
@@ -380,14 +376,12 @@ impl Table<LongPlace> {
         ensures few { count_in self.new.parts.items ≤ count_in self.old.parts.items + 1 }
     {
         match self.parts.get_mut(name.place.part()) {
-            Some(part) => match post_to(part, alloc, name, field, amount, may_begin) {
-                Ok((full, at)) => {
-                    let mixed = name.place.mixed();
-                    self.near[slot_of(mixed)] = hint_of(mixed, at);
-                    Ok(full)
-                }
-                Err(_) => Err(NoMemory),
-            },
+            Some(part) => {
+                let (full, at) = post_to(part, alloc, name, field, amount, may_begin)?;
+                let mixed = name.place.mixed();
+                self.near[slot_of(mixed)] = hint_of(mixed, at);
+                Ok(full)
+            }
             None => Err(NoMemory),
         }
     }
@@ -420,9 +414,7 @@ fn parts_of<K: Exact>(
     ensures { IfOk result (λ parts. AreEmpty parts.items) }
 {
     let mut parts = Vec::new(alloc);
-    if parts.reserve(PARTS).is_err() {
-        return Err(NoMemory);
-    }
+    parts.reserve(PARTS)?;
     for _number in 0..PARTS {
         put_part(&mut parts, IndexMap::with_hasher(alloc, Seeded::of(seed)))?;
     }
@@ -437,8 +429,5 @@ fn put_part<K: Exact>(
     ensures { part.entries ≡ [] → AreEmpty parts.old.items →
         OnOk result (AreEmpty parts.new.items) }
 {
-    match parts.push(part) {
-        Ok(()) => Ok(()),
-        Err(_) => Err(NoMemory),
-    }
+    Ok(parts.push(part)?)
 }

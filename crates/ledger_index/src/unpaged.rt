@@ -118,10 +118,9 @@ impl Unpaged {
         ensures err { OnErr result (sums_of self.new ≡ sums_of self.old) }
         ensures few { entries_of self.new ≤ entries_of self.old + 1 }
     {
-        match self.add_named(account, field, amount, steps) {
-            Ok(Some(full)) => Ok(full),
-            Ok(None) => self.singles.add_saturating(account, field, amount, steps),
-            Err(_) => Err(NoMemory),
+        match self.add_named(account, field, amount, steps)? {
+            Some(full) => Ok(full),
+            None => self.singles.add_saturating(account, field, amount, steps),
         }
     }
 
@@ -206,13 +205,12 @@ impl Unpaged {
             field,
             amount,
             may_begin,
-        ) {
-            Ok(Some(full)) => Ok(Some(full)),
-            Ok(None) => {
+        )? {
+            Some(full) => Ok(Some(full)),
+            None => {
                 self.apart = true;
                 Ok(None)
             }
-            Err(_) => Err(NoMemory),
         }
     }
 

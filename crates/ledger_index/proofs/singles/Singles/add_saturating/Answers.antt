@@ -4,9 +4,9 @@ use Rattle.ledger_maps.specs.Entries.{by_parts}
 use Rattle.ledger_keys.specs.Kept.{sums_at}
 use Rattle.ledger_index.specs.Singles.{entries_of, short_in}
 use Rattle.ledger_keys.specs.Place.{is_same_place, part_of}
-use Rattle.verdict.proofs.Answers.{ok_follows}
+use Rattle.verdict.proofs.Answers.{ok_follows, on_err as in_err}
 use Rattle.ledger_keys.proofs.SumLaws.{raise_none}
-use Rattle.ledger_maps.proofs.EntryLaws.{changes_after, full_as, in_err, on_err, stays_after}
+use Rattle.ledger_maps.proofs.EntryLaws.{changes_after, full_as, on_err, stays_after}
 use Rattle.ledger_index.proofs.SinglesLaws.{all_stay, at_place, short_changed}
 use Rattle.ledger_index.proofs.singles.Singles.add_saturating.Goals as goal
 

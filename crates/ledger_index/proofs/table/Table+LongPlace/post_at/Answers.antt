@@ -1,8 +1,9 @@
 use Rattle.std.proofs.Common.{arith, length, refl, sym}
 use Rattle.std.proofs.lemmas.Option.{slice_get_read}
 use Rattle.ledger_maps.proofs.EntryLaws.{on_err}
-use Rattle.ledger_maps.proofs.NamesLaws.{counted_part, counted_set, fit_set, if_ok, posted_set, rests_set}
+use Rattle.ledger_maps.proofs.NamesLaws.{counted_part, counted_set, fit_set, posted_set, rests_set}
 use Rattle.ledger_maps.proofs.PartLaws.{count_set}
+use Rattle.verdict.proofs.Answers.{each_ok}
 use Rattle.ledger_index.proofs.table.Table+LongPlace.post_at.Goals as goal
 
 pub invariant_of-self : goal.invariant_of-self
@@ -20,7 +21,7 @@ returns-in-Some-clause-ok c =
     let parts = c.args.self.now.parts.items in
     let within = c.in-Some.ensures.item.3.0 in
     let there = slice_get_read parts (length parts) c.part.result c.in-Some.part.now refl within c.in-Some.ensures.item.1 in
-    if_ok c.post_at.result (λ full is. posted_set parts c.part.result c.in-Some.part.now c.post_at.new.map within there c.args.name.now (sym c.part.ensures) c.args.may_begin c.args.field c.args.amount full is)
+    each_ok c.post_at.result (λ full is. posted_set parts c.part.result c.in-Some.part.now c.post_at.new.map within there c.args.name.now (sym c.part.ensures) c.args.may_begin c.args.field c.args.amount full is)
     c.post_at.ensures.ok
 
 pub returns-in-Some-clause-err : goal.returns-in-Some-clause-err
