@@ -20,6 +20,7 @@ use Rattle.sector_runs.specs.declared.kept.Sectors.{Sectors}
 use Rattle.sector_runs.specs.Kept.{Entries, below, begins, ends, number_at}
 use Rattle.sector_runs.specs.Edges.{sums_of}
 use Rattle.sector_runs.specs.Runs.{IsLeastBroken}
+use Rattle.verdict.proofs.Numbers.{less_is}
 
 abbrev pub Entry : Type 0
 Entry = ℕ × Edges
@@ -58,13 +59,10 @@ pub record IsSwept (g : ℕ → ℕ) (es : List Entry) : Type 0 where
 abbrev pub HaveRoom : (ℕ → ℕ) → List Entry → Type 0
 HaveRoom g es = (field : ℕ) → AllByRecursion (λ k. g field ≤ 2 ^ 64 * k) (keys_of es)
 
-less : (a b : ℕ) → nat_cmp a b ≡ Less → a < b
-less a b is = grind (arith, nat_tests)
-
 none_listed : (number : Edges → ℕ) (es : List Entry) (k n : ℕ) → AllByRecursion (λ y. nat_cmp k y ≡ Less) (keys_of es) → n ≤ suc k → listed number es n ≡ 0
 none_listed number [] k n above small = refl
 none_listed number (e ∷ es) k n above small =
-    let later : k < e.0 = less k e.0 above.0 in
+    let later : k < e.0 = less_is k e.0 above.0 in
     let rest = none_listed number es k n above.1 small in
     let out : cond (nat_lt e.0 n) (number e.1) 0 ≡ 0 = grind (arith, nat_tests) in
     omega (arith, rest, out)
@@ -72,7 +70,7 @@ none_listed number (e ∷ es) k n above small =
 more_keys : (g h k : ℕ) (ks : List ℕ) → AllByRecursion (λ y. nat_cmp k y ≡ Less) ks → g ≤ 2 ^ 64 * k → h ≤ g + 2 ^ 64 → AllByRecursion (λ y. h ≤ 2 ^ 64 * y) ks
 more_keys g h k [] above was more = tt
 more_keys g h k (y ∷ ks) above was more =
-    let later : k < y = less k y above.0 in
+    let later : k < y = less_is k y above.0 in
     let here : h ≤ 2 ^ 64 * y = omega (arith, later, was, more) in
     (here, more_keys g h k ks above.1 was more)
 
@@ -155,13 +153,13 @@ breaks_later g e es address swept here later =
 
 later_first : (g : ℕ → ℕ) (e : Entry) (es : List Entry) (r : Option ℕ) → IsSwept g (e ∷ es) → sector_keeps g ≡ true → sector_keeps (behind g e.1) ≡ true → IsFirst (sums_behind (behind g e.1) es) r → IsFirst (sums_behind g (e ∷ es)) r
 later_first g e es None swept fine here rest = λ a. keeps_later g e es a swept fine (rest a)
-later_first g e es (Some l) swept fine here rest = (breaks_later g e es l swept here rest.0, λ a less. keeps_later g e es a swept fine (rest.1 a less))
+later_first g e es (Some l) swept fine here rest = (breaks_later g e es l swept here rest.0, λ a less_is. keeps_later g e es a swept fine (rest.1 a less_is))
 
 here_first : (g : ℕ → ℕ) (e : Entry) (es : List Entry) → IsSwept g (e ∷ es) → sector_keeps g ≡ true → sector_keeps (behind g e.1) ≡ false → IsFirst (sums_behind g (e ∷ es)) (Some e.0)
 here_first g e es swept fine here =
     let above = sorted_head nat_cmp e.0 (keys_of es) swept.sorted in (
       ap sector_keeps (sums_from g e es e.0 (first_begun g e es swept) (omega arith) ∙ sums_at_edge (behind g e.1) e.0 es e.0 above (omega arith)) ∙ here,
-      λ a less. ap sector_keeps (sums_before g e es a above less) ∙ fine,
+      λ a less_is. ap sector_keeps (sums_before g e es a above less_is) ∙ fine,
     )
 
 either_first : (g : ℕ → ℕ) (e : Entry) (es : List Entry) (b : Bool) → sector_keeps (behind g e.1) ≡ b → IsSwept g (e ∷ es) → sector_keeps g ≡ true
@@ -283,7 +281,7 @@ least_case s None is ordered first = λ a. keeps_case s a (is_multiple a) refl o
 least_case s (Some l) is ordered first = (
   let sector_there : is_multiple l ≡ true = s.sound.at_sectors l (has_entry zero_sums s.edges.entries l is) in
       broken_sector l (sums_of s l) ∙ ap (λ f. not (sector_keeps f)) (at_sector s l true sector_there ordered) ∙ ap not first.0,
-  λ a less. keeps_case s a (is_multiple a) refl ordered (first.1 a less),
+  λ a less_is. keeps_case s a (is_multiple a) refl ordered (first.1 a less_is),
 )
 
 pub swept_least : (s : Sectors) → IsOrdered nat_cmp s.edges → IsLeastBroken (sums_of s) (sweep zero_sums s.edges.entries)

@@ -68,8 +68,8 @@ fn mark(edges: &mut BTreeMap<u64, Edges>, at: u64, more: Edges) -> Result<(), No
     ensures ok { OnOk result (IsMarked (get nat_cmp edges.old) (get nat_cmp edges.new) at more) }
     ensures err { OnErr result ((q : ℕ) → get nat_cmp edges.new q ≡ get nat_cmp edges.old q) }
 {
-    match edges.entry(at) {
-        Ok(Entry::Occupied(mut entry)) => {
+    match edges.entry(at)? {
+        Entry::Occupied(mut entry) => {
             let joined = entry.get().joined(more)?;
             if joined == Edges::NONE {
                 entry.remove();
@@ -78,11 +78,10 @@ fn mark(edges: &mut BTreeMap<u64, Edges>, at: u64, more: Edges) -> Result<(), No
             }
             Ok(())
         }
-        Ok(Entry::Vacant(entry)) => {
+        Entry::Vacant(entry) => {
             entry.insert(more);
             Ok(())
         }
-        Err(_) => Err(NoMemory),
     }
 }
 
