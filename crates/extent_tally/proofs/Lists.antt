@@ -13,13 +13,13 @@ use Rattle.accounts.specs.Kinds.{extent, extent_form}
 use Rattle.accounts.specs.Posts.{Posts}
 use Rattle.accounts.specs.Sums.{added, is_same, total_of}
 use Rattle.accounts.specs.Tally.{Sums, kept, no_sums}
-use Rattle.accounts.proofs.Apart.{adds_beside, adds_exactly, adds_listed, adds_nothing, adds_then, more_alike}
-use Rattle.accounts.proofs.Kept.{total_joined}
+use Rattle.accounts.proofs.Apart.{adds_beside, adds_exactly, adds_listed, adds_then, more_alike}
 use Rattle.accounts.specs.Lent.{to}
 use Rattle.extent_tally.specs.declared.class.ExtentClass.{ExtentClass}
 use Rattle.extent_tally.specs.Gains.{IsMore, new_class}
 use Rattle.extent_tally.specs.Held.{class_sums, sums_of, user}
 use Rattle.extent_tally.proofs.Parts.{none_even}
+use Rattle.verdict.proofs.Answers.{on_ok}
 
 -- ---- sums that come to more, with any list
 
@@ -114,20 +114,8 @@ pub if_some : {T : Type 0} {A B : T → Type 0} (r : Option T) → IfSome r A �
 if_some (Some x) a gives = gives x a
 if_some None a gives = tt
 
-pub on_ok : {T E A B : Type 0} (r : Result T E) → OnOk r A → (A → B) → OnOk r B
-on_ok (Ok x) a gives = gives a
-on_ok (Err e) a gives = tt
-
 -- all stands behind the list, and what is kept apart is as it was
 pub adds_posted : {T E : Type 0} (old new : Sums) (before after : List Posting) (r : Result T E) (given : List Posting) → new ≡ old → Posts before after r given
     → OnOk r (AddsUp old new before after given)
 adds_posted old new before after r given same posts =
     on_ok r posts.all (λ is. subst (λ (s : Sums). AddsUp old s before after given) (sym same) (adds_listed old before after given is))
-
--- nothing is given
-pub adds_none : (sums : Sums) (list given : List Posting) → given ≡ [] → AddsUp sums sums list list given
-adds_none sums list given none = subst (λ ps. AddsUp sums sums list list ps) (sym none) (adds_nothing sums list)
-
--- sums that come to more, by postings that are the same
-pub adds_given : (old new : Sums) (list given other : List Posting) → given ≡ other → IsMore old new other → AddsUp old new list list given
-adds_given old new list given other same more = adds_more old new list given (subst (λ ps. IsMore old new ps) (sym same) more)

@@ -2,7 +2,6 @@
 use Rattle.std.proofs.Common.{◌≡◌, ℕ, ◌+◌, ◌-◌, min, ◌==◌, ◌&&◌, Bool, true, false, cond, List, [], ◌∷◌, ◌++◌, refl, ap, sym, ◌∙◌, subst, arith}
 use Rattle.std.specs.Prelude.{nat_lt}
 use Rattle.std.proofs.Math.Path.{fun_ext}
-use Rattle.std.proofs.lemmas.Bool.{eqb-true}
 use Rattle.accounts.specs.declared.account.Account.{Account}
 use Rattle.accounts.specs.declared.postings.Posting.{Posting}
 use Rattle.accounts.specs.Kinds.{block_ref, data_ref, extent, extent_form, balances}
@@ -14,7 +13,7 @@ use Rattle.accounts.proofs.Kept.{balanced_kept, total_joined}
 use Rattle.accounts.proofs.Same.{same_account}
 use Rattle.accounts.specs.Lent.{to}
 use Rattle.extent_tally.specs.declared.class.ExtentClass.{ExtentClass}
-use Rattle.extent_tally.specs.Held.{class_sums, user, user_account}
+use Rattle.extent_tally.specs.Held.{class_sums, user_account}
 use Rattle.extent_tally.specs.Gains.{Gains, IsMore, IsOfUser, use_postings, with_user}
 
 -- ---- postings to one account
@@ -333,12 +332,6 @@ of_no_user class root ino origin nothing none = record {
       let x : total_of (user_part new) a n ≡ 0 = (λ i. total_of (to (user_account new) 0 (nothing i) ∷ to (user_account new) 1 (none i) ∷ []) a n) ∙ none_used (user_account new) a n in
       let y : total_of (user_part class) a n ≡ 0 = (λ i. total_of (to (user_account class) 0 (nothing i) ∷ to (user_account class) 1 (none i) ∷ []) a n) ∙ none_used (user_account class) a n in
       parts new a n ∙ (λ i. total_of (extent_part class) a n + (total_of (form_part class) a n + (x ∙ sym y) i)) ∙ sym (parts class a n);
-}
-
-pub of_same_user : (class : ExtentClass) (root ino origin : ℕ) → class.root ≡ root → class.ino ≡ ino → class.origin ≡ origin → IsOfUser class class root ino origin
-of_same_user class root ino origin e1 e2 e3 = record {
-  is = λ i. with_user class (e1 i) (e2 i) (e3 i);
-  same = λ a n. refl;
 }
 
 pub gains_as : (old mid new : ExtentClass) (root ino origin : ℕ) (given : List Posting) → IsOfUser old mid root ino origin → Gains mid new given → Gains old new given

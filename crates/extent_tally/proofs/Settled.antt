@@ -5,7 +5,7 @@ use Rattle.std.specs.BTreeMap.{get}
 use Rattle.std.proofs.Math.Path.{fun_ext}
 use Rattle.std.proofs.Math.Bool.{or-true}
 use Rattle.std.proofs.Math.Seq.{drop-cons}
-use Rattle.std.proofs.lemmas.Bool.{eq-eqb, eqb-true, le-leb, ne_eqb}
+use Rattle.std.proofs.lemmas.Bool.{eqb-true, le-leb, ne_eqb}
 use Rattle.std.proofs.lemmas.List.{drop_all}
 use Rattle.std.proofs.lemmas.List.Sums.{sum_by-cons}
 use Rattle.accounts.specs.declared.account.Account.{Account}
@@ -25,6 +25,7 @@ use Rattle.extent_tally.specs.declared.tally.ExtentTally.{ExtentTally}
 use Rattle.extent_tally.specs.Gains.{AreAbove, AreApart, KeepsAll}
 use Rattle.extent_tally.specs.Held.{class_postings, class_sums, extents_apart, is_of_extents, sums_of, user_account}
 use Rattle.extent_tally.proofs.Parts.{alike, elsewhere, extent_kept, extent_part, extent_sum, form_kept, form_part, parts, user_kept, user_part, user_sum}
+use Rattle.verdict.proofs.Numbers.{itself}
 
 -- what is broken rests on what is kept
 broken_alike : (a : Account) (f g : ℕ → ℕ) → kept a.kind f ≡ kept a.kind g → is_broken a f ≡ is_broken a g
@@ -56,13 +57,10 @@ of_other_kind class a other =
     none_of class a (not_same f (extent class.address) a refl other) (not_same f (extent_form class.address class.sort class.form) a refl other)
     (not_same f (user_account class) a (user_tests f (class.sort == 169) class.address class.root class.ino class.origin refl refl) other)
 
-same_number : (x : ℕ) → (x == x) ≡ true
-same_number x = eq-eqb x x refl
-
 of_other_block : (class : ExtentClass) (a : Account) → (a.block == class.address) ≡ false → (n : ℕ) → class_sums class a n ≡ 0
 of_other_block class a other =
     let f : Account → Bool = λ x. x.block == class.address in
-    let own = same_number class.address in
+    let own = itself class.address in
     none_of class a (not_same f (extent class.address) a own other) (not_same f (extent_form class.address class.sort class.form) a own other)
     (not_same f (user_account class) a (user_tests f (class.sort == 169) class.address class.root class.ino class.origin own own) other)
 
@@ -128,7 +126,7 @@ module _ (class : ExtentClass) (keeps : KeepsAll class) where
       (λ i n. cond (n == 0) (min (f0 i) 2) (cond (n == 1) ((f1 i - f2 i) + min 1 (min (f1 i) (f2 i))) (cond (n == 2) ((f2 i - f1 i) + min 1 (min (f1 i) (f2 i))) 0))) in
       let some = keeps.some in
       broken_alike x f links (extent_kept x f links refl same)
-      ∙ (λ i. not (true && ((same_number class.linked i && le-leb 1 class.linked (omega (arith, some)) i) && true)))
+      ∙ (λ i. not (true && ((itself class.linked i && le-leb 1 class.linked (omega (arith, some)) i) && true)))
 
   form_here : (n : ℕ) → class_sums class (extent_form class.address class.sort class.form) n ≡ total_of (form_part class) (extent_form class.address class.sort class.form) n
   form_here n =

@@ -61,10 +61,7 @@ impl ExtentTally {
         let Some(class) = ExtentClass::of(key, refs) else {
             return into.put_extent(self.alloc, key, refs);
         };
-        match self.list.push(class) {
-            Ok(()) => Ok(()),
-            Err(_) => Err(NoMemory),
-        }
+        Ok(self.list.push(class)?)
     }
 
     /// Adds so many references to the extent at a logical address. What has no compact form is put behind the postings.

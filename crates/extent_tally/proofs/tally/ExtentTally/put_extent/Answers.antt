@@ -17,11 +17,11 @@ returns-in_default c =
     adds_posted (extents_apart c.args.self.now) (extents_apart c.args.self.now) c.args.into.now c.put_extent-in_default.new.self c.put_extent-in_default.result _ refl
     c.put_extent-in_default.ensures
 
-pub returns-in-Ok : goal.returns-in-Ok
+pub returns : goal.returns
 unfolding extents_apart
-returns-in-Ok c =
+returns c =
     let es = c.args.self.now.list.items in
     let class = c.in-Some.class in
     let into = c.args.into.now in
-    subst (λ (l : List ExtentClass). AddsUp (sums_of es) (sums_of l) into into (extent_triple c.args.key c.args.refs)) (sym c.in-Ok.ensures.items)
+    subst (λ (l : List ExtentClass). AddsUp (sums_of es) (sums_of l) into into (extent_triple c.args.key c.args.refs)) (sym c.in_ok-push.ensures.items)
     (push_adds es c.args.key c.args.refs class class into into [] c.in-Some.ensures (adds_nothing (class_sums class) into))
