@@ -38,15 +38,15 @@ impl<L> LiveIndex<L> {
     {
         steps.look();
         let place = place_of(live.tree, live.address);
-        match self.pairs.insert(place, live) {
-            Ok(None) => match self.orders.add(&live) {
+        match self.pairs.insert(place, live)? {
+            None => match self.orders.add(&live) {
                 Ok(()) => Ok(()),
                 Err(_) => {
                     self.pairs.remove(&place);
                     Err(NoMemory)
                 }
             },
-            Ok(Some(old)) => match self.orders.exchange(&old, &live) {
+            Some(old) => match self.orders.exchange(&old, &live) {
                 Ok(()) => Ok(()),
                 Err(_) => {
                     // A pair stands there, so that this takes no memory.
@@ -54,7 +54,6 @@ impl<L> LiveIndex<L> {
                     Err(NoMemory)
                 }
             },
-            Err(_) => Err(NoMemory),
         }
     }
 

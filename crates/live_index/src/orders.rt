@@ -38,15 +38,13 @@ impl Orders {
         ensures err { OnErr result (AreKept self.old self.new) }
     {
         let address = address_of(live);
-        match self.by_address.insert(address) {
-            Ok(_) => match self.by_first.insert(key_of(live), *live) {
-                Ok(_) => Ok(()),
-                Err(_) => {
-                    self.by_address.remove(&address);
-                    Err(NoMemory)
-                }
-            },
-            Err(_) => Err(NoMemory),
+        self.by_address.insert(address)?;
+        match self.by_first.insert(key_of(live), *live) {
+            Ok(_) => Ok(()),
+            Err(_) => {
+                self.by_address.remove(&address);
+                Err(NoMemory)
+            }
         }
     }
 
@@ -66,15 +64,11 @@ impl Orders {
     {
         let old = key_of(from);
         let new = key_of(to);
-        match self.by_first.insert(new, *to) {
-            Ok(_) => {
-                if old != new {
-                    self.by_first.remove(&old);
-                }
-                Ok(())
-            }
-            Err(_) => Err(NoMemory),
+        self.by_first.insert(new, *to)?;
+        if old != new {
+            self.by_first.remove(&old);
         }
+        Ok(())
     }
 
     /// The least place by address from this address and tree on.

@@ -3,7 +3,8 @@ use Rattle.std.proofs.lemmas.Bool.{not-false, not-true}
 use Rattle.std.specs.BTreeMap.{is_at}
 use Rattle.std.specs.Map.{lookup}
 use Rattle.std.specs.Prelude.{Some, None, false, cond}
-use Rattle.live_index.specs.Orders.{by_first, first_at, has_address, is_key_of, key_place}
+use Rattle.live_index.specs.Orders.{AreKept, by_first, first_at, has_address, is_key_of, key_place}
+use Rattle.verdict.proofs.Answers.{on_err}
 use Rattle.live_index.proofs.PlaceLaws.{map_key, moved_other, moved_same, same_key, same_place}
 use Rattle.live_index.proofs.orders.Orders.exchange.Goals as goal
 
@@ -18,7 +19,7 @@ returns-then-ne-clause-ok c =
       keys = λ place.
           map_key c.insert.new.self c.remove.new.self None _ c.args.from.now c.key_of-old.ensures c.remove.ensures.updates place
           ∙ ap (cond (is_key_of c.args.from.now place) None)
-          (map_key c.args.self.now.by_first c.insert.new.self (Some c.args.to.now) _ c.args.to.now c.key_of-new.ensures c.in-Ok.ensures.updates place)
+          (map_key c.args.self.now.by_first c.insert.new.self (Some c.args.to.now) _ c.args.to.now c.key_of-new.ensures c.in_ok-insert.ensures.updates place)
           ∙ moved_other c.args.self.now.by_first c.args.from.now c.args.to.now apart place;
     }
 
@@ -31,14 +32,16 @@ returns-else-ne-clause-ok c =
     record {
       addresses = λ place i. has_address c.args.self.now place;
       keys = λ place.
-          map_key c.args.self.now.by_first c.insert.new.self (Some c.args.to.now) _ c.args.to.now c.key_of-new.ensures c.in-Ok.ensures.updates place
+          map_key c.args.self.now.by_first c.insert.new.self (Some c.args.to.now) _ c.args.to.now c.key_of-new.ensures c.in_ok-insert.ensures.updates place
           ∙ moved_same c.args.self.now.by_first c.args.from.now c.args.to.now alike place;
     }
 
 -- src/orders.rt:63:5
-pub returns-in-Err-clause-err : goal.returns-in-Err-clause-err
+pub returns-in_err-insert-clause-err : goal.returns-in_err-insert-clause-err
 unfolding first_at has_address
-returns-in-Err-clause-err c = record {
-  addresses = λ place i. has_address c.args.self.now place;
-  keys = λ place. ap (lookup (is_at (by_first place))) c.in-Err.ensures.err;
-}
+returns-in_err-insert-clause-err c =
+    let kept : AreKept c.args.self.now (record { by_address = c.args.self.now.by_address; by_first = c.insert.new.self }) = record {
+      addresses = λ place i. has_address c.args.self.now place;
+      keys = λ place. ap (lookup (is_at (by_first place))) c.in_err-insert.ensures.err;
+    } in
+    on_err _ kept
