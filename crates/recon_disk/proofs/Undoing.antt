@@ -103,10 +103,6 @@ moments_missed records pool image at bytes a b =
     ∙ ap (λ p. with_write (moments_from (reverse records) pool image) (OfPlace p)) (last-append pool bytes 4096 b)
     ∙ ap (with_write (moments_from (reverse records) pool image)) (sym (place_known at bytes a b))
 
-pub moments_flushed : (records : List Record) (pool image : List ℕ)
-    → moments_from (reverse (records ++ Flushed ∷ [])) pool image ≡ flushed_as image ∷ moments_from (reverse records) pool image
-moments_flushed records pool image = ap (λ rs. moments_from rs pool image) (one_more records Flushed)
-
 -- a part of what a disk reads
 pub part_range : (image xs : List ℕ) (at n : ℕ) → xs ≡ image → take (at + n - at) (drop at xs) ≡ range at n image
 part_range image xs at n same = ap (λ k. take k (drop at xs)) (omega arith) ∙ ap (range at n) same

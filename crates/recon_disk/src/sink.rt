@@ -54,16 +54,13 @@ impl MemSink {
         ensures calls { IfOk result (λ s. sink_calls s ≡ 0) }
         ensures faults { IfOk result (λ s. sink_faults s ≡ 0) }
     {
-        match Vec::with_capacity(alloc, room) {
-            Ok(bytes) => Ok(MemSink {
-                bytes,
-                room,
-                fails,
-                calls: 0,
-                faults: 0,
-            }),
-            Err(_) => Err(NoMemory),
-        }
+        Ok(MemSink {
+            bytes: Vec::with_capacity(alloc, room)?,
+            room,
+            fails,
+            calls: 0,
+            faults: 0,
+        })
     }
 
     /// The bytes so far, lent.

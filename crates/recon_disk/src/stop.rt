@@ -65,12 +65,8 @@ impl StopDisk {
         ensures room { IfOk result (λ d. room_left d ≡ room) }
         ensures settled { IfOk result (λ d. moments_of d ≡ flushed_as bytes.items ∷ []) }
     {
-        let Ok(records) = Vec::with_capacity(alloc, calls) else {
-            return Err(NoMemory);
-        };
-        let Ok(replaced) = Vec::with_capacity(alloc, room) else {
-            return Err(NoMemory);
-        };
+        let records = Vec::with_capacity(alloc, calls)?;
+        let replaced = Vec::with_capacity(alloc, room)?;
         Ok(StopDisk {
             disk: MemDisk::new(bytes, fails),
             records,
