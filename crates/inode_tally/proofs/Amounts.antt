@@ -1,6 +1,6 @@
 -- What amounts to an inode come to, account by account.
 use Rattle.std.proofs.Common.{◌≡◌, ℕ, ◌+◌, ◌-◌, min, ◌==◌, ◌&&◌, Bool, true, false, cond, [], ◌∷◌, refl, ap, sym, ◌∙◌, subst, arith}
-use Rattle.std.specs.Prelude.{◌||◌, nat_lt}
+use Rattle.std.specs.Prelude.{nat_lt}
 use Rattle.std.proofs.Math.Path.{fun_ext}
 use Rattle.std.proofs.lemmas.Bool.{eqb-true}
 use Rattle.accounts.specs.declared.account.Account.{Account}
@@ -14,6 +14,7 @@ use Rattle.inode_tally.specs.declared.class.Gathered.{Gathered}
 use Rattle.inode_tally.specs.declared.class.InodeClass.{InodeClass}
 use Rattle.inode_tally.specs.Held.{gathered_postings, is_of_inodes, no_sums_of, sum_of, to, widened}
 use Rattle.inode_tally.specs.Joined.{IsJoined, IsTargeted}
+use Rattle.verdict.proofs.Truth.{neither as neither_kind}
 
 -- amounts, by whether they are to an account of the inode or of the type
 abbrev amounts : Bool → Bool → (ℕ → ℕ) → ℕ → ℕ → ℕ → ℕ
@@ -339,10 +340,6 @@ targeted_kept tree ino sort count old new entries typed is a =
     ≡ total_of (gathered_postings tree ino old) a n + total_of (to (inode tree ino) 1 count ∷ to (inode_type tree ino sort) 0 count ∷ []) a n = omega (arith, b) in e)))
 
 -- ---- accounts of other kinds
-
-neither_kind : (a b : Bool) → (a || b) ≡ false → (a ≡ false) × (b ≡ false)
-neither_kind true b is = absurd (cc is)
-neither_kind false b is = (refl, is)
 
 pub none_of_others : (tree ino : ℕ) (more : Gathered) (a : Account) → is_of_inodes a.kind ≡ false → (n : ℕ) → total_of (gathered_postings tree ino more) a n ≡ 0
 none_of_others tree ino more a other n =

@@ -1,11 +1,9 @@
 -- What is kept apart of inodes.
 use Rattle.std.proofs.Common.{◌≡◌, ℕ, ◌+◌, ◌<◌, ◌≤◌, Bool, true, false, cond, List, [], ◌∷◌, length, get_or, set, drop, replicate, zero, suc, refl, ap, sym, ◌∙◌, subst, arith}
-use Rattle.std.specs.Prelude.{Option, Some, Result, Ok, Err, OnOk}
+use Rattle.std.specs.Prelude.{Option, Some}
 use Rattle.std.proofs.Math.Path.{fun_ext}
 use Rattle.std.specs.Cmp.{IsTotalOrder, IsEquivalence, eq_by_cmp_equiv, then_total, on_total, nat_cmp_total}
-use Rattle.std.specs.Ordering.{nat_cmp, ordering_then, eq_by_cmp}
-use Rattle.std.specs.declared.cmp.Ordering.{Ordering}
-use Rattle.std.specs.declared.cmp.Ordering.TheVariants.{Less, Equal, Greater}
+use Rattle.std.specs.Ordering.{nat_cmp, eq_by_cmp}
 use Rattle.std.specs.FinMap.{nat_cmp-IsAntisymmetric}
 use Rattle.std.specs.BTreeMap.{get, is_at}
 use Rattle.std.proofs.lemmas.List.{drop_all, drop_more}
@@ -24,6 +22,7 @@ use Rattle.inode_tally.specs.declared.tally.Own.{Own}
 use Rattle.inode_tally.specs.Held.{class_in, class_postings, class_sums, gathered_postings, inode_cmp, inode_of, inodes_apart, is_of_inodes, own_sums, owns_sums, widened}
 use Rattle.inode_tally.specs.Joined.{Adds, Joins}
 use Rattle.inode_tally.proofs.Amounts.{joined_kept, none_at, none_of_others}
+use Rattle.verdict.proofs.Truth.{both_tie}
 
 pub back_more : (kind : ℕ) (x f g : ℕ → ℕ) → kept kind f ≡ kept kind g → kept kind (λ n. x n + f n) ≡ kept kind (λ n. x n + g n)
 back_more kind x f g same =
@@ -38,11 +37,6 @@ inode_total = then_total (on_total (λ at. at.0) nat_cmp_total) (on_total (λ at
 
 pub inode_equiv : IsEquivalence (eq_by_cmp inode_cmp)
 inode_equiv = eq_by_cmp_equiv inode_total
-
-both_tie : (a b : Ordering) → ordering_then a b ≡ Equal → (a ≡ Equal) × (b ≡ Equal)
-both_tie Less b is = absurd (cc)
-both_tie Equal b is = (refl, is)
-both_tie Greater b is = absurd (cc)
 
 pub inode_ties : (x y : ℕ × ℕ) → is_at (inode_cmp x) y ≡ true → x ≡ y
 inode_ties x y is =
@@ -212,12 +206,3 @@ pub first_amount : (none own : Own) (given : List Posting) → ((a : Account) (n
     → (a : Account) → kept a.kind (own_sums own a) ≡ kept a.kind (total_of given a)
 first_amount none own given nothing is a =
     is a ∙ ap (kept a.kind) (fun_ext (λ n. (let z = nothing a n in let e : own_sums none a n + total_of given a n ≡ total_of given a n = omega (arith, z) in e)))
-
--- what follows from a fact of an answer
-pub on_ok : {T E A B : Type 0} (r : Result T E) → OnOk r A → (A → B) → OnOk r B
-on_ok (Ok x) a gives = gives a
-on_ok (Err e) a gives = tt
-
-pub on_both : {T E A B C : Type 0} (r : Result T E) → OnOk r A → OnOk r B → (A → B → C) → OnOk r C
-on_both (Ok x) a b gives = gives a b
-on_both (Err e) a b gives = tt

@@ -9,7 +9,6 @@ use Rattle.std.specs.BTreeMap.{is_at}
 use Rattle.std.specs.Ordering.{is_eq}
 use Rattle.std.specs.declared.cmp.Ordering.{Ordering}
 use Rattle.std.specs.declared.cmp.Ordering.TheVariants.{Less, Equal, Greater}
-use Rattle.std.proofs.lemmas.Bool.{eq-eqb}
 use Rattle.std.proofs.lemmas.Map.Keys.{sorted_head}
 use Rattle.accounts.specs.declared.account.Account.{Account}
 use Rattle.accounts.specs.declared.postings.Posting.{Posting}
@@ -29,6 +28,8 @@ use Rattle.inode_tally.specs.Held.{class_in, class_postings, class_sums, gathere
 use Rattle.inode_tally.specs.Joined.{LeavesOthers, class_keeps}
 use Rattle.inode_tally.proofs.Amounts.{at_type, inode_kept, inode_with, none_at, none_gathered, none_of_others, plus_none, two_alike, type_kept}
 use Rattle.inode_tally.proofs.Aside.{elsewhere, inode_equiv, inode_ties, no_class_of_others}
+use Rattle.verdict.proofs.Truth.{and_left, and_right}
+use Rattle.verdict.proofs.Numbers.{itself}
 
 -- what is broken rests on what is kept
 pub broken_alike : (a : Account) (f g : ℕ → ℕ) → kept a.kind f ≡ kept a.kind g → is_broken a f ≡ is_broken a g
@@ -36,26 +37,15 @@ broken_alike a f g same = sym (broken_kept a f) ∙ ap (is_broken a) same ∙ br
 
 -- ---- a class that keeps the rules
 
-first_of : (a b : Bool) → (a && b) ≡ true → a ≡ true
-first_of true b is = refl
-first_of false b is = absurd (cc is)
-
-later_of : (a b : Bool) → (a && b) ≡ true → b ≡ true
-later_of true b is = is
-later_of false b is = absurd (cc is)
-
-same_number : (x : ℕ) → (x == x) ≡ true
-same_number x = eq-eqb x x refl
-
 module _ (tree ino : ℕ) (class : InodeClass) (keeps : class_keeps class ≡ true) where
   abbrev pub sums : Account → ℕ → ℕ
   sums = total_of (gathered_postings tree ino (widened class))
 
   inode_rule : inode_keeps (sum_of (widened class)) ≡ true
   inode_rule =
-      let a = first_of (gives (nat_lt 0 class.others) (class.items == 1)) _ keeps in
-      let b = first_of (gives (class.items == 1 && class.linked == 0) (nat_lt 0 class.orphans)) _ (later_of (gives (nat_lt 0 class.others) (class.items == 1)) _ keeps) in
-      λ i. a i && (same_number class.linked i && (b i && true))
+      let a = and_left (gives (nat_lt 0 class.others) (class.items == 1)) _ keeps in
+      let b = and_left (gives (class.items == 1 && class.linked == 0) (nat_lt 0 class.orphans)) _ (and_right (gives (nat_lt 0 class.others) (class.items == 1)) _ keeps) in
+      λ i. a i && (itself class.linked i && (b i && true))
 
   inode_unbroken : is_broken (inode tree ino) (sums (inode tree ino)) ≡ false
   unfolding is_broken
@@ -69,7 +59,7 @@ module _ (tree ino : ℕ) (class : InodeClass) (keeps : class_keeps class ≡ tr
   types n = cond (n == 0) class.entries class.typed
 
   type_rule : gives (nat_lt 0 class.entries) (class.typed == 1) ≡ true
-  type_rule = later_of (gives (class.items == 1 && class.linked == 0) (nat_lt 0 class.orphans)) _ (later_of (gives (nat_lt 0 class.others) (class.items == 1)) _ keeps)
+  type_rule = and_right (gives (class.items == 1 && class.linked == 0) (nat_lt 0 class.orphans)) _ (and_right (gives (nat_lt 0 class.others) (class.items == 1)) _ keeps)
 
   type_unbroken : is_broken (inode_type tree ino class.sort) (sums (inode_type tree ino class.sort)) ≡ false
   unfolding is_broken types

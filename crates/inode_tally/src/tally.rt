@@ -317,10 +317,7 @@ fn make(alloc: Global, owns: &mut Vec<Own>) -> Result<(), NoMemory>
     if !owns.is_empty() {
         return Ok(());
     }
-    let Ok(made) = vec![in alloc; Own::none(0, 0); OWNS as usize] else {
-        return Err(NoMemory);
-    };
-    *owns = made;
+    *owns = vec![in alloc; Own::none(0, 0); OWNS as usize]?;
     Ok(())
 }
 
@@ -386,22 +383,21 @@ fn join(
     ensures no { result ≡ Ok false →
         (q : ℕ × ℕ) → get inode_cmp classes.new q ≡ get inode_cmp classes.old q }
 {
-    match classes.entry((tree, ino)) {
-        Ok(Entry::Occupied(mut entry)) => {
+    match classes.entry((tree, ino))? {
+        Entry::Occupied(mut entry) => {
             let Some(joined) = entry.get().joined(more) else {
                 return Ok(false);
             };
             entry.insert(joined);
             Ok(true)
         }
-        Ok(Entry::Vacant(entry)) => {
+        Entry::Vacant(entry) => {
             let Some(joined) = InodeClass::none().joined(more) else {
                 return Ok(false);
             };
             entry.insert(joined);
             Ok(true)
         }
-        Err(_) => Err(NoMemory),
     }
 }
 

@@ -5,7 +5,8 @@ use Rattle.std.specs.BTreeMap.{get}
 use Rattle.accounts.specs.Apart.{AddsUp}
 use Rattle.accounts.proofs.Apart.{adds_listed}
 use Rattle.inode_tally.specs.Held.{class_sums, gathered_postings, inode_cmp}
-use Rattle.inode_tally.proofs.Aside.{adds_apart, class_more, on_ok}
+use Rattle.inode_tally.proofs.Aside.{adds_apart, class_more}
+use Rattle.verdict.proofs.Answers.{on_ok}
 use Rattle.inode_tally.proofs.tally.give.Goals as goal
 
 pub returns-then-branch : goal.returns-then-branch

@@ -1,7 +1,7 @@
 use Rattle.std.proofs.Common.{◌++◌, ◌∙◌, ap}
 use Rattle.accounts.specs.Tally.{sums_in, with_postings}
 use Rattle.inode_tally.specs.Held.{gathered_postings}
-use Rattle.inode_tally.proofs.Aside.{on_ok}
+use Rattle.verdict.proofs.Answers.{on_ok}
 use Rattle.inode_tally.proofs.tally.move_to.Goals as goal
 
 pub returns : goal.returns

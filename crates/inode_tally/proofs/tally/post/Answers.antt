@@ -1,6 +1,6 @@
 use Rattle.std.proofs.Common.{◌∙◌, ◌∷◌, ◌++◌, []}
 use Rattle.inode_tally.specs.Held.{sum_of, to}
-use Rattle.inode_tally.proofs.Aside.{on_ok}
+use Rattle.verdict.proofs.Answers.{on_ok}
 use Rattle.inode_tally.proofs.tally.post.Goals as goal
 
 pub returns : goal.returns

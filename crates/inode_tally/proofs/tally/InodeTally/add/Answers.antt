@@ -2,7 +2,8 @@ use Rattle.std.proofs.Common.{◌∷◌, []}
 use Rattle.std.specs.BTreeMap.{get}
 use Rattle.accounts.specs.Kinds.{inode}
 use Rattle.inode_tally.specs.Held.{class_sums, inode_cmp, to}
-use Rattle.inode_tally.proofs.Aside.{adds_stayed, beside_classes, on_ok}
+use Rattle.inode_tally.proofs.Aside.{adds_stayed, beside_classes}
+use Rattle.verdict.proofs.Answers.{on_ok}
 use Rattle.inode_tally.proofs.tally.InodeTally.add.Goals as goal
 
 pub returns-then-raise : goal.returns-then-raise

@@ -2,7 +2,8 @@ use Rattle.std.proofs.Common.{◌∷◌, []}
 use Rattle.std.specs.BTreeMap.{get}
 use Rattle.accounts.specs.Kinds.{inode, inode_type}
 use Rattle.inode_tally.specs.Held.{class_sums, inode_cmp, to}
-use Rattle.inode_tally.proofs.Aside.{adds_stayed, beside_classes, on_ok}
+use Rattle.inode_tally.proofs.Aside.{adds_stayed, beside_classes}
+use Rattle.verdict.proofs.Answers.{on_ok}
 use Rattle.inode_tally.proofs.tally.InodeTally.add_targets.Goals as goal
 
 pub returns-then-raise_targets : goal.returns-then-raise_targets

@@ -4,7 +4,8 @@ use Rattle.std.specs.BTreeMap.{get}
 use Rattle.accounts.specs.Kinds.{inode_type}
 use Rattle.accounts.specs.Tally.{kept}
 use Rattle.inode_tally.specs.Held.{class_sums, inode_cmp, to}
-use Rattle.inode_tally.proofs.Aside.{adds_alike, adds_stayed, beside_classes, on_ok}
+use Rattle.inode_tally.proofs.Aside.{adds_alike, adds_stayed, beside_classes}
+use Rattle.verdict.proofs.Answers.{on_ok}
 use Rattle.inode_tally.proofs.tally.InodeTally.add_type.Goals as goal
 
 pub returns-then-raise_type : goal.returns-then-raise_type

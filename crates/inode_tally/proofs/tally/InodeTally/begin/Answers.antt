@@ -1,6 +1,7 @@
 use Rattle.std.proofs.Common.{◌+◌, ◌∙◌, ap}
 use Rattle.inode_tally.specs.Held.{own_sums}
-use Rattle.inode_tally.proofs.Aside.{adds_exchanged, on_ok}
+use Rattle.inode_tally.proofs.Aside.{adds_exchanged}
+use Rattle.verdict.proofs.Answers.{on_ok}
 use Rattle.inode_tally.proofs.tally.InodeTally.begin.Goals as goal
 
 pub returns : goal.returns

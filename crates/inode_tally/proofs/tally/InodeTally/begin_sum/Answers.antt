@@ -2,7 +2,8 @@ use Rattle.std.proofs.Common.{◌∙◌, ◌∷◌, ◌++◌, [], ap}
 use Rattle.accounts.specs.Kinds.{inode}
 use Rattle.accounts.proofs.Apart.{adds_listed}
 use Rattle.inode_tally.specs.Held.{inodes_apart, to}
-use Rattle.inode_tally.proofs.Aside.{adds_alike, first_amount, on_ok}
+use Rattle.inode_tally.proofs.Aside.{adds_alike, first_amount}
+use Rattle.verdict.proofs.Answers.{on_ok}
 use Rattle.inode_tally.proofs.tally.InodeTally.begin_sum.Goals as goal
 
 pub returns-then-raise : goal.returns-then-raise

@@ -3,7 +3,8 @@ use Rattle.std.proofs.Math.Path.{fun_ext}
 use Rattle.accounts.specs.Kinds.{inode, inode_type}
 use Rattle.accounts.specs.Tally.{kept}
 use Rattle.inode_tally.specs.Held.{to}
-use Rattle.inode_tally.proofs.Aside.{adds_alike, on_ok}
+use Rattle.inode_tally.proofs.Aside.{adds_alike}
+use Rattle.verdict.proofs.Answers.{on_ok}
 use Rattle.inode_tally.proofs.tally.InodeTally.begin_targets.Goals as goal
 
 pub returns : goal.returns

@@ -2,8 +2,9 @@ use Rattle.std.proofs.Common.{◌+◌, [], subst}
 use Rattle.std.specs.BTreeMap.{get}
 use Rattle.accounts.specs.Apart.{AddsUp}
 use Rattle.inode_tally.specs.Held.{class_sums, inode_cmp, inodes_apart, owns_sums}
-use Rattle.inode_tally.proofs.Aside.{apart_of_others, on_both}
+use Rattle.inode_tally.proofs.Aside.{apart_of_others}
 use Rattle.inode_tally.proofs.Settled.{all_settled}
+use Rattle.verdict.proofs.Answers.{on_both}
 use Rattle.inode_tally.proofs.tally.InodeTally.settle.Goals as goal
 
 pub returns : goal.returns
