@@ -1,9 +1,7 @@
 -- The order by file after a change, and the first place of an inode in it.
 use Rattle.std.proofs.Common.{◌≡◌, ℕ, Bool, true, false, cond, ◌&&◌, refl, sym, ap, ◌∙◌}
 use Rattle.std.specs.Prelude.{◌==◌, Some, None}
-use Rattle.std.specs.Ordering.{is_eq, nat_cmp, ordering_then}
-use Rattle.std.specs.declared.cmp.Ordering.{Ordering}
-use Rattle.std.specs.declared.cmp.Ordering.TheVariants.{Less, Equal, Greater}
+use Rattle.std.specs.Ordering.{nat_cmp, ordering_then}
 use Rattle.std.specs.BTreeMap.{is_at}
 use Rattle.std.specs.BTreeSet as set
 use Rattle.std.specs.Cmp.{unsigned_tied}
@@ -14,25 +12,20 @@ use Rattle.span_index.specs.declared.files.Files.{Files}
 use Rattle.span_index.specs.declared.places.ByFile.{ByFile}
 use Rattle.span_index.specs.Order.{is_same, span_cmp}
 use Rattle.span_index.specs.Places.{file_cmp, file_in, has_file, is_file_of, is_shown_at}
-use Rattle.span_index.proofs.FindLaws.{some_is}
 use Rattle.span_index.proofs.TableLaws.{same_is}
-
-then_tied : (o p : Ordering) → is_eq (ordering_then o p) ≡ (is_eq o && is_eq p)
-then_tied = elim [ Less ↦ λ p. refl | Equal ↦ λ p. refl | Greater ↦ λ p. refl ]
-
-both : (a b c d : Bool) → a ≡ b → c ≡ d → (a && c) ≡ (b && d)
-both a b c d e f = ap (λ x. x && c) e ∙ ap (λ x. b && x) f
+use Rattle.verdict.proofs.Truth.{and_alike, and_false, then_tied}
+use Rattle.verdict.proofs.Answers.{some_is}
 
 tied_parts : (t i o : ℕ) (span : Span) (q : ByFile)
     → is_at (file_cmp (record { tree = t; ino = i; file_offset = o; span = span })) q ≡ (t == q.tree && (i == q.ino && (o == q.file_offset && is_same span q.span)))
 unfolding is_same
 tied_parts t i o span q =
     then_tied (nat_cmp t q.tree) (ordering_then (nat_cmp i q.ino) (ordering_then (nat_cmp o q.file_offset) (span_cmp span q.span)))
-    ∙ both _ _ _ _ (unsigned_tied t q.tree)
+    ∙ and_alike _ _ _ _ (unsigned_tied t q.tree)
     (then_tied (nat_cmp i q.ino) (ordering_then (nat_cmp o q.file_offset) (span_cmp span q.span))
-    ∙ both _ _ _ _ (unsigned_tied i q.ino)
+    ∙ and_alike _ _ _ _ (unsigned_tied i q.ino)
     (then_tied (nat_cmp o q.file_offset) (span_cmp span q.span)
-    ∙ both _ _ _ _ (unsigned_tied o q.file_offset) refl))
+    ∙ and_alike _ _ _ _ (unsigned_tied o q.file_offset) refl))
 
 regrouped : (a b c : Bool) → (a && (b && (c && true))) ≡ ((a && (b && c)) && true)
 regrouped true true true = refl
@@ -49,10 +42,6 @@ all_false true false c true = refl
 all_false true false c false = refl
 all_false false b c true = refl
 all_false false b c false = refl
-
-and_no : (a : Bool) → (a && false) ≡ false
-and_no true = refl
-and_no false = refl
 
 tied_file : (sort : SpanSort) (span : Span) (place q : ByFile) → span.sort ≡ sort → file_in sort span ≡ Some place → is_at (file_cmp place) q ≡ is_file_of span q
 unfolding is_file_of
@@ -74,7 +63,7 @@ not_file (Shown t i o e l) span q own is = absurd (cc)
 not_file sort span q own is =
     elim (is_same span q.span) as (λ b. is_same span q.span ≡ b → (is_shown_at q.span.sort q && b) ≡ false) [
       | true ↦ λ same. ap (λ s. is_shown_at s q && true) (sym (sym own ∙ ap (λ s. s.sort) (same_is span q.span same)))
-      | false ↦ λ same. and_no (is_shown_at q.span.sort q)
+      | false ↦ λ same. and_false (is_shown_at q.span.sort q)
     ] refl
 
 pub file_put : (s n : set.BTreeSet ByFile) (f g : Files) (b : Bool) (span : Span) (place : ByFile) → f.places ≡ s → g.places ≡ n → file_in span.sort span ≡ Some place

@@ -11,9 +11,7 @@ use Rattle.std.specs.declared.cmp.Ordering.TheVariants.{Less, Equal, Greater}
 use Rattle.std.specs.Cmp.{IsTotalOrder, Equal-is, tied_itself}
 use Rattle.std.proofs.lemmas.Map.Lookups.{CmpEqualImpliesEq}
 use Rattle.std.proofs.lemmas.Map.Keys.{sorted_head, sorted_tail}
-
-pub some_is : {A : Type 0} (x y : A) → Some x ≡ Some y → x ≡ y
-some_is x y e = cc
+use Rattle.verdict.proofs.Answers.{some_is}
 
 none_some : {A P : Type 0} (x : A) → None ≡ Some x → P
 none_some x e = absurd (cc)

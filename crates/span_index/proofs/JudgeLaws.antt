@@ -22,9 +22,9 @@ use Rattle.span_index.specs.Sectors.{adds, is_bad, meets, sector_sum}
 use Rattle.span_index.specs.Spans.{Table, end_of, is_sort}
 use Rattle.span_index.specs.Sweep.{is_passed, is_reaching, passed_sum}
 use Rattle.span_index.specs.Walks.{IsBeginning, IsBeyond, IsPassing, IsWalked, due, is_field}
-use Rattle.span_index.proofs.MeetingLaws.{and_both, and_left, and_right}
 use Rattle.span_index.proofs.SectorLaws.{capped_keeps, reach_is}
 use Rattle.span_index.proofs.SumLaws.{sum_both, sum_le, sum_none}
+use Rattle.verdict.proofs.Truth.{and_left, and_right, and_true}
 
 -- ---- before all spans
 
@@ -94,7 +94,7 @@ worth_one runs low until address n sort is under covered span r first =
     let before : span.first < until = omega arith in
     let begins : nat_lt span.first until ≡ true = grind (arith, nat_tests) in
     let one : cond {A = ℕ} (is_sort sort span.sort && meets runs span) 1 0 ≡ 1 = ap (λ b. cond b 1 0)
-    (and_both _ _ of (covered span some ends begins)) in
+    (and_true _ _ of (covered span some ends begins)) in
     omega (arith, one)
 
 module _ (context : Context) (t : Table) (xs : List Span) (low address : ℕ) (old new : Walks) (before mid next after : ℕ) (from : ℕ)

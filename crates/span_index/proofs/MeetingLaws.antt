@@ -28,24 +28,13 @@ use Rattle.span_index.proofs.OrderLaws.{place_exact, place_total}
 use Rattle.span_index.proofs.FindLaws.{find_filter, found_least, found_passes, found_stands, none_passes}
 use Rattle.span_index.proofs.ClassLaws.{class_below, class_reach}
 use Rattle.span_index.proofs.TableLaws.{some_there, times_are}
+use Rattle.verdict.proofs.Truth.{and_left, and_right, and_true, is_less, or_right}
+use Rattle.verdict.proofs.Numbers.{less_first, none_above, not_above as low_first}
 
 -- ---- tests
 
-pub and_left : (a b : Bool) → (a && b) ≡ true → a ≡ true
-and_left = elim [ true ↦ λ b e. refl | false ↦ λ b e. e ]
-
-pub and_right : (a b : Bool) → (a && b) ≡ true → b ≡ true
-and_right = elim [ true ↦ λ b e. e | false ↦ λ b e. cc ]
-
-pub and_both : (a b : Bool) → a ≡ true → b ≡ true → (a && b) ≡ true
-and_both a b e f = ap (λ x. x && b) e ∙ f
-
 pub opposed : {P : Type 0} (b : Bool) → b ≡ true → b ≡ false → P
 opposed b e f = absurd (let no : true ≡ false = sym e ∙ f in cc)
-
-pub or_right : (a b : Bool) → b ≡ true → (a || b) ≡ true
-or_right true b e = refl
-or_right false b e = e
 
 pub le_not_gt : (r : Ordering) → is_le r ≡ true → is_gt r ≡ false
 le_not_gt Less e = refl
@@ -122,7 +111,7 @@ between sort class b e x bs bc xs xc low high =
     let s2 : rank e.sort ≡ rank x.sort = omega arith in
     let c1 : b.class ≤ e.class = not_above _ _ _ (then_rest _ _ _ low s1) in
     let c2 : e.class ≤ x.class = not_above _ _ _ (then_rest _ _ _ high s2) in
-    and_both _ _ (eq-eqb (rank e.sort) (rank sort) (omega arith)) (eq-eqb e.class class (omega arith))
+    and_true _ _ (eq-eqb (rank e.sort) (rank sort) (omega arith)) (eq-eqb e.class class (omega arith))
 
 from_not_gt : (start : Bound Place) (sort : SortName) (class : ℕ) (e x : Place) → BeginsIn sort class start → is_from_start place_cmp start e ≡ true → x.sort ≡ sort → x.class ≡ class
     → is_gt (place_cmp e x) ≡ false → is_of sort class e ≡ true
@@ -156,7 +145,7 @@ wanted : (sort : SortName) (class address : ℕ) (after : Option Span) (start : 
 unfolding is_met
 wanted sort class address after start s starts in_class met =
     let ends : nat_lt address (end_of s) ≡ true = and_left _ _ (and_right (is_sort sort s.sort) _ met) in
-    and_both _ _ (and_both _ _ (starts.all s in_class met) refl) (or_right (not (is_of sort class (place_of s))) (nat_lt address (end_of s)) ends)
+    and_true _ _ (and_true _ _ (starts.all s in_class met) refl) (or_right (not (is_of sort class (place_of s))) (nat_lt address (end_of s)) ends)
 
 found_is : (m : map.BTreeMap Place ℕ) (start : Bound Place) (sort : SortName) (class address : ℕ) (r : Option (Place × ℕ))
     → r ≡ find (λ e. is_stop sort class address e.0) (entries_between place_cmp start Unbounded m.entries) → find (λ e. found_by start sort class address e.0) m.entries ≡ r
@@ -205,7 +194,7 @@ module _ (m : map.BTreeMap Place ℕ) (start : Bound Place) (sort : SortName) (c
         let own_sort : e.0.sort ≡ name_of e.0.span.sort = ap (λ p. p.sort) (there_own m e.0 e.1 own stands) in
         let ends : nat_lt address (end_of e.0.span) ≡ true = ap (λ b. not b || nat_lt address (end_of e.0.span)) (sym here) ∙ stops in (
           subst (λ x. 0 < x) (sym times_met) (some_there m e.0 e.1 own stands),
-          and_both _ _ (ap (λ n. is_sort n e.0.span.sort) (sym at_sort ∙ own_sort) ∙ own_name e.0.span.sort) (and_both _ _ ends (starts.above e.0 at_sort at_class from)),
+          and_true _ _ (ap (λ n. is_sort n e.0.span.sort) (sym at_sort ∙ own_sort) ∙ own_name e.0.span.sort) (and_true _ _ ends (starts.above e.0 at_sort at_class from)),
           λ s in_class asked below. absent m s (λ v there.
               let cl : class_of s.sectors ≡ class = eqb-true _ _ in_class in
               let high : is_gt (span_cmp e.0.span s) ≡ false =
@@ -215,11 +204,6 @@ module _ (m : map.BTreeMap Place ℕ) (start : Bound Place) (sort : SortName) (c
         )
 
 -- ---- the least of all classes
-
-is_less : (r : Ordering) → is_lt r ≡ true → r ≡ Less
-is_less Less e = refl
-is_less Equal e = absurd (cc)
-is_less Greater e = absurd (cc)
 
 pub below_trans : (x y z : Span) → is_below x y ≡ true → is_below y z ≡ true → is_below x z ≡ true
 unfolding is_below
@@ -242,7 +226,7 @@ in_classes f k c = nat_le f c && nat_lt c k
 lower_or : (f c k : ℕ) {P : Type 0} → nat_le f c ≡ true → (in_classes f k c ≡ true → P) → (k ≤ c → P) → P
 lower_or f c k {P} from low high =
     elim (nat_lt c k) as (λ b. nat_lt c k ≡ b → P) [
-      | true ↦ λ e. low (and_both _ _ from e)
+      | true ↦ λ e. low (and_true _ _ from e)
       | false ↦ λ e. high (grind (arith, nat_tests))
     ] refl
 
@@ -250,7 +234,7 @@ one_class : (f c k : ℕ) {P : Type 0} → in_classes f (k + 1) c ≡ true → (
 one_class f c k {P} h low here =
     let upto : nat_lt c (k + 1) ≡ true = and_right (nat_le f c) _ h in
     elim (nat_lt c k) as (λ b. nat_lt c k ≡ b → P) [
-      | true ↦ λ e. low (and_both _ _ (and_left _ _ h) e)
+      | true ↦ λ e. low (and_true _ _ (and_left _ _ h) e)
       | false ↦ λ e. here (grind (arith, nat_tests))
     ] refl
 
@@ -258,14 +242,14 @@ more_in : (f k n c : ℕ) → k ≤ n → in_classes f k c ≡ true → in_class
 more_in f k n c more h =
     let upto : nat_lt c k ≡ true = and_right (nat_le f c) _ h in
     let under : nat_lt c n ≡ true = grind (arith, nat_tests) in
-    and_both _ _ (and_left _ _ h) under
+    and_true _ _ (and_left _ _ h) under
 
 at_in : (f k c : ℕ) → f ≤ k → (c == k) ≡ true → in_classes f (k + 1) c ≡ true
 at_in f k c low h =
     let is : c ≡ k = eqb-true c k h in
     let over : nat_le f c ≡ true = grind (arith, nat_tests) in
     let under : nat_lt c (k + 1) ≡ true = grind (arith, nat_tests) in
-    and_both _ _ over under
+    and_true _ _ over under
 
 high_in : (f n c : ℕ) → in_classes f n c ≡ true → c < n
 high_in f n c h = let upto : nat_lt c n ≡ true = and_right (nat_le f c) _ h in grind (arith, nat_tests)
@@ -336,9 +320,6 @@ least_sort (Shown t i o x l) = refl
 abbrev pub least_at : ℕ → Span
 least_at low = record { first = low; sectors = 0; sort = Owned false }
 
-low_first : (x y : ℕ) → x ≤ y → is_gt (nat_cmp x y) ≡ false
-low_first x y h = grind (arith, nat_tests)
-
 pub least_not_above : (low : ℕ) (s : Span) → low ≤ s.first → is_gt (span_cmp (least_at low) s) ≡ false
 least_not_above low s h = then_never (nat_cmp low s.first) _ (low_first low s.first h) (then_never (nat_cmp 0 s.sectors) _ (never_below s.sectors) (least_sort s.sort))
 
@@ -346,9 +327,6 @@ pub le_from : (r : Ordering) → is_gt r ≡ false → is_le r ≡ true
 le_from Less e = refl
 le_from Equal e = refl
 le_from Greater e = absurd (cc)
-
-less_first : (x y : ℕ) (r : Ordering) → x < y → is_lt (ordering_then (nat_cmp x y) r) ≡ true
-less_first x y r h = grind (arith, nat_tests)
 
 -- a span of a class that ends after an address does not begin too far before it
 reach : (address class low : ℕ) (s : Span) → address < 2 ^ 64 → low ≡ address - 2 ^ class * 4096 → class_of s.sectors ≡ class → nat_lt address (end_of s) ≡ true → low ≤ s.first
@@ -397,9 +375,6 @@ shift_is class h =
 
 -- ---- the first class that has spans
 
-least_class : (x y : ℕ) (r : Ordering) → x ≤ y → is_gt r ≡ false → is_gt (ordering_then (nat_cmp x y) r) ≡ false
-least_class x y r low h = grind (arith, nat_tests)
-
 level_then : (x y : ℕ) (r : Ordering) → x ≡ y → ordering_then (nat_cmp x y) r ≡ r
 level_then x y r is = ap (λ z. ordering_then (nat_cmp z y) r) is ∙ ap (λ z. ordering_then z r) (level y)
 
@@ -410,7 +385,7 @@ module _ (m : map.BTreeMap Place ℕ) (own : AreOwn m) (sort : SortName) (class 
   in_range : (s : Span) → is_sort sort s.sort ≡ true → class ≤ class_of s.sectors → is_gt (place_cmp start (place_of s)) ≡ false
   in_range s own_sort low =
       ap is_gt (level_then (rank sort) (rank (name_of s.sort)) (ordering_then (nat_cmp class (class_of s.sectors)) (span_cmp (least_at 0) s)) (ap rank (sym (named sort s.sort own_sort))))
-      ∙ least_class class (class_of s.sectors) _ low (least_not_above 0 s (omega arith))
+      ∙ none_above class (class_of s.sectors) _ low (least_not_above 0 s (omega arith))
 
   pub no_class : (r : List (Place × ℕ)) → IsRangeOf place_cmp (Included start) Unbounded m r → r ≡ [] → IsClassFrom (times_in m) sort class None
   no_class r range is = λ s own_sort low. times_are m (place_of s) s None refl (range.5 is (place_of s) (in_range s own_sort low, tt))

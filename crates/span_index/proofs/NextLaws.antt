@@ -23,7 +23,9 @@ use Rattle.span_index.specs.Places.{AreAlike, IsNextFile, file_cmp, has_file, is
 use Rattle.span_index.specs.Spans.{IsNextShown, Table, is_behind, is_sooner, offset_of, shows_behind}
 use Rattle.span_index.proofs.OrderLaws.{file_exact, file_total}
 use Rattle.span_index.proofs.FindLaws.{find_filter, found_least, found_passes, found_stands, none_passes}
-use Rattle.span_index.proofs.MeetingLaws.{and_both, and_left, and_right, le_from, le_not_gt, least_at, least_not_above, level, not_above, opposed, or_right, then_rest, turned}
+use Rattle.span_index.proofs.MeetingLaws.{le_from, le_not_gt, least_at, least_not_above, level, not_above, opposed, then_rest, turned}
+use Rattle.verdict.proofs.Truth.{and_left, and_right, and_true, false_if, or_right}
+use Rattle.verdict.proofs.Numbers.{none_above}
 
 -- ---- a set as a map
 
@@ -52,10 +54,6 @@ any_paired p (k ∷ ks) h =
 
 -- ---- what the search finds
 
-pub false_if : (b : Bool) → (b ≡ true → ⊥) → b ≡ false
-false_if true h = absurd (h refl)
-false_if false h = refl
-
 abbrev found_by : ByFile → ℕ → ℕ → Option ℕ → ByFile → Bool
 found_by start tree ino after place = range_contains file_cmp (Included start) Unbounded place && is_file_stop tree ino after place
 
@@ -70,9 +68,6 @@ in_file p q t i =
     ∙ ap (λ x. ordering_then (nat_cmp x q.ino) (ordering_then (nat_cmp p.file_offset q.file_offset) (span_cmp p.span q.span))) i
     ∙ ap (λ r. ordering_then r (ordering_then (nat_cmp p.file_offset q.file_offset) (span_cmp p.span q.span))) (level q.ino)
 
-none_above : (x y : ℕ) (r : Ordering) → x ≤ y → is_gt r ≡ false → is_gt (ordering_then (nat_cmp x y) r) ≡ false
-none_above x y r low h = grind (arith, nat_tests)
-
 offset_low : (after : Option ℕ) (offset : ℕ) → is_behind after offset ≡ true → unwrap_or after 0 ≤ offset
 offset_low None offset e = omega arith
 offset_low (Some a) offset e = grind (arith, nat_tests)
@@ -85,7 +80,7 @@ from_start tree ino after place t i behind =
 wanted : (tree ino : ℕ) (after : Option ℕ) (place : ByFile) → place.tree ≡ tree → place.ino ≡ ino → is_behind after place.file_offset ≡ true
     → found_by (start_at tree ino after) tree ino after place ≡ true
 wanted tree ino after place t i behind =
-    and_both _ _ (and_both _ _ (le_from _ (from_start tree ino after place t i behind)) refl)
+    and_true _ _ (and_true _ _ (le_from _ (from_start tree ino after place t i behind)) refl)
     (or_right (not (place.tree == tree && place.ino == ino)) (is_behind after place.file_offset) behind)
 
 of_inode : (tree ino : ℕ) (b e x : ByFile) → b.tree ≡ tree → b.ino ≡ ino → x.tree ≡ tree → x.ino ≡ ino → is_gt (file_cmp b e) ≡ false → is_gt (file_cmp e x) ≡ false
@@ -97,7 +92,7 @@ of_inode tree ino b e x bt bi xt xi low high =
     let s2 : e.tree ≡ x.tree = omega arith in
     let i1 : b.ino ≤ e.ino = not_above _ _ _ (then_rest _ _ _ low s1) in
     let i2 : e.ino ≤ x.ino = not_above _ _ _ (then_rest _ _ _ high s2) in
-    and_both _ _ (eq-eqb e.tree tree (omega arith)) (eq-eqb e.ino ino (omega arith))
+    and_true _ _ (eq-eqb e.tree tree (omega arith)) (eq-eqb e.ino ino (omega arith))
 
 module _ (f : Files) (tree ino : ℕ) (after : Option ℕ) (ordered : IsStrictlySortedBy file_cmp f.places.keys) where
   abbrev es : List (ByFile × Unit {0})
@@ -160,7 +155,7 @@ abbrev place_at : ℕ → ℕ → ℕ → Span → ByFile
 place_at t i o span = record { tree = t; ino = i; file_offset = o; span = span }
 
 itself : (t i o : ℕ) → (t == t && (i == i && o == o)) ≡ true
-itself t i o = and_both _ _ (eq-eqb t t refl) (and_both _ _ (eq-eqb i i refl) (eq-eqb o o refl))
+itself t i o = and_true _ _ (eq-eqb t t refl) (and_true _ _ (eq-eqb i i refl) (eq-eqb o o refl))
 
 module _ (table : Table) (f : Files) (alike : AreAlike table f) (tree ino : ℕ) (after : Option ℕ) where
   no_times : (sort : SpanSort) (t i o e l : ℕ) (span : Span) → span.sort ≡ Shown t i o e l → has_file f (place_at t i o span) ≡ false → table span ≡ 0
@@ -187,7 +182,7 @@ module _ (table : Table) (f : Files) (alike : AreAlike table f) (tree ino : ℕ)
       let a : t' ≡ place.tree = eqb-true _ _ (and_left _ _ at) in
       let b : i' ≡ place.ino = eqb-true _ _ (and_left _ _ (and_right (t' == place.tree) _ at)) in
       let c : o ≡ place.file_offset = eqb-true _ _ (and_right (i' == place.ino) _ (and_right (t' == place.tree) _ at)) in
-      (and_both _ _ (eq-eqb t' tree (a ∙ t)) (and_both _ _ (eq-eqb i' ino (b ∙ i)) (subst (λ x. is_behind after x ≡ true) (sym c) behind)), c)
+      (and_true _ _ (eq-eqb t' tree (a ∙ t)) (and_true _ _ (eq-eqb i' ino (b ∙ i)) (subst (λ x. is_behind after x ≡ true) (sym c) behind)), c)
 
   gt_by : (a b : ℕ) (r s : Ordering) → (nat_lt b a || (b == a && is_lt s)) ≡ true → (is_lt s ≡ true → is_gt r ≡ true) → is_gt (ordering_then (nat_cmp a b) r) ≡ true
   gt_by a b r s e h = grind (arith, nat_tests)

@@ -15,7 +15,7 @@ use Rattle.span_index.specs.Judging.{AreBeginning, AreBegun, AreCovered, ArePass
 use Rattle.span_index.specs.Sectors.{AreRunsFrom, HasEach, IsFirstBad, IsRun, Judges, is_bad, is_inside, times_of_span}
 use Rattle.span_index.specs.Spans.{Table, end_of}
 use Rattle.span_index.proofs.JudgeLaws.{bad_is, later_walks, passed_most, still_here}
-use Rattle.span_index.proofs.MeetingLaws.{and_both, and_left, and_right}
+use Rattle.verdict.proofs.Truth.{and_left, and_right, and_true, or_with_false}
 
 -- ---- one run
 
@@ -31,13 +31,9 @@ pub record IsSearching (context : Context) (t : Table) (xs : List Span) (low : �
   pub looks : (each : List Span) → HasEach t each → (runs : List Run) → AreCovered runs low run.until
       → now + passed runs old each ≤ before + passed runs walks each
 
-or_false : (b : Bool) → (b || false) ≡ true → b ≡ true
-or_false true e = refl
-or_false false e = e
-
 inside_is : (run : Run) (a : ℕ) → is_inside (run ∷ []) a ≡ true → (run.from ≤ a) × (a < run.until)
 inside_is run a e =
-    let both : (nat_le run.from a && nat_lt a run.until) ≡ true = or_false _ e in
+    let both : (nat_le run.from a && nat_lt a run.until) ≡ true = or_with_false _ e in
     let x : nat_le run.from a ≡ true = and_left _ _ both in
     let y : nat_lt a run.until ≡ true = and_right (nat_le run.from a) _ both in
     (grind (arith, nat_tests), grind (arith, nat_tests))
@@ -46,7 +42,7 @@ is_in : (run : Run) (a : ℕ) → run.from ≤ a → a < run.until → is_inside
 is_in run a from until =
     let x : nat_le run.from a ≡ true = grind (arith, nat_tests) in
     let y : nat_lt a run.until ≡ true = grind (arith, nat_tests) in
-    ap (λ b. b || false) (and_both _ _ x y)
+    ap (λ b. b || false) (and_true _ _ x y)
 
 module _ (context : Context) (t : Table) (xs : List Span) (low : ℕ) (run : Run) (at : ℕ) (old walks new : Walks) (before mid now : ℕ)
     (was : IsSearching context t xs low run at old walks before mid) (more : at < run.until)
@@ -144,7 +140,7 @@ module _ (bad : ℕ → Bool) (run : Run) (runs : List Run) where
       → IsFirstBad bad (run ∷ runs) (Some least)
   first_here start are least is = (
     is.0,
-    or_left (nat_le run.from least && nat_lt least run.until) (is_inside runs least) (or_false _ is.1),
+    or_left (nat_le run.from least && nat_lt least run.until) (is_inside runs least) (or_with_false _ is.1),
     is.2,
     λ a at_sector inside under.
         elim (or_cases (nat_le run.from a && nat_lt a run.until) (is_inside runs a) inside) [
@@ -172,7 +168,7 @@ among_at runs i more test is = list_any_at test runs i (record { from = 0; until
 -- what has a byte of a run of some has one of these
 covered_by : (all : List Run) (run : Run) → ((test : Run → Bool) → test run ≡ true → list_any test all ≡ true) → AreCovered all run.from run.until
 covered_by all run among = λ span some ends begins.
-    among (λ r. nat_lt span.first r.until && (nat_lt r.from (end_of span) && nat_lt 0 span.sectors)) (and_both _ _ begins (and_both _ _ ends some))
+    among (λ r. nat_lt span.first r.until && (nat_lt r.from (end_of span) && nat_lt 0 span.sectors)) (and_true _ _ begins (and_true _ _ ends some))
 
 module _ (context : Context) (t : Table) (xs : List Span) (all left : List Run) (done : ℕ) (walks : Walks) (before now : ℕ)
     (was : IsJudging context t xs all left done walks before now) (run : Run) (rest : List Run) (left_is : left ≡ run ∷ rest) where

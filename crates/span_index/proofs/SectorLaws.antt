@@ -1,8 +1,6 @@
 -- The account of a sector, by how many of the spans that walks have passed reach past it.
 use Rattle.std.proofs.Common.{◌≡◌, ℕ, ◌<◌, ◌≤◌, ◌%◌, Bool, true, false, cond, ◌&&◌, List, refl, sym, ap, ◌∙◌, arith}
 use Rattle.std.specs.Prelude.{◌==◌, min, nat_le, nat_lt}
-use Rattle.std.specs.Ordering.{is_lt, nat_cmp, ordering_then}
-use Rattle.std.specs.declared.cmp.Ordering.{Ordering}
 use Rattle.std.proofs.lemmas.Bool.Decides.{nat_tests}
 use Rattle.accounts.specs.Context.{Context}
 use Rattle.span_index.specs.declared.cursor.Head.{Head}
@@ -17,6 +15,7 @@ use Rattle.span_index.specs.Sweep.{IsBegun, is_passed, passed_sum}
 use Rattle.span_index.specs.Walks.{IsBeyond, IsWalked, is_field, reach_in}
 use Rattle.span_index.proofs.SumLaws.{sum_cong}
 use Rattle.accounts.specs.Kinds.{gives, sector_keeps}
+use Rattle.verdict.proofs.Numbers.{less_first}
 
 -- ---- the rule on a sector needs no more of a sum than none, one, or more
 
@@ -53,12 +52,9 @@ capped_keeps f g a b c d =
 
 -- ---- a walk that stands beyond an address has passed all that has the sectors before where it stands
 
-below_first : (x y : ℕ) (r : Ordering) → x < y → is_lt (ordering_then (nat_cmp x y) r) ≡ true
-below_first x y r h = grind (arith, nat_tests)
-
 sooner_below : (x h : Span) → x.first < h.first → is_below x h ≡ true
 unfolding is_below
-sooner_below x h less = below_first x.first h.first _ less
+sooner_below x h less = less_first x.first h.first _ less
 
 no_sector_at : (context : Context) (later field : ℕ) (span : Span) → later < span.first → adds context later field span ≡ 0
 unfolding adds

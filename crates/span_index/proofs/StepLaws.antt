@@ -16,7 +16,8 @@ use Rattle.span_index.specs.Spans.{Table, end_of, is_above, is_met, is_sort}
 use Rattle.span_index.specs.Sweep.{IsHead, IsOpen, IsStep, above_of, is_at, is_passed, is_reaching}
 use Rattle.span_index.proofs.ClassLaws.{class_some, some_class}
 use Rattle.span_index.proofs.TableLaws.{same_is}
-use Rattle.span_index.proofs.MeetingLaws.{and_both, and_left, and_right, below_trans}
+use Rattle.span_index.proofs.MeetingLaws.{below_trans}
+use Rattle.verdict.proofs.Truth.{and_left, and_right, and_true}
 
 -- what is neither below a span nor the same is above it
 apart_by : (x y : Span) (r : Ordering) → span_cmp x y ≡ r → is_lt r ≡ false → is_eq (span_cmp y x) ≡ false → span_cmp y x ≡ Less
@@ -51,7 +52,7 @@ module _ (t : Table) (sort : SortName) (address : ℕ) (old : Head) (going : IsO
   met_of span e f r =
       let some : 0 < span.sectors = let b : nat_lt 0 span.sectors ≡ true = and_left _ _ (and_right (is_sort sort span.sort) _ r) in grind (arith, nat_tests) in
       let ends : nat_lt address (end_of span) ≡ true = and_right (nat_lt 0 span.sectors) _ (and_right (is_sort sort span.sort) _ r) in
-      (class_some span.sectors some, and_both _ _ (and_left _ _ r) (and_both _ _ ends (above_head old span going e f)))
+      (class_some span.sectors some, and_true _ _ (and_left _ _ r) (and_true _ _ ends (above_head old span going e f)))
 
   pub stepped_end : IsMetWhere (nat_le 1) t sort address (above_of old) None → IsStep t sort address old End
   stepped_end none = record {
@@ -79,5 +80,5 @@ module _ (t : Table) (sort : SortName) (address : ℕ) (old : Head) (going : IsO
         let test : nat_lt 0 least.sectors ≡ true = grind (arith, nat_tests) in (
           subst (λ n. 0 < n) (sym is) met.0,
           is,
-          and_both _ _ (and_left _ _ met.1) (and_both _ _ test (and_left _ _ (and_right (is_sort sort least.sort) _ met.1))),
+          and_true _ _ (and_left _ _ met.1) (and_true _ _ test (and_left _ _ (and_right (is_sort sort least.sort) _ met.1))),
         )

@@ -20,6 +20,7 @@ use Rattle.span_index.specs.OrderLaws.{span_exact, span_total}
 use Rattle.span_index.specs.Places.{AreAlike, AreOwn, class_of, has_file, is_file_of, is_shown_at, place_cmp, place_of, times_in}
 use Rattle.span_index.specs.Spans.{Table, no_spans, with_span, without_span}
 use Rattle.span_index.proofs.OrderLaws.{place_exact, place_total}
+use Rattle.verdict.proofs.Truth.{cond_within}
 
 -- ---- spans and places that are one
 
@@ -60,10 +61,6 @@ both_are : (b : Bool) (x : ℕ) → cond b x x ≡ x
 both_are true x = refl
 both_are false x = refl
 
-inner : {A : Type 0} (b : Bool) (x y z : A) → cond b x (cond b y z) ≡ cond b x z
-inner true x y z = refl
-inner false x y z = refl
-
 and_false : (b : Bool) → false ≡ (b && false)
 and_false true = refl
 and_false false = refl
@@ -86,9 +83,6 @@ file_less true false x h = refl
 file_less false b x h = refl
 
 -- ---- what the map has
-
-pub get_place : (m : map.BTreeMap Place ℕ) (k : Place) (s : Span) → k ≡ place_of s → map.get place_cmp m k ≡ map.get place_cmp m (place_of s)
-get_place m k s is = ap (map.get place_cmp m) is
 
 pub times_here : (m : map.BTreeMap Place ℕ) (k : Place) (s : Span) → k ≡ place_of s → unwrap_or (map.get place_cmp m k) 0 ≡ times_in m s
 unfolding times_in
@@ -130,7 +124,7 @@ kept m n k w s is change one = fun_ext (λ q. changed m n k w s is change q
     ∙ at_same (is_same s q) (unwrap_or w 0) (times_in m q) (times_in m q) (λ e. one ∙ ap (times_in m) (same_is s q e)) ∙ both_are (is_same s q) (times_in m q))
 
 pub changes_twice : (m n l : map.BTreeMap Place ℕ) (k : Place) (w v : Option ℕ) → Changes m n k w → Changes n l k v → Changes m l k v
-changes_twice m n l k w v first second q = second q ∙ ap (cond (is_at (place_cmp k) q) v) (first q) ∙ inner (is_at (place_cmp k) q) v w (map.get place_cmp m q)
+changes_twice m n l k w v first second q = second q ∙ ap (cond (is_at (place_cmp k) q) v) (first q) ∙ cond_within (is_at (place_cmp k) q) v w (map.get place_cmp m q)
 
 -- a value is put where one stands, which takes no memory
 pub again : {E : Type 0} (m n : map.BTreeMap Place ℕ) (k : Place) (v w : ℕ) (r : Result (Option ℕ) E) → map.get place_cmp m k ≡ Some v

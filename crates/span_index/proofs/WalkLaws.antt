@@ -1,5 +1,5 @@
 -- What the spans come to that a walk has passed.
-use Rattle.std.proofs.Common.{◌≡◌, ℕ, zero, suc, ◌-◌, ◌+◌, ◌*◌, ◌<◌, ◌≤◌, ◌%◌, Bool, true, false, cond, ◌&&◌, List, refl, sym, ap, ◌∙◌, subst, arith}
+use Rattle.std.proofs.Common.{◌≡◌, ℕ, ◌-◌, ◌+◌, ◌*◌, ◌<◌, ◌≤◌, ◌%◌, Bool, true, false, cond, ◌&&◌, List, refl, sym, ap, ◌∙◌, subst, arith}
 use Rattle.std.specs.Prelude.{◌==◌, Option, Some, None, min, nat_le, nat_lt}
 use Rattle.std.specs.List.{sum_by}
 use Rattle.recon_disk.specs.Outside.{counted}
@@ -17,10 +17,11 @@ use Rattle.span_index.specs.declared.span.SortName.TheVariants.{Owned as OwnedNa
 use Rattle.span_index.specs.Reach.{reaching}
 use Rattle.span_index.specs.Sectors.{adds, adds_to, counts, has_sector, times_of_span}
 use Rattle.span_index.specs.Spans.{Table, end_of, is_sort}
-use Rattle.span_index.specs.Sweep.{IsBegun, IsHead, IsOpen, IsStep, at_sum, is_passed, is_reaching, passed_sum}
+use Rattle.span_index.specs.Sweep.{IsBegun, IsHead, IsStep, at_sum, is_passed, is_reaching, passed_sum}
 use Rattle.span_index.specs.Walks.{IsBeginning, IsPassing, IsWalked, due, is_data, is_field, is_settled, reach_in}
-use Rattle.span_index.proofs.MeetingLaws.{and_both, and_left, and_right}
 use Rattle.span_index.proofs.SumLaws.{step_kept, step_sum, step_worth, sum_le}
+use Rattle.verdict.proofs.Truth.{and_left, and_right, and_true}
+use Rattle.verdict.proofs.Answers.{some_is}
 
 -- spans of a sort add to sum 1 where they are of data, and to each other sum of the sort
 adds_data : (n : SortName) (sort : SpanSort) (field : ℕ) → is_sort n sort ≡ true → is_field n field ≡ true → (field == 1) ≡ true → adds_to sort field ≡ is_data sort
@@ -151,7 +152,7 @@ head_lower t sort low address Start up is = tt
 head_lower t sort low address (At s n) up is =
     let ends : nat_lt address (end_of s) ≡ true = and_right (nat_lt 0 s.sectors) _ (and_right (is_sort sort s.sort) _ is.2) in
     let under : nat_lt low (end_of s) ≡ true = grind (arith, nat_tests) in
-    (is.0, is.1, and_both _ _ (and_left _ _ is.2) (and_both _ _ (and_left _ _ (and_right (is_sort sort s.sort) _ is.2)) under))
+    (is.0, is.1, and_true _ _ (and_left _ _ is.2) (and_true _ _ (and_left _ _ (and_right (is_sort sort s.sort) _ is.2)) under))
 head_lower t sort low address End up is = tt
 
 head_times : (t : Table) (sort : SortName) (low : ℕ) (head : Head) → IsHead t sort low head → (h : Span) (n : ℕ) → head ≡ At h n → n ≡ t h
@@ -180,9 +181,6 @@ module _ (context : Context) (t : Table) (xs : List Span) (all : (span : Span) �
         ∙ ap (λ h. passed_sum (adds context later field) old.head xs + at_sum (adds context later field) h) at));
   }
 
-some_is : {A : Type 0} (x y : A) → Some x ≡ Some y → x ≡ y
-some_is x y e = cc
-
 due_by : (b : Bool) (h s : Span) (m n : ℕ) → cond {A = Option (Span × ℕ)} b (Some (h, m)) None ≡ Some (s, n) → (b ≡ true) × (h ≡ s) × (m ≡ n)
 due_by true h s m n e =
     let pair : (h, m) ≡ (s, n) = some_is {A = Span × ℕ} (h, m) (s, n) e in
@@ -198,9 +196,6 @@ due_at address (At h m) s n e =
     let q : m ≡ n = both.2 in
     (λ i. At (p i) (q i), subst (λ x. x.first ≤ address) p low)
 due_at address End s n e = absurd (cc)
-
-pub due_open : (address : ℕ) (head : Head) (s : Span) (n : ℕ) → head ≡ At s n → IsOpen head
-due_open address head s n e = subst IsOpen (sym e) tt
 
 passed_most_by : (b : Bool) → cond {A = ℕ} b 1 0 ≤ 1
 passed_most_by true = omega arith
@@ -253,11 +248,6 @@ module _ (context : Context) (t : Table) (xs : List Span) (all : (span : Span) �
         omega arith;
   }
 
-pub settled_open : (address : ℕ) (head : Head) → is_settled address head ≡ false → IsOpen head
-settled_open address Start e = tt
-settled_open address (At s n) e = tt
-settled_open address End e = absurd (cc)
-
 settled_begun : (address : ℕ) (head : Head) → is_settled address head ≡ true → IsBegun head
 settled_begun address Start e = absurd (cc)
 settled_begun address (At s n) e = tt
@@ -267,7 +257,7 @@ settled_head : (t : Table) (sort : SortName) (low address : ℕ) (head : Head) �
 unfolding is_reaching
 settled_head t sort low address Start e is = tt
 settled_head t sort low address (At s n) e is =
-    (is.0, is.1, and_both _ _ (and_left _ _ is.2) (and_both _ _ (and_left _ _ (and_right (is_sort sort s.sort) _ is.2)) e))
+    (is.0, is.1, and_true _ _ (and_left _ _ is.2) (and_true _ _ (and_left _ _ (and_right (is_sort sort s.sort) _ is.2)) e))
 settled_head t sort low address End e is = tt
 
 last_false : (a b : Bool) → (a && (b && false)) ≡ false

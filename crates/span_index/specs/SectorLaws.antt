@@ -1,5 +1,5 @@
 -- Which lists have each span of a table.
-use Rattle.std.proofs.Common.{◌≡◌, ℕ, ◌<◌, List, arith}
+use Rattle.std.proofs.Common.{◌≡◌, List, arith}
 use Rattle.span_index.specs.declared.span.Span.{Span}
 use Rattle.span_index.specs.Sectors.{HasEach, times_of_span}
 use Rattle.span_index.specs.Spans.{Table}

@@ -39,13 +39,11 @@ impl Files {
         ensures err { OnErr result
             ((place : InFile) → has_file self.new place ≡ has_file self.old place) }
     {
-        match file_of(span) {
-            Some(place) => match self.places.insert(place) {
-                Ok(_) => Ok(()),
-                Err(_) => Err(NoMemory),
-            },
-            None => Ok(()),
-        }
+        let Some(place) = file_of(span) else {
+            return Ok(());
+        };
+        self.places.insert(place)?;
+        Ok(())
     }
 
     /// Takes the place of a span away, where it is shown.

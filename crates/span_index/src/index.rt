@@ -35,8 +35,8 @@ impl<L> SpanIndex<L> {
     {
         steps.look();
         let place = place_of(&span);
-        match self.spans.insert(place, 1) {
-            Ok(None) => match self.files.add(&span) {
+        match self.spans.insert(place, 1)? {
+            None => match self.files.add(&span) {
                 Ok(()) => Ok(()),
                 Err(_) => {
                     self.spans.remove(&place);
@@ -44,7 +44,7 @@ impl<L> SpanIndex<L> {
                 }
             },
             // A span stands there, so that neither takes memory.
-            Ok(Some(times)) => match times.checked_add(1) {
+            Some(times) => match times.checked_add(1) {
                 Some(more) => {
                     let _ = self.spans.insert(place, more);
                     Ok(())
@@ -54,7 +54,6 @@ impl<L> SpanIndex<L> {
                     Err(NoMemory)
                 }
             },
-            Err(_) => Err(NoMemory),
         }
     }
 

@@ -6,10 +6,11 @@ use Rattle.std.specs.BTreeMap.Range.{range_contains}
 use Rattle.std.specs.declared.ops.Bound.TheVariants.{Included, Unbounded}
 use Rattle.span_index.specs.declared.places.ByFile.{ByFile}
 use Rattle.span_index.specs.Places.{IsNextFile, file_cmp, is_file_stop}
-use Rattle.span_index.proofs.MeetingLaws.{and_both, and_left, and_right, least_at}
-use Rattle.span_index.proofs.NextLaws.{false_if, next, none_next, other_next}
+use Rattle.span_index.proofs.MeetingLaws.{least_at}
+use Rattle.span_index.proofs.NextLaws.{next, none_next, other_next}
 use Rattle.span_index.proofs.files.Files.next_of.Goals as goal
 use Rattle.span_index.proofs.files.Files.next_of.Goals.{else-place-tree-via-then-place-tree+else-place-ino, else-place-tree-via-else-place-tree}
+use Rattle.verdict.proofs.Truth.{and_left, and_right, and_true, false_if}
 
 -- the search begins at the offset that is given, or at 0
 abbrev from_offset : ℕ → ℕ → Option ℕ → List ByFile → ℕ → Option ByFile
@@ -24,7 +25,7 @@ returns-in_err-place c =
 pub returns-then-place-ino : goal.returns-then-place-ino
 returns-then-place-ino c =
     next c.args.self.now c.args.tree c.args.ino c.args.after c.first_stop.ensures.ordered c.in_ok-place.place (sym c.in_ok-place.was ∙ c.first_stop.ensures.value ∙ ap (from_offset c.args.tree c.args.ino c.args.after c.args.self.now.places.keys) c.unwrap_or.ensures)
-    (and_both _ _ (eq-eqb c.in_ok-place.place.tree c.args.tree c.if-place-tree.true) (eq-eqb c.in_ok-place.place.ino c.args.ino c.if-place-ino.true))
+    (and_true _ _ (eq-eqb c.in_ok-place.place.tree c.args.tree c.if-place-tree.true) (eq-eqb c.in_ok-place.place.ino c.args.ino c.if-place-ino.true))
 
 pub returns-else-place-tree : goal.returns-else-place-tree
 returns-else-place-tree c = other_next c.args.self.now c.args.tree c.args.ino c.args.after c.first_stop.ensures.ordered c.in_ok-place.place (sym c.in_ok-place.was ∙ c.first_stop.ensures.value ∙ ap (from_offset c.args.tree c.args.ino c.args.after c.args.self.now.places.keys) c.unwrap_or.ensures)

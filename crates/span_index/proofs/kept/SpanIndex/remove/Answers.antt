@@ -3,8 +3,8 @@ use Rattle.std.specs.Prelude.{Some, None, nat_lt}
 use Rattle.std.specs.BTreeMap as map
 use Rattle.span_index.specs.Places.{AreAlike, place_cmp, times_in}
 use Rattle.span_index.specs.Spans.{without_span}
-use Rattle.span_index.proofs.FindLaws.{some_is}
 use Rattle.span_index.proofs.TableLaws.{Changes, above, again, alike_gone, alike_left, less, none_less, own_changed, some_there, times_are, two_or_more}
+use Rattle.verdict.proofs.Answers.{some_is}
 use Rattle.span_index.proofs.kept.SpanIndex.remove.Goals as goal
 
 pub invariant_of-self : goal.invariant_of-self
