@@ -1,21 +1,17 @@
 -- Copies by offset, of which none meet: the search for one, and one more.
-use Rattle.std.proofs.Common.{◌≡◌, ℕ, ◌+◌, ◌-◌, ◌<◌, ◌≤◌, ◌≢◌, ◌⊎◌, inl, inr, true, false, List, [], ◌∷◌, ◌++◌, refl, sym, ap, subst, ◌∙◌, arith, ⊎_elim}
-use Rattle.std.specs.Prelude.{Option, Some, None, IsSome, Result, Ok, Err, OnOk}
-use Rattle.std.specs.Result.{is_ok}
-use Rattle.std.specs.Ordering.{nat_cmp, is_gt, is_lt}
+use Rattle.std.proofs.Common.{◌≡◌, ℕ, ◌<◌, ◌≤◌, ◌≢◌, ◌⊎◌, inl, inr, false, List, [], ◌∷◌, ◌++◌, refl, sym, ap, subst, ◌∙◌, arith, ⊎_elim}
+use Rattle.std.specs.Prelude.{Option, Some, None, IsSome}
+use Rattle.std.specs.Ordering.{nat_cmp, is_lt}
 use Rattle.std.specs.Map.{lookup}
 use Rattle.std.specs.Cmp.{unsigned_tied}
 use Rattle.std.specs.BTreeMap.{BTreeMap, is_at}
 use Rattle.std.specs.BTreeMap.Range.{IsRangeOf}
 use Rattle.std.specs.declared.ops.Bound.TheVariants.{Included, Unbounded}
-use Rattle.std.proofs.lemmas.Bool.{cases_lt, leb-true, and_parts, both_ways, ne_eqb}
-use Rattle.std.proofs.lemmas.Bool.Decides.{nat_tests}
+use Rattle.std.proofs.lemmas.Bool.{ne_eqb}
 use Rattle.std.proofs.lemmas.Map.Keys.{le_from_not_gt, ge_from_not_lt}
 use Rattle.verdict.proofs.Numbers.{same_or_not, not_above}
-use Rattle.verdict.specs.Chunks.{holds_range}
 use Rattle.verdict.specs.declared.place.Chunk.{Chunk}
-use Rattle.chunk_map.specs.Order.{copy_from, Has, AreTurned, AreOutside, NoneFrom, IsLast, IsOnlyCopy, IsFree}
-use Rattle.chunk_map.proofs.Meets.{apart_no_common, common_sym}
+use Rattle.chunk_map.specs.Order.{copy_from, Has, AreTurned, AreOutside, NoneFrom, IsLast}
 
 -- what the ordered map finds at an offset
 from_found : (copies : List (ℕ × Chunk)) (k : ℕ) (o : Option Chunk) → lookup (is_at (nat_cmp k)) copies ≡ o → copy_from copies k ≡ o
@@ -39,21 +35,6 @@ last_found m to r range e t is =
 
 pub none_found : (m : BTreeMap ℕ Chunk) (to : ℕ) (r : List (ℕ × Chunk)) → IsRangeOf nat_cmp Unbounded (Included to) m r → r ≡ [] → NoneFrom m.entries to
 none_found m to r range is k high = from_found m.entries k None (range.5 is k (tt, not_above k to high))
-
--- the last copy begins at an offset or behind each that begins there or before
-under_last : (copies : List (ℕ × Chunk)) (to at k : ℕ) (last copy : Chunk) → IsLast copies to at last → copy_from copies k ≡ Some copy → k ≤ to → k ≤ at
-under_last copies to at k last copy is here low =
-    elim (cases_lt at k) [
-      | inl behind ↦ let none : copy_from copies k ≡ None = is.last k behind low in cc
-      | inr before ↦ before
-    ]
-
-pub outside_none : (copies : List (ℕ × Chunk)) (to at n : ℕ) → NoneFrom copies to → to ≡ at + (n - 1) → 0 < n → AreOutside copies at n
-outside_none copies to at n none reach some k copy here =
-    elim (cases_lt k (at + n)) [
-      | inl in_front ↦ let absent : copy_from copies k ≡ None = none k (omega arith) in cc
-      | inr behind ↦ inr behind
-    ]
 
 -- one copy more, outside the others
 module _ (copies more : List (ℕ × Chunk)) (y : Chunk) (kept : AreTurned copies) (outside : AreOutside copies y.start y.length) (some : 0 < y.length) (here : copy_from more y.start ≡ Some y) (others : (k : ℕ) → k ≢ y.start → copy_from more k ≡ copy_from copies k) where
@@ -97,11 +78,6 @@ module _ (copies more : List (ℕ × Chunk)) (y : Chunk) (kept : AreTurned copie
   pub put_old : (copy : Chunk) → Has more copy → Has copies copy ⊎ (copy ≡ y)
   put_old copy has = ⊎_elim (λ e. inr e.1) (λ old. inl old) (which copy.start copy has)
 
--- what holds on success
-pub ok_of : {A E P : Type 0} → (r : Result A E) → is_ok r ≡ true → OnOk r P → P
-ok_of (Ok a) e h = h
-ok_of (Err x) e h = absurd (both_ways false refl e)
-
 -- what an insertion leaves
 pub insert_others : (copies more : List (ℕ × Chunk)) (at : ℕ) → ((q : ℕ) → is_at (nat_cmp at) q ≡ false → lookup (is_at (nat_cmp q)) more ≡ lookup (is_at (nat_cmp q)) copies) → (k : ℕ) → k ≢ at → copy_from more k ≡ copy_from copies k
 unfolding copy_from
@@ -124,19 +100,3 @@ none_turned copies e =
       some = λ k copy h. (let absent : copy_from copies k ≡ None = none k in cc);
       apart = λ k l copy next h g low. (let absent : copy_from copies k ≡ None = none k in cc);
     }
-
--- a copy that has a byte is the last that begins there or before
-pub only_last : (copies : List (ℕ × Chunk)) (p begin : ℕ) (last : Chunk) → AreTurned copies → IsLast copies p begin last → (copy : Chunk) → Has copies copy → holds_range copy p 1 ≡ true → copy ≡ last
-only_last copies p begin last kept is copy has held =
-    let both = and_parts _ _ held in
-    let low : copy.start ≤ p = leb-true _ _ both.0 in
-    let high : p + 1 ≤ copy.start + copy.length = leb-true _ _ both.1 in
-    let under : copy.start ≤ begin = under_last copies p begin copy.start last copy is has low in
-    let first : begin ≤ p = is.low in
-    elim (cases_lt copy.start begin) [
-      | inl before ↦ absurd (let end : copy.start + copy.length ≤ begin = kept.apart copy.start begin copy last has is.here before in omega arith)
-      | inr from ↦
-          let at_it : copy.start ≡ begin = omega arith in
-          let found : copy_from copies copy.start ≡ Some last = subst (λ i. copy_from copies i ≡ Some last) (sym at_it) is.here in
-          cc
-    ]

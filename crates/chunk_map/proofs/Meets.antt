@@ -12,9 +12,6 @@ use Rattle.volume_items.specs.MapRules.{have_common, meets_second, meets_chunk}
 use Rattle.chunk_map.specs.Order.{Has, HasCopies, IsCopyOf, IsFree, AreFree, IsClearOf, AllClear, MeetsNone, turned}
 use Rattle.chunk_map.proofs.Ranks.{put_permutes}
 
-pub apart_no_common : (p n q m : ℕ) → p + n ≤ q → have_common p n q m ≡ false
-apart_no_common p n q m h = le-ltb (max p q) (min (p + n) (q + m)) (omega arith)
-
 pub common_sym : (p n q m : ℕ) → have_common p n q m ≡ false → have_common q m p n ≡ false
 common_sym p n q m h = let low : min (p + n) (q + m) ≤ max p q = ltb-false _ _ h in le-ltb (max q p) (min (q + m) (p + n)) (omega arith)
 

@@ -84,11 +84,10 @@ remove-insert xs i y low =
     (cases_lt k i))
 
 -- a chunk taken out again
-pub undone : (chunks sorted longer wide back : List Chunk) (copies more : List (ℕ × Chunk)) (chunk : Chunk) (rank : ℕ) (pushed inserted apart was : Bool) (front : ℕ) → InOrder chunks sorted copies apart was front → rank ≡ rank_by_start chunk.start sorted → longer ≡ cond pushed (chunks ++ chunk ∷ []) chunks → pushed ≡ false → wide ≡ cond inserted (insert sorted rank chunk) sorted → inserted ≡ true → back ≡ remove wide rank → AreTurned more → InOrder longer back more apart false front
-undone chunks sorted longer wide back copies more chunk rank pushed inserted apart was front kept r m mf w wt b around =
+pub undone : (chunks sorted longer wide back : List Chunk) (copies more : List (ℕ × Chunk)) (chunk : Chunk) (rank : ℕ) (pushed apart was : Bool) (front : ℕ) → InOrder chunks sorted copies apart was front → rank ≡ rank_by_start chunk.start sorted → longer ≡ cond pushed (chunks ++ chunk ∷ []) chunks → pushed ≡ false → wide ≡ insert sorted rank chunk → back ≡ remove wide rank → AreTurned more → InOrder longer back more apart false front
+undone chunks sorted longer wide back copies more chunk rank pushed apart was front kept r m mf w b around =
     let low : rank ≤ length sorted = rw r (rank_low chunk.start sorted) in
-    let w1 : wide ≡ insert sorted rank chunk = w ∙ ap (λ b. cond b (insert sorted rank chunk) sorted) wt in
-    let same : back ≡ sorted = b ∙ ap (λ cs. remove cs rank) w1 ∙ remove-insert sorted rank chunk low in
+    let same : back ≡ sorted = b ∙ ap (λ cs. remove cs rank) w ∙ remove-insert sorted rank chunk low in
     let m1 : longer ≡ chunks = m ∙ ap (λ b. cond b (chunks ++ chunk ∷ []) chunks) mf in
     subst (λ cs. InOrder cs back more apart false front) (sym m1) (more_copies chunks sorted back copies more apart was front kept same around)
 
@@ -132,11 +131,10 @@ clear_in_front chunks front place d clear h l =
     subst (λ c. MeetsNone (take place chunks) c) here (subst (λ cs. MeetsNone cs (get_or (take front chunks) place d)) parts (clear_at (take front chunks) place d clear (omega (arith, length-take front chunks))))
 
 -- one chunk more in all lists
-pub added_in_order : (chunks sorted longer wide : List Chunk) (copies more : List (ℕ × Chunk)) (chunk : Chunk) (rank : ℕ) (pushed inserted apart was clear now : Bool) (front ahead : ℕ) → InOrder chunks sorted copies apart was front → chunk.start + chunk.length ≤ 18446744073709551615 → rank ≡ rank_by_start chunk.start sorted → longer ≡ cond pushed (chunks ++ chunk ∷ []) chunks → pushed ≡ true → wide ≡ cond inserted (insert sorted rank chunk) sorted → inserted ≡ true → (now ≡ true → AreApart (insert sorted rank chunk)) → AreTurned more → (clear ≡ true → was ≡ true) → ((copy : Chunk) → Has copies copy → Has more copy) → (clear ≡ true → HasCopies more chunk) → (clear ≡ true → AreFree copies chunk) → ((copy : Chunk) → Has more copy → Has copies copy ⊎ IsCopyOf chunk copy) → (clear ≡ false → ahead ≤ min front rank) → InOrder longer wide more now clear ahead
-added_in_order chunks sorted longer wide copies more chunk rank pushed inserted apart was clear now front ahead kept fits r m mt w wt keeps around stays contained has free sources next =
+pub added_in_order : (chunks sorted longer wide : List Chunk) (copies more : List (ℕ × Chunk)) (chunk : Chunk) (rank : ℕ) (pushed apart was clear now : Bool) (front ahead : ℕ) → InOrder chunks sorted copies apart was front → chunk.start + chunk.length ≤ 18446744073709551615 → rank ≡ rank_by_start chunk.start sorted → longer ≡ cond pushed (chunks ++ chunk ∷ []) chunks → pushed ≡ true → wide ≡ insert sorted rank chunk → (now ≡ true → AreApart (insert sorted rank chunk)) → AreTurned more → (clear ≡ true → was ≡ true) → ((copy : Chunk) → Has copies copy → Has more copy) → (clear ≡ true → HasCopies more chunk) → (clear ≡ true → AreFree copies chunk) → ((copy : Chunk) → Has more copy → Has copies copy ⊎ IsCopyOf chunk copy) → (clear ≡ false → ahead ≤ min front rank) → InOrder longer wide more now clear ahead
+added_in_order chunks sorted longer wide copies more chunk rank pushed apart was clear now front ahead kept fits r m mt w keeps around stays contained has free sources next =
     let m1 : longer ≡ chunks ++ chunk ∷ [] = m ∙ ap (λ b. cond b (chunks ++ chunk ∷ []) chunks) mt in
-    let w1 : wide ≡ insert sorted rank chunk = w ∙ ap (λ b. cond b (insert sorted rank chunk) sorted) wt in
-    let w2 : wide ≡ put_by_start chunk sorted = w1 ∙ ap (λ n. insert sorted n chunk) r ∙ insert_rank chunk sorted in
+    let w2 : wide ≡ put_by_start chunk sorted = w ∙ ap (λ n. insert sorted n chunk) r ∙ insert_rank chunk sorted in
     let order : wide ≡ by_start longer = w2 ∙ ap (put_by_start chunk) kept.order ∙ sym (all_by_start-push [] chunks chunk) ∙ ap by_start (sym m1) in
     let fit : AllFit longer = subst AllFit (sym m1) (AllFit-push chunks chunk kept.fit fits) in
     let old : clear ≡ true → All (HasCopies more) chunks = λ on. All-weaker (HasCopies copies) (HasCopies more) (λ other h. has_more copies more other contained h) chunks (kept.there (stays on)) in
@@ -145,12 +143,12 @@ added_in_order chunks sorted longer wide copies more chunk rank pushed inserted 
     record {
       order = order;
       fit = fit;
-      distances = λ on. subst AreApart (sym w1) (keeps on);
+      distances = λ on. subst AreApart (sym w) (keeps on);
       around = around;
       there = λ on. subst (All (HasCopies more)) (sym m1) (All-push (HasCopies more) chunks chunk (old on) (has on));
       sources = λ on copy there. subst (λ cs. IsOfOne cs copy) (sym m1) (all_of_one chunks copies more chunk (kept.sources (stays on)) sources copy there);
       none_meet = all;
-      front_clear = front_after chunk sorted wide rank front ahead clear (rw r (rank_low chunk.start sorted)) w1 kept.front_clear all next;
+      front_clear = front_after chunk sorted wide rank front ahead clear (rw r (rank_low chunk.start sorted)) w kept.front_clear all next;
     }
 
 -- the rules on the array and on the chunks by start are those on the map

@@ -106,9 +106,7 @@ impl ChunkMap {
         put_copies(&mut self.copies, &mut clear, chunk)?;
         let rank = rank_of(&self.sorted, chunk.start);
         let apart = self.apart && stands_apart(&self.sorted, rank, chunk);
-        if self.sorted.insert(rank, *chunk).is_err() {
-            return Err(NoMemory);
-        }
+        self.sorted.insert(rank, *chunk)?;
         if self.chunks.push(*chunk).is_err() {
             self.sorted.remove(rank);
             return Err(NoMemory);

@@ -62,9 +62,7 @@ fn put_copy(copies: &mut Copies, clear: &mut bool, copy: Chunk) -> Result<(), No
         *clear = false;
         return Ok(());
     }
-    if copies.insert(copy.start, copy).is_err() {
-        return Err(NoMemory);
-    }
+    copies.insert(copy.start, copy)?;
     Ok(())
 }
 

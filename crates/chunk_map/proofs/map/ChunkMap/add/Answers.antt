@@ -12,11 +12,11 @@ rank_of-rank-requires c = in_order-ascends c.self.inside.chunks.items c.self.ins
 pub invariant_of-self : goal.invariant_of-self
 invariant_of-self c = more_copies c.self.inside.chunks.items c.self.inside.sorted.items c.self.inside.sorted.items c.self.inside.copies.entries c.put_copies.new.copies.entries c.self.inside.apart c.self.inside.clear c.self.inside.front c.self.invariant refl c.put_copies.ensures.kept
 
-pub invariant_of-self-then-is_err-2 : goal.invariant_of-self-then-is_err-2
-invariant_of-self-then-is_err-2 c =
-    undone c.self.inside.chunks.items c.self.inside.sorted.items c.push.new.self.items c.insert.new.self.items c.remove.new.self.items c.self.inside.copies.entries c.put_copies.new.copies.entries c.args.chunk.now c.rank_of-rank.result _ _ c.self.inside.apart c.self.inside.clear c.self.inside.front c.self.invariant
+pub invariant_of-self-then-is_err : goal.invariant_of-self-then-is_err
+invariant_of-self-then-is_err c =
+    undone c.self.inside.chunks.items c.self.inside.sorted.items c.push.new.self.items c.insert.new.self.items c.remove.new.self.items c.self.inside.copies.entries c.put_copies.new.copies.entries c.args.chunk.now c.rank_of-rank.result _ c.self.inside.apart c.self.inside.clear c.self.inside.front c.self.invariant
     (c.rank_of-rank.ensures.rank ∙ ap (rank_by_start c.args.chunk.now.start) c.deref.ensures.value)
-    c.push.ensures.items c.if-is_err-2.ensures.negation c.insert.ensures.items c.if-is_err.ensures.negation c.remove.ensures.items
+    c.push.ensures.items c.if-is_err.ensures.negation c.in_ok-insert.ensures.items c.remove.ensures.items
     c.put_copies.ensures.kept
 
 pub invariant_of-self-2 : goal.invariant_of-self-2
@@ -31,7 +31,7 @@ invariant_of-self-2 c =
       | then-clear w ↦ λ off. absurd (both_ways _ off w.if-clear.true)
       | else-clear w ↦ λ _. omega (arith, w.self-is, w.min-self-inside.ensures)
     ] in
-    added_in_order c.self.inside.chunks.items c.self.inside.sorted.items c.push.new.self.items c.insert.new.self.items c.self.inside.copies.entries c.put_copies.new.copies.entries c.args.chunk.now c.rank_of-rank.result _ _ c.self.inside.apart c.self.inside.clear c.put_copies.new.clear c.if-self.apart c.self.inside.front _ c.self.invariant (omega arith)
+    added_in_order c.self.inside.chunks.items c.self.inside.sorted.items c.push.new.self.items c.insert.new.self.items c.self.inside.copies.entries c.put_copies.new.copies.entries c.args.chunk.now c.rank_of-rank.result _ c.self.inside.apart c.self.inside.clear c.put_copies.new.clear c.if-self.apart c.self.inside.front _ c.self.invariant (omega arith)
     (c.rank_of-rank.ensures.rank ∙ ap (rank_by_start c.args.chunk.now.start) c.deref.ensures.value)
-    c.push.ensures.items c.if-is_err-2.ensures.negation c.insert.ensures.items c.if-is_err.ensures.negation keeps
+    c.push.ensures.items c.if-is_err.ensures.negation c.in_ok-insert.ensures.items keeps
     c.put_copies.ensures.kept c.put_copies.ensures.stays c.put_copies.ensures.more c.in_ok-put_copies.ensures.there c.in_ok-put_copies.ensures.free c.in_ok-put_copies.ensures.sources next
