@@ -185,18 +185,6 @@ pub record AreListedTo (m : FinMap nat_cmp ℕ) (spots : List Spot) (last : Opti
   pub are : ArePartsOf m parts
   pub whole : spots ++ joined_from last (map spot_of left) ≡ joined_all (map spot_of parts)
 
-pub listed_more : (m : FinMap nat_cmp ℕ) (old new : List Spot) (last : Option Spot) (part next : Spot) (piece : Piece) (left later : List Piece)
-    → AreListedTo m old last left → left ≡ piece ∷ later → part ≡ spot_of piece → IsJoined last part next old new → AreListedTo m new (Some next) later
-listed_more m old new last part next piece left later listed begun is join = record {
-  parts = listed.parts;
-  are = listed.are;
-  whole =
-      join (map spot_of later)
-      ∙ ap (λ s. old ++ joined_from last (s ∷ map spot_of later)) is
-      ∙ ap (λ l. old ++ joined_from last (map spot_of l)) (sym begun)
-      ∙ listed.whole;
-}
-
 -- at the end they are those of the pieces
 record AreAll (m : FinMap nat_cmp ℕ) (spots : List Spot) : Type 0 where
   runs : AreRuns 0 spots

@@ -1,5 +1,5 @@
 -- Which bytes pending writes have, and the ranges in which they have them.
-use Rattle.std.proofs.Common.{◌≡◌, ℕ, zero, suc, ◌+◌, ◌<◌, ◌≤◌, Bool, true, false, ◌&&◌, ◌||◌, List, [], ◌∷◌, length, map, ◌⊎◌, inl, inr, sym, ◌∙◌, refl, ap, subst, arith}
+use Rattle.std.proofs.Common.{◌≡◌, ℕ, zero, suc, ◌+◌, ◌<◌, ◌≤◌, Bool, true, false, ◌||◌, List, [], ◌∷◌, length, map, ◌⊎◌, inl, inr, sym, ◌∙◌, refl, ap, subst, arith}
 use Rattle.std.specs.Prelude.{◌↔◌, IsTrue, IsSome, is_some}
 use Rattle.std.specs.Cmp.{both_ways}
 use Rattle.std.specs.List.{list_any}
@@ -7,7 +7,7 @@ use Rattle.std.specs.Ordering.{nat_cmp}
 use Rattle.std.specs.FinMap.{FinMap, get, get-empty}
 use Rattle.std.proofs.lemmas.Bool.{cases_lt}
 use Rattle.std.proofs.lemmas.Bool.Decides.{nat_tests}
-use Rattle.verdict.proofs.Truth.{and_left, and_right, and_true, or_cases, or_left, or_right, decided}
+use Rattle.verdict.proofs.Truth.{or_cases, or_left, or_right}
 use Rattle.live_index.specs.Pairs.{Pairs}
 use Rattle.write_cache.specs.Cache.{with_bytes}
 use Rattle.write_cache.specs.Pieces.{Piece, map_of}

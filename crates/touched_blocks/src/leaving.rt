@@ -43,13 +43,9 @@ fn by_start(alloc: Global, chunks: &[Chunk]) -> Result<Vec<Chunk>, NoMemory>
     ensures ascend { IfOk result (λ sorted.
         IsNonDecreasingBy (λ (chunk : AChunk). chunk.start) sorted.items) }
 {
-    match chunks.iter().copied().collect::<Vec<Chunk>>(alloc) {
-        Ok(mut sorted) => {
-            sorted.sort_unstable_by_key(|chunk| chunk.start);
-            Ok(sorted)
-        }
-        Err(_) => Err(NoMemory),
-    }
+    let mut sorted = chunks.iter().copied().collect::<Vec<Chunk>>(alloc)?;
+    sorted.sort_unstable_by_key(|chunk| chunk.start);
+    Ok(sorted)
 }
 
 // Puts behind a list the ranges of one old chunk. The new chunks come in the order of where they begin.

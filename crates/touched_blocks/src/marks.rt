@@ -52,10 +52,8 @@ impl Marks {
             count_of self.old + (if marked_by self.old tree address then 0 else 1)) }
         ensures err { OnErr result ((t a : ℕ) → marked_by self.new t a ≡ marked_by self.old t a) }
     {
-        match self.places.insert(place_of(tree, address)) {
-            Ok(_) => Ok(()),
-            Err(_) => Err(NoMemory),
-        }
+        self.places.insert(place_of(tree, address))?;
+        Ok(())
     }
 
     /// Puts other marks to these. A list of the other marks meanwhile takes its memory from this allocator. Out of memory, some of them may
@@ -91,10 +89,7 @@ impl Marks {
         ensures count { IfOk result (λ places. vec_len places ≡ count_of self.now) }
         ensures order { IfOk result (λ places. IsStrictlySortedBy by_pair places.items) }
     {
-        match self.places.iter().copied().collect(alloc) {
-            Ok(places) => Ok(places),
-            Err(_) => Err(NoMemory),
-        }
+        Ok(self.places.iter().copied().collect(alloc)?)
     }
 }
 

@@ -100,10 +100,7 @@ fn add_spot(
 pub(crate) fn push(into: &mut Vec<Range>, range: Range) -> Result<(), NoMemory>
     ensures { OnOk result (into.new.items ≡ into.old.items ++ range ∷ []) }
 {
-    match into.push(range) {
-        Ok(()) => Ok(()),
-        Err(_) => Err(NoMemory),
-    }
+    Ok(into.push(range)?)
 }
 
 /// Puts ranges in the order of where they begin.

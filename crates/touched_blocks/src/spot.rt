@@ -134,8 +134,5 @@ fn put_last(spots: &mut Vec<Spot>, last: Option<Spot>) -> Result<(), NoMemory>
     let Some(spot) = last else {
         return Ok(());
     };
-    match spots.push(spot) {
-        Ok(()) => Ok(()),
-        Err(_) => Err(NoMemory),
-    }
+    Ok(spots.push(spot)?)
 }
