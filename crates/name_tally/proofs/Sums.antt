@@ -1,6 +1,6 @@
 -- Slots with more, and what slots come to.
 use Rattle.std.proofs.Common.{◌≡◌, ℕ, zero, suc, ◌+◌, ◌-◌, ◌<◌, ◌≤◌, ◌==◌, ◌&&◌, Bool, true, false, cond, List, [], ◌∷◌, ◌++◌, length, get_or, set, drop, refl, ap, sym, ◌∙◌, subst, append_assoc, append-nil, arith}
-use Rattle.std.specs.Prelude.{nat_lt, Result, Ok, Err, OnOk}
+use Rattle.std.specs.Prelude.{nat_lt}
 use Rattle.std.specs.List.{flat_map}
 use Rattle.std.proofs.Math.Path.{fun_ext}
 use Rattle.std.proofs.lemmas.List.{at_drop_more, at_drop_all}
@@ -13,7 +13,7 @@ use Rattle.accounts.specs.Apart.{AddsUp}
 use Rattle.accounts.specs.Kinds.{inode, inode_type, key_by, link, name_entry, balances}
 use Rattle.accounts.specs.Sums.{added, is_same, total_of}
 use Rattle.accounts.specs.Tally.{Sums, difference, kept, kept_sums, sums_in, with_postings}
-use Rattle.accounts.proofs.Apart.{adds_exactly, adds_nothing, adds_then, more_alike}
+use Rattle.accounts.proofs.Apart.{adds_exactly, more_alike}
 use Rattle.accounts.proofs.Kept.{balanced_kept, kept_more, total_joined, with_more}
 use Rattle.accounts.proofs.Same.{same_account}
 use Rattle.name_tally.specs.declared.slot.NameSlot.{NameSlot}
@@ -41,11 +41,6 @@ pub adds_zero : (sums : Sums) (list given : List Posting) → ((a : Account) (n 
     → AddsUp sums sums list list given
 adds_zero sums list given none = adds_exactly sums sums list list given (λ a n. (let z = none a n in
     let e : sums a n + total_of list a n ≡ (sums a n + total_of list a n) + total_of given a n = omega (arith, z) in e))
-
--- what follows from a fact of an answer
-pub on_ok : {T E A B : Type 0} (r : Result T E) → OnOk r A → (A → B) → OnOk r B
-on_ok (Ok x) a gives = gives a
-on_ok (Err e) a gives = tt
 
 -- ---- two sums of an account whose difference counts
 

@@ -152,9 +152,7 @@ impl NameIndex {
     // Makes an index of so many entries for the slots that are in use.
     fn grow(&mut self, slots: &[NameSlot], size: usize) -> Result<(), NoMemory> {
         self.entries.clear();
-        if self.entries.resize(size, 0).is_err() {
-            return Err(NoMemory);
-        }
+        self.entries.resize(size, 0)?;
         self.used = 0;
         for (place, slot) in slots.iter().enumerate() {
             if !slot.is_free() {
@@ -204,8 +202,6 @@ fn free_place(free: &mut Vec<u32>, slots: &mut Vec<NameSlot>) -> Result<Option<u
     if place >= MOST_SLOTS {
         return Ok(None);
     }
-    match slots.push(NameSlot::free()) {
-        Ok(()) => Ok(Some(place)),
-        Err(_) => Err(NoMemory),
-    }
+    slots.push(NameSlot::free())?;
+    Ok(Some(place))
 }

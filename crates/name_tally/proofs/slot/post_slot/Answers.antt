@@ -1,6 +1,7 @@
 use Rattle.std.proofs.Common.{◌∙◌, ◌++◌, ap}
-use Rattle.name_tally.proofs.Sums.{entry_named, link_named, on_ok, posted_slot}
+use Rattle.name_tally.proofs.Sums.{entry_named, link_named, posted_slot}
 use Rattle.accounts.specs.Lent.{to}
+use Rattle.verdict.proofs.Answers.{on_ok}
 use Rattle.name_tally.proofs.slot.post_slot.Goals as goal
 
 pub returns : goal.returns

@@ -3,7 +3,7 @@ use Rattle.accounts.proofs.Apart.{adds_listed, adds_then}
 use Rattle.inode_tally.specs.Held.{inodes_apart}
 use Rattle.records.specs.DirPostings.{dir_entry_postings}
 use Rattle.records.specs.InodePostings.{target_postings}
-use Rattle.name_tally.proofs.Sums.{on_ok}
+use Rattle.verdict.proofs.Answers.{on_ok}
 use Rattle.name_tally.proofs.tally.pass_entry.Goals as goal
 
 pub returns : goal.returns

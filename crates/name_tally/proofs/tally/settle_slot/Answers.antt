@@ -1,7 +1,8 @@
 use Rattle.std.proofs.Common.{◌∙◌, ◌++◌, ap}
 use Rattle.accounts.specs.Tally.{sums_in, with_postings}
 use Rattle.name_tally.specs.Names.{slot_postings}
-use Rattle.name_tally.proofs.Sums.{free_slot, on_ok, posts_nothing}
+use Rattle.name_tally.proofs.Sums.{free_slot, posts_nothing}
+use Rattle.verdict.proofs.Answers.{on_ok}
 use Rattle.name_tally.proofs.tally.settle_slot.Goals as goal
 
 pub returns-then-is_free : goal.returns-then-is_free

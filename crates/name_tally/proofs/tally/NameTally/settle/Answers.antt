@@ -2,7 +2,8 @@ use Rattle.std.proofs.Common.{◌∙◌, ap}
 use Rattle.std.specs.List.{flat_map}
 use Rattle.accounts.specs.Tally.{sums_in, with_postings}
 use Rattle.name_tally.specs.Names.{slot_postings}
-use Rattle.name_tally.proofs.Sums.{on_ok, settled}
+use Rattle.name_tally.proofs.Sums.{settled}
+use Rattle.verdict.proofs.Answers.{on_ok}
 use Rattle.name_tally.proofs.tally.NameTally.settle.Goals as goal
 
 pub returns : goal.returns

@@ -5,7 +5,8 @@ use Rattle.name_tally.specs.Names.{names_apart}
 use Rattle.name_tally.specs.Slots.{led_in}
 use Rattle.name_tally.specs.Names.{entry_row}
 use Rattle.name_tally.proofs.Claims.{keeps_nothing}
-use Rattle.name_tally.proofs.Sums.{adds_passed, adds_told, but_nothing, but_same, on_ok}
+use Rattle.name_tally.proofs.Sums.{adds_passed, adds_told, but_nothing, but_same}
+use Rattle.verdict.proofs.Answers.{on_ok}
 use Rattle.name_tally.proofs.tally.NameTally.take_entry.Goals as goal
 
 pub returns-then-entry-ne-INODE_ITEM : goal.returns-then-entry-ne-INODE_ITEM

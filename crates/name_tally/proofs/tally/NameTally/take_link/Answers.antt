@@ -5,7 +5,8 @@ use Rattle.accounts.proofs.Apart.{adds_listed}
 use Rattle.inode_tally.specs.Held.{inodes_apart}
 use Rattle.name_tally.specs.Names.{both, names_apart}
 use Rattle.name_tally.specs.Slots.{led_in}
-use Rattle.name_tally.proofs.Sums.{adds_passed, adds_told, but_same, on_ok}
+use Rattle.name_tally.proofs.Sums.{adds_passed, adds_told, but_same}
+use Rattle.verdict.proofs.Answers.{on_ok}
 use Rattle.name_tally.proofs.tally.NameTally.take_link.Goals as goal
 
 pub returns-then-name-gt-NAME_SIZE : goal.returns-then-name-gt-NAME_SIZE
