@@ -122,7 +122,7 @@ fn add_write(alloc: Global, events: &mut Vec<Event>, at: u64, bytes: &[u8]) -> R
         at,
         bytes: Bytes::of(alloc, bytes)?,
     };
-    events.push(write).map_err(|_| NoMemory)
+    Ok(events.push(write)?)
 }
 
 /// The writes that make an empty file `hello` in the top directory of the base image, as one commit of

@@ -36,7 +36,7 @@ impl Fields {
     pub fn bytes(&mut self, s: &[u8]) -> Result<(), NoMemory>
         ensures { OnOk result (self.new ≡ self.old ++ s.now) }
     {
-        self.list.extend_from_slice(s).map_err(|_| NoMemory)
+        Ok(self.list.extend_from_slice(s)?)
     }
 
     /// Appends a field of eight bytes, the lowest first.

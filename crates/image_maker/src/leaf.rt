@@ -79,13 +79,9 @@ impl LeafMaker {
         }
         let space = bytes.len() + 25;
         let bytes = Bytes::of(self.alloc, bytes)?;
-        match self.items.push(LeafItem { key, bytes }) {
-            Ok(()) => {
-                self.used += space;
-                Ok(true)
-            }
-            Err(_) => Err(NoMemory),
-        }
+        self.items.push(LeafItem { key, bytes })?;
+        self.used += space;
+        Ok(true)
     }
 
     /// The leaf, with its header, its items and the right checksum. The block reader accepts it as the
