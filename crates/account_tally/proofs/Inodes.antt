@@ -10,15 +10,11 @@ use Rattle.std.specs.declared.cmp.Ordering.{Ordering}
 use Rattle.std.specs.declared.cmp.Ordering.TheVariants.{Less, Equal, Greater}
 use Rattle.records.specs.Context.{is_inode}
 use Rattle.account_tally.specs.Sums.{Frees, or_free}
+use Rattle.verdict.proofs.Truth.{then_tied}
 
 -- pairs by their first numbers, then by their second
 abbrev pub pair_cmp : ℕ × ℕ → ℕ × ℕ → Ordering
 pair_cmp x y = ordering_then (nat_cmp x.0 y.0) (nat_cmp x.1 y.1)
-
-is_eq-then : (a b : Ordering) → is_eq (ordering_then a b) ≡ (is_eq a && is_eq b)
-is_eq-then Less b = refl
-is_eq-then Equal b = refl
-is_eq-then Greater b = refl
 
 is_eq-nat : (a b : ℕ) → is_eq (nat_cmp a b) ≡ (b == a)
 is_eq-nat a b =
@@ -30,7 +26,7 @@ is_eq-nat a b =
 
 pair_is : (x y : ℕ × ℕ) → is_eq (pair_cmp x y) ≡ is_inode x.0 x.1 y
 pair_is x y =
-    is_eq-then (nat_cmp x.0 y.0) (nat_cmp x.1 y.1)
+    then_tied (nat_cmp x.0 y.0) (nat_cmp x.1 y.1)
     ∙ ap (λ a. a && is_eq (nat_cmp x.1 y.1)) (is_eq-nat x.0 y.0)
     ∙ ap (λ b. (y.0 == x.0) && b) (is_eq-nat x.1 y.1)
 

@@ -19,6 +19,8 @@ use Rattle.accounts.proofs.First.{least_is_least, one_least, unposted}
 use Rattle.accounts.proofs.Same.{same_account}
 use Rattle.sector_runs.specs.Runs.{IsLeastBroken, SectorSums}
 use Rattle.account_tally.specs.Kept.{AreSumsOf, chosen}
+use Rattle.verdict.proofs.Numbers.{less_from, less_is}
+use Rattle.verdict.proofs.Truth.{then_less}
 
 -- ---- which accounts come before others
 
@@ -33,18 +35,8 @@ less_first a b later is =
 less_kind : (a b : Account) → account_cmp a b ≡ Less → a.kind ≤ b.kind
 less_kind a b is = less_first a.kind b.kind _ is
 
-cmp_less : (a b : ℕ) → a < b → nat_cmp a b ≡ Less
-cmp_less a b l =
-    let below : nat_lt a b ≡ true = grind (arith, nat_tests) in
-    ap (λ t. cond t Less (cond (a == b) Equal Greater)) below
-
-then_less : (first later : Ordering) → first ≡ Less → ordering_then first later ≡ Less
-then_less Less later is = refl
-then_less Equal later is = absurd (cc)
-then_less Greater later is = absurd (cc)
-
 kind_less : (a b : Account) → a.kind < b.kind → account_cmp a b ≡ Less
-kind_less a b l = then_less (nat_cmp a.kind b.kind) _ (cmp_less a.kind b.kind l)
+kind_less a b l = then_less (nat_cmp a.kind b.kind) _ (less_from a.kind b.kind l)
 
 -- with equal others, an order by a number alone
 by_number : (o : Ordering) → ordering_then o Equal ≡ Less → o ≡ Less
@@ -52,15 +44,8 @@ by_number Less is = refl
 by_number Equal is = absurd (cc)
 by_number Greater is = absurd (cc)
 
-cmp_is_less : (a b : ℕ) → nat_cmp a b ≡ Less → a < b
-cmp_is_less a b is =
-    elim (nat_lt a b) as (λ t. nat_lt a b ≡ t → cond t Less (cond (a == b) Equal Greater) ≡ Less → a < b) [
-      | true ↦ λ e _. grind (arith, nat_tests)
-      | false ↦ λ e. elim (a == b) as (λ t. cond t Equal Greater ≡ Less → a < b) [ true ↦ λ l. absurd (cc) | false ↦ λ l. absurd (cc) ]
-    ] refl is
-
 sector_less : (a b : ℕ) → account_cmp (sector a) (sector b) ≡ Less → a < b
-sector_less a b is = cmp_is_less a b (by_number (nat_cmp a b) is)
+sector_less a b is = less_is a b (by_number (nat_cmp a b) is)
 
 -- ---- what is broken
 

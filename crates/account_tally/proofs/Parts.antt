@@ -8,7 +8,7 @@ use Rattle.accounts.specs.Apart.{AddsUp, IsSettled}
 use Rattle.accounts.specs.Broken.{is_broken}
 use Rattle.accounts.specs.Sums.{total_of}
 use Rattle.accounts.specs.Tally.{Sums, kept, no_sums, sums_in, with_postings}
-use Rattle.accounts.proofs.Apart.{adds_beside, adds_listed, adds_the_same, adds_then, more_alike}
+use Rattle.accounts.proofs.Apart.{adds_beside, adds_the_same, adds_then, more_alike}
 use Rattle.accounts.proofs.First.{broken_kept}
 use Rattle.accounts.proofs.Kept.{kept_more, kept_nothing, total_joined}
 use Rattle.account_tally.specs.Apart.{three}

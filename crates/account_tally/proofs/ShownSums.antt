@@ -108,8 +108,3 @@ module _ (before after : SectorSums) (shown : List Shown) (last : Shown) (free :
 pub none_left : (sums : SectorSums) (shown : List Shown) (free : Frees) → shown ≡ [] → (λ address field. sums address field + shown_sums shown free address field) ≡ sums
 none_left sums shown free is = fun_ext (λ address. fun_ext (λ field.
     (let none : shown_sums shown free address field ≡ 0 = ap (λ s. shown_sums s free address field) is in omega (arith, none))))
-
--- what follows from two
-pub on_ok_both : {T E A B C : Type 0} (r : Result T E) → OnOk r A → OnOk r B → (A → B → C) → OnOk r C
-on_ok_both (Ok x) a b gives = gives a b
-on_ok_both (Err e) a b gives = tt

@@ -22,6 +22,7 @@ use Rattle.account_tally.specs.Kept.{AreSumsOf}
 use Rattle.account_tally.specs.Sums.{Frees, Summed, SumsByFree, context_with, none_free, or_free, rest_of, with_record, with_sectors}
 use Rattle.records.proofs.SectorSums.{dir_none, extent_none, inode_none, space_none}
 use Rattle.account_tally.proofs.Families.{rest_none, rest_same}
+use Rattle.verdict.proofs.Truth.{or_assoc}
 
 -- ---- all records
 
@@ -52,14 +53,10 @@ folded chunks nodesize ps sums free (one ∷ more) =
 
 -- ---- which data has no checksums
 
-or_found : (a b c : Bool) → ((a || b) || c) ≡ (a || (b || c))
-or_found true b c = refl
-or_found false b c = refl
-
 or_one : (free : Frees) (found : Option (ℕ × ℕ)) (more : List (ℕ × ℕ)) (tree ino : ℕ)
     → (or_free free found tree ino || list_any (is_inode tree ino) more) ≡ (free tree ino || list_any (is_inode tree ino) (cons_option found more))
 or_one free None more tree ino = refl
-or_one free (Some one) more tree ino = or_found (free tree ino) (is_inode tree ino one) (list_any (is_inode tree ino) more)
+or_one free (Some one) more tree ino = or_assoc (free tree ino) (is_inode tree ino one) (list_any (is_inode tree ino) more)
 
 or_none : (b : Bool) → b ≡ (b || false)
 or_none true = refl

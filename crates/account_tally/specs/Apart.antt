@@ -1,5 +1,5 @@
 -- What is kept apart of extents, of names and of inodes, and what is added to it.
-use Rattle.std.specs.Prelude.{ℕ, ◌+◌, List, OnOk}
+use Rattle.std.specs.Prelude.{◌+◌, List, OnOk}
 use Rattle.accounts.specs.declared.postings.Posting.{Posting}
 use Rattle.accounts.specs.Apart.{AddsUp}
 use Rattle.accounts.specs.Posts.{Done}

@@ -42,10 +42,8 @@ impl SumFree {
         let Some(inode) = one.sum_free() else {
             return Ok(());
         };
-        match self.inodes.insert(inode) {
-            Ok(_) => Ok(()),
-            Err(_) => Err(NoMemory),
-        }
+        self.inodes.insert(inode)?;
+        Ok(())
     }
 
     // Whether an inode of a tree is one of them.
@@ -148,15 +146,14 @@ impl SectorTally {
             sectors_in self.new free address field ≡ sectors_in self.old free address field
             + (if free tree ino then 0 else amount_of run address field)) }
     {
-        match self.shown.push(Shown {
-            tree,
-            ino,
-            first: run.first,
-            count: run.count,
-        }) {
-            Ok(()) => Ok(()),
-            Err(_) => Err(NoMemory),
-        }
+        Ok(
+            self.shown.push(Shown {
+                tree,
+                ino,
+                first: run.first,
+                count: run.count,
+            })?,
+        )
     }
 
     // The address of the least broken sector. All records are taken: what files show is added to the sums.

@@ -4,7 +4,7 @@ use Rattle.account_tally.specs.Sums.{or_free}
 use Rattle.account_tally.proofs.Inodes.{noted}
 use Rattle.account_tally.proofs.shown.SumFree.take.Goals as goal
 
-pub returns-in-Ok : goal.returns-in-Ok
-returns-in-Ok c =
-    noted c.args.self.now.inodes.keys c.insert.new.self.keys c.in-Some.inode (λ q. c.in-Ok.ensures.updates.0 q)
+pub returns : goal.returns
+returns c =
+    noted c.args.self.now.inodes.keys c.insert.new.self.keys c.in-Some.inode (λ q. c.in_ok-insert.ensures.updates.0 q)
     ∙ ap (or_free (free_in c.args.self.now)) (sym c.in-Some.is ∙ c.sum_free.ensures)

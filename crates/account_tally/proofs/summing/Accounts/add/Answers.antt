@@ -7,13 +7,13 @@ use Rattle.account_tally.specs.Kept.{summed_in}
 use Rattle.account_tally.proofs.Decided.{one_taken}
 use Rattle.account_tally.proofs.Led.{adds_named, both_total, led_postings}
 use Rattle.account_tally.proofs.Parts.{adds_record}
-use Rattle.account_tally.proofs.ShownSums.{on_ok_both}
+use Rattle.verdict.proofs.Answers.{on_both}
 use Rattle.account_tally.proofs.summing.Accounts.add.Goals as goal
 
 pub returns : goal.returns
 returns c =
     let old = summed_in c.args.self.now in
-    on_ok_both c.take.result c.take.ensures.sums c.take.ensures.free (λ sectors free.
+    on_both c.take.result c.take.ensures.sums c.take.ensures.free (λ sectors free.
     one_taken old _ (located c.args.one.now) (sums_in c.args.self.now.rest) (sums_in c.add_all.new.self) (sums_apart c.args.self.now.apart) _
     c.args.self.now.apart.waiting _ c.add_all.new.postings
     refl refl refl refl
