@@ -1,6 +1,6 @@
 -- The looks of all passes of a search, summed up.
 use Rattle.std.proofs.Common.{◌≡◌, ℕ, suc, ◌+◌, ◌*◌, ◌<◌, ◌≤◌, Bool, true, false, cond, not, ◌&&◌, inl, inr, List, [], ◌∷◌, get_or, length, refl, sym, ap, ◌∙◌, subst, arith, nat_le}
-use Rattle.std.specs.Prelude.{◌==◌, IsSome, Option, Some, None, is_none, is_some, nat_lt}
+use Rattle.std.specs.Prelude.{◌==◌, Option, Some, None, is_none, is_some, nat_lt}
 use Rattle.std.specs.Bool.{beq}
 use Rattle.std.specs.List.{AllPairs, Contains, count_by, list_any, sum_by}
 use Rattle.std.proofs.lemmas.Bool.{and_from, and_parts, both_ways, cases_order, eqb-true, false_from_ne_true, le-leb, leb-true}

@@ -2,10 +2,8 @@
 use Rattle.std.proofs.Common.{◌≡◌, ℕ, Bool, true, false, cond, ◌&&◌, ◌||◌, List, [], ◌∷◌, ◌++◌, refl, sym, ap, ◌∙◌}
 use Rattle.std.specs.Prelude.{◌==◌, Option, Some, slice_get, Result, Ok, Err, OnOk, OnErr}
 use Rattle.std.specs.Option.{unwrap_or}
-use Rattle.std.specs.Ordering.{nat_cmp, ordering_then, is_eq}
+use Rattle.std.specs.Ordering.{nat_cmp, ordering_then}
 use Rattle.std.specs.Cmp.{unsigned_tied}
-use Rattle.std.specs.declared.cmp.Ordering.{Ordering}
-use Rattle.std.specs.declared.cmp.Ordering.TheVariants.{Less, Equal, Greater}
 use Rattle.std.specs.BTreeMap as map
 use Rattle.std.specs.BTreeMap.{is_at}
 use Rattle.std.specs.BTreeSet as set
@@ -22,8 +20,7 @@ use Rattle.std.proofs.lemmas.Bool.{and_from, and_parts, both_ways, eq-eqb, eqb-t
 use Rattle.std.proofs.Common.{inl, inr}
 use Rattle.std.proofs.lemmas.List.{get_or_default, length-append}
 use Rattle.std.proofs.lemmas.List.Quantifiers.{all_pairs_push}
-use Rattle.std.proofs.lemmas.List.Elements.{Contains-append_left, Contains-push_cases}
-use Rattle.verdict.proofs.Answers.{ok_follows}
+use Rattle.std.proofs.lemmas.List.Elements.{Contains-push_cases}
 use Rattle.verdict.proofs.Truth.{then_tied, and_alike as both, or_swapped}
 use Rattle.records.specs.declared.rec.ItemAt.{ItemAt}
 use Rattle.change_records.specs.declared.changes.ItemChange.{ItemChange}
@@ -137,13 +134,6 @@ altered olds news change was is o n made taken more it at_o at_n take put =
 
 -- ---- the inodes on the list
 
-pub listed_none : (m : map.BTreeMap Inode Bool) (inodes : List Inode) → m.entries ≡ [] → AreListed m inodes
-listed_none m inodes none inode is missing =
-    absurd (let gone : true ≡ false = sym is ∙ ap (λ es. is_some (lookup (is_at (inode_cmp inode)) es)) none in cc)
-
-pub listed_more : (m : map.BTreeMap Inode Bool) (inodes : List Inode) (inode : Inode) → AreListed m inodes → AreListed m (inodes ++ inode ∷ [])
-listed_more m inodes inode listed k is missing = listed k is (λ there. missing (Contains-append_left inodes (inode ∷ []) k there))
-
 pub same_inode : (k q : Inode) → is_at (inode_cmp k) q ≡ true → k ≡ q
 same_inode k q is =
     let both = and_parts (k.tree == q.tree) (k.ino == q.ino) (sym (tied_inode k q) ∙ is) in
@@ -169,14 +159,6 @@ listed_insert m n inodes k free (Ok x) there updates same listed = listed_put m 
 listed_insert m n inodes k free (Err e) there updates same listed = listed_same m n inodes same listed
 
 -- ---- each inode is on the list once
-
-pub once_same : (m n : map.BTreeMap Inode Bool) (xs ys : List Inode) → n ≡ m → ys ≡ xs → (most : ℕ) → AreOnce m xs most → AreOnce n ys (most + 1)
-once_same m n xs ys same_map same most had =
-    subst (λ z. AreOnce z ys (most + 1)) (sym same_map) (subst (λ l. AreOnce m l (most + 1)) (sym same) (record {
-      distinct = had.distinct;
-      flagged = had.flagged;
-      few = let few = had.few in omega (arith, few);
-    }))
 
 -- a flag that was there is there behind an update
 flag_stays : (m n : map.BTreeMap Inode Bool) (k q : Inode) (free : Bool) → map.Updates inode_cmp m n k (Some free) → IsSome (map.get inode_cmp m q) → IsSome (map.get inode_cmp n q)

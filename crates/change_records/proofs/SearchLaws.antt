@@ -13,13 +13,11 @@ use Rattle.live_index.specs.Pairs.{Pairs}
 use Rattle.change_records.specs.Made.{has_name}
 use Rattle.change_records.specs.declared.kept.Inode.{Inode}
 use Rattle.verdict.specs.declared.place.Chunk.{Chunk}
-use Rattle.span_index.specs.declared.span.SortName.TheVariants.{Owned as OwnedName, Shown as ShownName}
 use Rattle.std.specs.Option.{unwrap_or}
 use Rattle.std.specs.Prelude.{slice_get}
 use Rattle.std.proofs.lemmas.Option.{slice_get-get_or}
 use Rattle.std.specs.Bool.{beq}
-use Rattle.std.proofs.Common.{◌-◌, not, min, max, length, get_or, nat_lt}
-use Rattle.std.proofs.lemmas.Bool.Decides.{nat_tests}
+use Rattle.std.proofs.Common.{not, max, length, get_or, nat_lt}
 use Rattle.std.proofs.lemmas.Bool.{and_from, and_parts, lt-ltb, ltb-true, or_left, both_ways, cases_lt, cases_order, eqb-true, or_cases, or_right}
 use Rattle.live_index.proofs.PlaceLaws.{same_name}
 use Rattle.change_records.proofs.HomeLaws.{one_chunk as some_chunk}
@@ -27,7 +25,6 @@ use Rattle.verdict.proofs.Numbers.{at_least}
 use Rattle.verdict.proofs.Truth.{is_less}
 use Rattle.accounts.specs.Context.{Context}
 use Rattle.verdict.specs.OnDisk.{key_same}
-use Rattle.verdict.specs.declared.key.Key.{Key}
 use Rattle.span_index.specs.declared.span.Span.{Span}
 use Rattle.span_index.specs.declared.span.SortName.{SortName}
 use Rattle.span_index.specs.Order.{is_below, sort_cmp, span_cmp}
@@ -270,13 +267,6 @@ searched_both k table P Q R old mid new parts first second = record {
     | inr other ↦ second.all span at stands other hit
   ];
 }
-
-pub chunk_parts : (chunk : Chunk) (until : ℕ) (span : Span) → until ≡ min (chunk.start + chunk.length) (2 ^ 64 - 1) → MeetsChunk chunk span
-    → Overlaps OwnedName chunk.start until span ⊎ Overlaps ShownName chunk.start until span
-chunk_parts chunk until span is meets = elim meets.sort [
-  | inl owned ↦ inl (owned, meets.ends, subst (λ u. span.first < u) (sym is) meets.begins)
-  | inr shown ↦ inr (shown, meets.ends, subst (λ u. span.first < u) (sym is) meets.begins)
-]
 
 some_inode : (h g : Inode) → Some h ≡ Some g → h ≡ g
 some_inode h g is = ap (λ o. unwrap_or o h) is

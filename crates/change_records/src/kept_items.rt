@@ -136,9 +136,7 @@ fn listed(alloc: Global, refs: &BTreeSet<ItemRef>) -> Result<Vec<ItemRef>, NoMem
 {
     let mut list = Vec::new(alloc);
     for at in refs {
-        if list.push(*at).is_err() {
-            return Err(NoMemory);
-        }
+        list.push(*at)?;
     }
     Ok(list)
 }
