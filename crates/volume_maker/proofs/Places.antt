@@ -1,11 +1,11 @@
 -- The blocks that are in use, and those that are free.
-use Rattle.std.proofs.Common.{◌≡◌, ℕ, ◌+◌, ◌<◌, ◌⊎◌, Bool, true, false, List, length, get_or, set, take, inl, inr, refl, sym, ◌∙◌, subst, arith}
+use Rattle.std.proofs.Common.{◌≡◌, ℕ, ◌+◌, ◌<◌, Bool, true, List, length, get_or, set, take, inl, inr, sym, ◌∙◌, subst, arith}
 use Rattle.std.specs.List.{All}
 use Rattle.std.proofs.lemmas.Bool.{cases_eq, cases_lt}
 use Rattle.std.proofs.lemmas.List.{get_or-set_same, get_or-set_other, get_or_past, length-set}
 use Rattle.std.proofs.lemmas.List.Elements.{All-more, All-weaker}
 use Rattle.volume_maker.specs.declared.block.BlockAt.{BlockAt}
-use Rattle.volume_maker.specs.Remade.{IsFree, IsBusy, NoneFreed}
+use Rattle.volume_maker.specs.Remade.{IsFree, IsBusy}
 
 -- a block that is taken is in use, or is none of the chunk
 pub taken_is_busy : (space : List Bool) (number : ℕ) → IsBusy (set space number true) number
@@ -27,10 +27,6 @@ still_busy space number other h =
 -- a block that is in use is not free
 pub busy_not_free : (space : List Bool) (number : ℕ) → IsBusy space number → IsFree space number → ⊥
 busy_not_free space number busy free = let e = sym busy ∙ free in cc
-
-busy_or_free : (space : List Bool) (number : ℕ) (b : Bool) → get_or space number true ≡ b → IsBusy space number ⊎ IsFree space number
-busy_or_free space number true e = inl e
-busy_or_free space number false e = inr e
 
 -- one more block is in use
 pub one_more_busy : (space after : List Bool) (blocks : List BlockAt) (i : ℕ) (d : BlockAt) → i < length blocks

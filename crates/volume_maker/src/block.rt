@@ -72,7 +72,7 @@ pub fn new_node(alloc: Global, at: BlockAt, leaves: &[Block]) -> Result<Block, N
             address: block_address(leaf.at.number),
             generation: leaf.at.generation,
         };
-        pointers.push(pointer).map_err(|_| NoMemory)?;
+        pointers.push(pointer)?;
     }
     let (Some(leaf), true) = (leaves.first(), pointers.len() <= FANOUT) else {
         return Err(NoMemory);

@@ -132,7 +132,7 @@ fn users_of(alloc: Global, volume: &Volume, extent: &Extent) -> Result<Vec<u64>,
     let mut users = Vec::new(alloc);
     for file in &volume.files {
         if file.has(extent) {
-            users.push(inode_of(file.commit)).map_err(|_| NoMemory)?;
+            users.push(inode_of(file.commit))?;
         }
     }
     Ok(users)

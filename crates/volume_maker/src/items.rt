@@ -13,10 +13,8 @@ pub struct Items {
 
 // One item after the other, as the entries of a DIR_ITEM stand.
 fn joined(alloc: Global, front: &LeafItem, item: &LeafItem) -> Result<LeafItem, NoMemory> {
-    let mut bytes = Vec::from_slice(alloc, front.bytes.as_slice()).map_err(|_| NoMemory)?;
-    bytes
-        .extend_from_slice(item.bytes.as_slice())
-        .map_err(|_| NoMemory)?;
+    let mut bytes = Vec::from_slice(alloc, front.bytes.as_slice())?;
+    bytes.extend_from_slice(item.bytes.as_slice())?;
     Ok(LeafItem {
         key: item.key,
         bytes: Bytes::from(bytes),
@@ -46,25 +44,25 @@ impl Items {
             offset,
         };
         let item = LeafItem { key, bytes };
-        self.list.push(item).map_err(|_| NoMemory)
+        Ok(self.list.push(item)?)
     }
 
     /// The items in the order of their keys. Several of one key, which are entries of a directory whose
     /// names have one hash, are one item.
     pub fn finish(self) -> Result<Vec<LeafItem>, NoMemory> {
         let Items { alloc, mut list } = self;
-        list.sort_by_key(|item| item.key).map_err(|_| NoMemory)?;
+        list.sort_by_key(|item| item.key)?;
         let mut items: Vec<LeafItem> = Vec::new(alloc);
         for item in list {
             let last = match items.pop() {
                 None => item,
                 Some(last) if last.key == item.key => joined(alloc, &last, &item)?,
                 Some(last) => {
-                    items.push(last).map_err(|_| NoMemory)?;
+                    items.push(last)?;
                     item
                 }
             };
-            items.push(last).map_err(|_| NoMemory)?;
+            items.push(last)?;
         }
         Ok(items)
     }

@@ -53,7 +53,7 @@ pub fn entries_of(alloc: Global, volume: &Volume) -> Result<Vec<Entry>, NoMemory
             commit: *commit,
             name: name_of(alloc, "d", *commit)?,
         };
-        entries.push(entry).map_err(|_| NoMemory)?;
+        entries.push(entry)?;
     }
     for file in &volume.files {
         let entry = Entry {
@@ -63,7 +63,7 @@ pub fn entries_of(alloc: Global, volume: &Volume) -> Result<Vec<Entry>, NoMemory
             commit: file.commit,
             name: name_of(alloc, "f", file.commit)?,
         };
-        entries.push(entry).map_err(|_| NoMemory)?;
+        entries.push(entry)?;
     }
     for subvolume in &volume.subvolumes {
         let location = Key {
@@ -78,7 +78,7 @@ pub fn entries_of(alloc: Global, volume: &Volume) -> Result<Vec<Entry>, NoMemory
             commit: subvolume.commit,
             name: name_of(alloc, "s", subvolume.commit)?,
         };
-        entries.push(entry).map_err(|_| NoMemory)?;
+        entries.push(entry)?;
     }
     Ok(entries)
 }

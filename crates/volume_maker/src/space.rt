@@ -98,7 +98,7 @@ impl Space {
         let mut numbers = Vec::new(self.alloc);
         for (number, busy) in self.busy.iter().enumerate() {
             if !*busy && numbers.len() < count {
-                numbers.push(number as u16).map_err(|_| NoMemory)?;
+                numbers.push(number as u16)?;
             }
         }
         if numbers.len() < count {

@@ -129,7 +129,7 @@ impl Tree {
     fn starts(&self, alloc: Global) -> Result<Vec<Key>, NoMemory> {
         let mut starts = Vec::new(alloc);
         for leaf in &self.leaves {
-            starts.push(leaf.first).map_err(|_| NoMemory)?;
+            starts.push(leaf.first)?;
         }
         Ok(starts)
     }
@@ -139,9 +139,9 @@ impl Tree {
         ensures { OnOk result (into.new.items ≡ into.old.items ++ blocks_of self.now) }
     {
         for leaf in &self.leaves {
-            into.push(leaf.at).map_err(|_| NoMemory)?;
+            into.push(leaf.at)?;
         }
-        into.push(self.root.at).map_err(|_| NoMemory)
+        Ok(into.push(self.root.at)?)
     }
 }
 
@@ -174,9 +174,7 @@ fn leaves_of(
             generation,
         };
         let new = new_leaf(alloc, at, &items[from..from + count])?;
-        leaves
-            .push(kept_or_new(alloc, old, space, new)?)
-            .map_err(|_| NoMemory)?;
+        leaves.push(kept_or_new(alloc, old, space, new)?)?;
         from += count;
     }
     Ok(leaves)

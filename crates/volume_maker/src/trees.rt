@@ -68,7 +68,7 @@ fn list_new(
             level: if is_node { 1 } else { 0 },
             generation,
         };
-        into.push(at).map_err(|_| NoMemory)?;
+        into.push(at)?;
     }
     Ok(())
 }
@@ -95,7 +95,7 @@ impl Trees {
         ensures { IfOk result (λ blocks. blocks.items ≡ kept_blocks self.now) }
     {
         let mut blocks = Vec::new(self.alloc);
-        blocks.push(DEVICE_BLOCK).map_err(|_| NoMemory)?;
+        blocks.push(DEVICE_BLOCK)?;
         self.files.list(&mut blocks)?;
         self.sums.list(&mut blocks)?;
         for tree in &self.subvolumes {
@@ -135,10 +135,10 @@ impl Trees {
             self.files.root.at,
             self.sums.root.at,
         ] {
-            roots.push(root).map_err(|_| NoMemory)?;
+            roots.push(root)?;
         }
         for tree in &self.subvolumes {
-            roots.push(tree.root.at).map_err(|_| NoMemory)?;
+            roots.push(tree.root.at)?;
         }
         root_items(self.alloc, volume, &roots)
     }
@@ -202,7 +202,7 @@ impl Trees {
         for subvolume in volume.subvolumes.iter().skip(self.subvolumes.len()) {
             let items = empty_files(self.alloc)?;
             let tree = tree_of(self.alloc, None, space, subvolume.id, generation, &items)?;
-            self.subvolumes.push(tree).map_err(|_| NoMemory)?;
+            self.subvolumes.push(tree)?;
         }
         Ok(())
     }

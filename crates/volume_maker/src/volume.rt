@@ -210,21 +210,21 @@ impl Volume {
         ensures { OnOk result (self.new ≡ with_subvolume commit id self.old) }
     {
         let subvolume = SubvolumeAt { id, commit };
-        self.subvolumes.push(subvolume).map_err(|_| NoMemory)
+        Ok(self.subvolumes.push(subvolume)?)
     }
 
     /// Makes a directory in the top directory.
     pub fn add_directory(&mut self, commit: u32) -> Result<(), NoMemory>
         ensures { OnOk result (self.new ≡ with_directory commit self.old) }
     {
-        self.directories.push(commit).map_err(|_| NoMemory)
+        Ok(self.directories.push(commit)?)
     }
 
     // Adds a file.
     fn list(&mut self, file: FileAt) -> Result<(), NoMemory>
         ensures { OnOk result (self.new ≡ with_file file self.old) }
     {
-        self.files.push(file).map_err(|_| NoMemory)
+        Ok(self.files.push(file)?)
     }
 
     /// Makes an empty file in a directory.
@@ -247,7 +247,7 @@ impl Volume {
     {
         let sector = free_sectors(&self.extents, sectors)?;
         let extent = new_extent(commit, sector, sectors, sort);
-        self.extents.push(extent).map_err(|_| NoMemory)?;
+        self.extents.push(extent)?;
         self.list(FileAt {
             commit,
             dir,
