@@ -1,10 +1,9 @@
 -- The writes of a commit, as they are gathered.
-use Rattle.std.proofs.Common.{◌≡◌, ℕ, ◌+◌, ◌*◌, ◌^◌, ◌<◌, ◌≤◌, false, List, [], ◌∷◌, ◌++◌, length, get_or, map, Result, Ok, Err, IfOk, inr, refl, sym, ap, ◌∙◌, subst, append_assoc, append-nil, arith}
+use Rattle.std.proofs.Common.{◌≡◌, ℕ, ◌+◌, ◌*◌, ◌^◌, ◌<◌, ◌≤◌, false, List, [], ◌∷◌, ◌++◌, length, get_or, map, Result, Ok, Err, IfOk, refl, sym, ap, ◌∙◌, subst, append_assoc, append-nil, arith}
 use Rattle.std.specs.List.{All, Contains, flat_map}
 use Rattle.std.proofs.lemmas.List.{length-map, get_or-map}
 use Rattle.std.proofs.lemmas.Bool.Decides.{nat_tests}
-use Rattle.std.proofs.lemmas.List.Elements.{All-nil, All-cons, All-append, All-weaker, All-contains, All-from_get_or, Contains-append_left, Contains-append_right}
-use Rattle.trace_reader.proofs.Filling.{are_bytes}
+use Rattle.std.proofs.lemmas.List.Elements.{All-nil, All-cons, All-append, All-weaker, All-contains, Contains-append_left, Contains-append_right}
 use Rattle.verdict.specs.declared.machine.Event.{Event}
 use Rattle.verdict.specs.declared.machine.Event.TheVariants.{Write}
 use Rattle.verdict.specs.Events.{begin_of, length_of, meets_superblock}
@@ -15,7 +14,7 @@ use Rattle.volume_maker.specs.declared.trees.Trees.{Trees}
 use Rattle.volume_maker.specs.Live.{all_blocks, blocks_of, device_block, kept_blocks}
 use Rattle.trace_reader.specs.Trace.{IsBytes}
 use Rattle.trace_maker.specs.declared.operation.Operation.{Operation}
-use Rattle.trace_maker.specs.Made.{IsWriteBy, IsSuperblockWrite, IsPlaceOf, IsDataOf, data_of, IsCommitOf}
+use Rattle.trace_maker.specs.Made.{IsWriteBy, IsSuperblockWrite, IsPlaceOf, IsDataOf, IsCommitOf}
 use Rattle.trace_maker.specs.Writes.{HasMore, IsWriteOf}
 use Rattle.volume_maker.specs.Volume.{Standing}
 

@@ -23,18 +23,6 @@ pub record SoFar (ops : List Operation) (i : ℕ) (room : ℕ) (standing : Stand
   pub few : length events + room ≤ most_records
   pub gained : now ≡ and_then kept (header_bytes ++ spelling_of_all events)
 
-pub start : (ops : List Operation) (standing : Standing) (kept now : Option (List ℕ)) → standing ≡ nothing_stands → now ≡ and_then kept header_bytes
-    → SoFar ops 0 most_records standing kept now
-start ops standing kept now s e = record {
-  events = [];
-  stands = s;
-  lawful = All-nil IsSpelled;
-  planned = refl;
-  counted = refl;
-  few = omega arith;
-  gained = e;
-}
-
 pub more : (ops : List Operation) (i room left : ℕ) (op : Operation) (now : List Event) (standing later : Standing) (kept mid after : Option (List ℕ)) → SoFar ops i room standing kept mid
     → length now ≤ room → left ≡ room - length now
     → i < length ops → take (i + 1) ops ≡ take i ops ++ op ∷ [] → IsCommitOf (i + 1) standing op now → later ≡ carried_out (i + 1) op standing

@@ -79,7 +79,7 @@ impl Maker {
         self.add_copies(&mut events, COPY, generation)?;
         let root = &self.trees.roots.root;
         let last = superblock_write(self.alloc, generation, root, bytes_used)?;
-        events.push(last).map_err(|_| NoMemory)?;
+        events.push(last)?;
         Ok(events)
     }
 

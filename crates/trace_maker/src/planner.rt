@@ -54,7 +54,7 @@ impl Planner {
     pub fn new(alloc: Global, seed: u64) -> Result<Planner, NoMemory>
         ensures { IfOk result (λ p. p ≡ first_planned seed) }
     {
-        let directories = vec![in alloc; 256].map_err(|_| NoMemory)?;
+        let directories = vec![in alloc; 256]?;
         Ok(Planner {
             alloc,
             state: seed,
@@ -92,7 +92,7 @@ impl Planner {
         ensures { OnOk result (self.new ≡ with_file ino may_share self.old) }
     {
         let file = ListedFile { ino, may_share };
-        self.files.push(file).map_err(|_| NoMemory)
+        Ok(self.files.push(file)?)
     }
 
     // Commit k makes an empty file.
@@ -177,7 +177,7 @@ impl Planner {
         ensures after { OnOk result (self.new ≡ (plan_directory k self.old).1) }
     {
         let ino = 256 + u64::from(k);
-        self.directories.push(ino).map_err(|_| NoMemory)?;
+        self.directories.push(ino)?;
         Ok(Operation::Directory { ino })
     }
 

@@ -16,7 +16,7 @@ pub fn plan(alloc: Global, seed: u64, commits: u32) -> Result<Vec<Operation>, No
     let mut planner = Planner::new(alloc, seed)?;
     let mut ops = Vec::new(alloc);
     for before in 0..commits {
-        ops.push(planner.commit(before + 1)?).map_err(|_| NoMemory)?;
+        ops.push(planner.commit(before + 1)?)?;
     }
     Ok(ops)
 }

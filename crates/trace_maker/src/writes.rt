@@ -37,14 +37,12 @@ fn data_write(alloc: Global, k: u32, sectors: u8, sector: u16) -> Result<Event, 
         Write 1 (22020096 + 4096 * sector) (replicate (4096 * sectors) (k % 256))) }
     ensures lawful { IfOk result (IsWriteBy 1) }
 {
-    match vec![in alloc; (k % 256) as u8; 4096 * sectors as usize] {
-        Ok(bytes) => Ok(Event::Write {
-            submitter: 1,
-            at: sector_place(sector),
-            bytes: Bytes::from(bytes),
-        }),
-        Err(_) => Err(NoMemory),
-    }
+    let bytes = vec![in alloc; (k % 256) as u8; 4096 * sectors as usize]?;
+    Ok(Event::Write {
+        submitter: 1,
+        at: sector_place(sector),
+        bytes: Bytes::from(bytes),
+    })
 }
 
 /// The writes of the data of the operation of commit k, of which the first sector stands in this place.
