@@ -1,7 +1,6 @@
 -- A write of which a front was kept.
-use Rattle.std.proofs.Common.{◌≡◌, ℕ, ◌+◌, ◌≤◌, ◌⊎◌, inl, inr, List, [], length, take, ap, arith}
-use Rattle.std.proofs.lemmas.Grind.{common_steps}
-use Rattle.std.proofs.lemmas.List.{take_all, length-take-le, take-append-drop}
+use Rattle.std.proofs.Common.{◌≡◌, ℕ, ◌+◌, ◌≤◌, ◌⊎◌, inl, inr, List, length, take, ap, arith}
+use Rattle.std.proofs.lemmas.List.{take_all, length-take-le}
 use Rattle.recon_disk.proofs.Sending.{written-nil}
 use Rattle.verdict.specs.Image.{written}
 use Rattle.verdict.proofs.Images.{length-written, take-written, drop-written}

@@ -1,11 +1,10 @@
 -- What a run of bytes makes of a disk that may not tell its bytes, call by call.
-use Rattle.std.proofs.Common.{◌≡◌, ℕ, suc, ◌+◌, ◌-◌, ◌/◌, ◌<◌, ◌≤◌, inl, inr, min, List, [], ◌∷◌, ◌++◌, get_or, length, take, drop, Option, Some, None, IfSome, option_map, Result, Ok, Err, IsErr, OnOk, OnErr, refl, sym, ap, ◌∙◌, arith, subst, add-one, add-zero}
+use Rattle.std.proofs.Common.{◌≡◌, ℕ, suc, ◌+◌, ◌-◌, ◌/◌, ◌<◌, ◌≤◌, inl, inr, min, List, [], ◌∷◌, ◌++◌, get_or, length, take, drop, Option, Some, None, IfSome, option_map, Result, Ok, Err, IsErr, OnOk, refl, sym, ap, ◌∙◌, arith, subst, add-one, add-zero}
 use Rattle.std.specs.Option.{IsSomeAnd}
 use Rattle.std.proofs.Math.Nat.{add-div_right, div-eq_of_lt}
 use Rattle.std.proofs.lemmas.Bool.{cases_lt}
 use Rattle.std.proofs.lemmas.Grind.{common_steps}
 use Rattle.std.proofs.lemmas.List.{append-nil, append_assoc, drop-drop, take_all, ext_get_or, length-take, length-drop, length-take-le, get_or-take, get_or-drop, take-append-drop}
-use Rattle.verdict.proofs.Answers.{on_err}
 use Rattle.verdict.specs.Image.{written}
 use Rattle.verdict.proofs.Images.{length-written, get-written_in, get-written_before, get-written_behind}
 use Rattle.recon_disk.specs.declared.disk.Disk.{Ghosts}

@@ -6,10 +6,10 @@ use Rattle.std.proofs.lemmas.List.{reverse-append, length-drop, length-take-le, 
 use Rattle.verdict.specs.Image.{range, written}
 use Rattle.verdict.proofs.Images.{written_inside, range-written, length-written, take-written, drop-written}
 use Rattle.recon_disk.specs.declared.stop.Record.{Record}
-use Rattle.recon_disk.specs.declared.stop.Record.TheVariants.{Wrote, Missed, Flushed}
+use Rattle.recon_disk.specs.declared.stop.Record.TheVariants.{Wrote, Missed}
 use Rattle.recon_disk.specs.Outside.{IsPartlyWritten, MayBeWritten}
 use Rattle.recon_disk.specs.Stopping.{last_of, before_last, write_of, moments_from}
-use Rattle.recon_disk.specs.Stops.{OfPlace, flushed_as, with_write, unflushed}
+use Rattle.recon_disk.specs.Stops.{OfPlace, with_write, unflushed}
 use Rattle.recon_disk.proofs.Stopping.{place_is}
 
 -- the range of an image inside it
