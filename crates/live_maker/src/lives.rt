@@ -45,9 +45,7 @@ impl Lives {
         let mut behind = Vec::new(alloc);
         while let Some(pair) = self.pairs.pop() {
             let live = closed(pair, &mut behind);
-            if behind.push(live).is_err() {
-                return Err(NoMemory);
-            }
+            behind.push(live)?;
             table.insert(live, steps)?;
         }
         Ok(table)
@@ -68,9 +66,7 @@ impl Taker for Lives {
     fn take(&mut self, one: &Record<'_>) -> Result<(), NoMemory> {
         match one {
             Record::Block(block) => {
-                if self.pairs.push(opened(block)).is_err() {
-                    return Err(NoMemory);
-                }
+                self.pairs.push(opened(block))?;
             }
             Record::Pointer(_) => {}
             Record::Item(item) => {
