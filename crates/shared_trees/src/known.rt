@@ -139,10 +139,7 @@ impl<'a, 's, L> Keeps for KnownTree<'a, 's, L> {
             expect: *e,
             live: self.found,
         };
-        match self.met.push(one) {
-            Ok(()) => Ok(()),
-            Err(_) => Err(NoMemory),
-        }
+        Ok(self.met.push(one)?)
     }
 
     fn count(&self, e: &Expect) -> usize {
@@ -164,10 +161,7 @@ impl<'a, 's, L> Keeps for KnownTree<'a, 's, L> {
 
     #[tactic(auto, unfolding(tree_laws::specs::Ending::with_ended))]
     fn end(&mut self, e: &Expect, last: Key) -> Result<(), NoMemory> {
-        match self.ended.push(Ended { expect: *e, last }) {
-            Ok(()) => Ok(()),
-            Err(_) => Err(NoMemory),
-        }
+        Ok(self.ended.push(Ended { expect: *e, last })?)
     }
 }
 

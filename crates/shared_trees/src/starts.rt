@@ -98,10 +98,8 @@ impl Starts {
             },
         };
         listed.put(start)?;
-        match self.under.insert(place, listed) {
-            Ok(_) => Ok(()),
-            Err(_) => Err(NoMemory),
-        }
+        self.under.insert(place, listed)?;
+        Ok(())
     }
 
     /// The children that are walked below the block of a tree at a logical address.
@@ -126,10 +124,7 @@ impl Listed {
         if rank < self.starts.len() && !is_before(&start, &self.starts[rank]) {
             return Ok(());
         }
-        match self.starts.insert(rank, start) {
-            Ok(()) => Ok(()),
-            Err(_) => Err(NoMemory),
-        }
+        Ok(self.starts.insert(rank, start)?)
     }
 }
 

@@ -65,13 +65,9 @@ impl<'m> Stops<'m> {
 fn addresses_of(alloc: Global, met: &[Met]) -> Result<Vec<u64>, NoMemory>
     ensures { IfOk result (λ addresses. addresses.items ≡ addresses_of met.now) }
 {
-    let Ok(mut addresses) = Vec::with_capacity(alloc, met.len()) else {
-        return Err(NoMemory);
-    };
+    let mut addresses = Vec::with_capacity(alloc, met.len())?;
     for one in met {
-        if addresses.push(one.expect.address).is_err() {
-            return Err(NoMemory);
-        }
+        addresses.push(one.expect.address)?;
     }
     Ok(addresses)
 }
