@@ -146,14 +146,13 @@ impl SectorTally {
             sectors_in self.new free address field ≡ sectors_in self.old free address field
             + (if free tree ino then 0 else amount_of run address field)) }
     {
-        Ok(
-            self.shown.push(Shown {
-                tree,
-                ino,
-                first: run.first,
-                count: run.count,
-            })?,
-        )
+        let one = Shown {
+            tree,
+            ino,
+            first: run.first,
+            count: run.count,
+        };
+        Ok(self.shown.push(one)?)
     }
 
     // The address of the least broken sector. All records are taken: what files show is added to the sums.
