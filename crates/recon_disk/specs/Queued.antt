@@ -1,6 +1,5 @@
 -- What a disk lets wait: calls that answered Ok and have not gone out to the disk beneath it.
 use Rattle.std.specs.Prelude.{ℕ, ◌≡◌, ◌+◌, ◌-◌, ◌≤◌, List, [], ◌∷◌, ◌++◌, length, Option, Some, Result, OnErr, IfSome}
-use Rattle.verdict.specs.Image.{written}
 use Rattle.recon_disk.specs.Calls.{Sent, Wrote, Flushed}
 
 -- The bytes beneath, the calls that wait above them, the oldest first, and for how many more calls and bytes of writes there is room.
@@ -28,12 +27,6 @@ with_entries queue calls = record {
   entries = queue.entries - length calls;
   room = queue.room - bytes_of calls;
 }
-
--- bytes with the writes of these calls over them, in their order
-abbrev pub sent_over : List ℕ → List Sent → List ℕ
-sent_over image [] = image
-sent_over image (Wrote at bytes ∷ calls) = sent_over (written image at bytes) calls
-sent_over image (Flushed ∷ calls) = sent_over image calls
 
 -- Of a queue with room for these calls, a step that makes them answers Ok, and they wait behind the others; the bytes beneath stay.
 abbrev pub Queues : {T E : Type 0} → List Sent → Option Queue → Option Queue → Result T E → Type 0
