@@ -17,14 +17,14 @@ ghost use Rattle.tree_change.specs.Making.{AddsParts, FitSides, TellsParts, gone
 
 use crate::gather::Gathered;
 use crate::lives::{add_known, add_new};
-use crate::roots::{ids_of, named_at};
+use crate::roots::ids_of;
 use crate::sides::Sides;
 use crate::walks::{walk_new, walk_old};
 use block_source::Halt;
 use live_index::Live;
 use node_reader::Expect;
 use recon_disk::{Disk, Steps};
-use records::ItemAt;
+use records::{ItemAt, named_root};
 use shared_trees::Met;
 use std::alloc::{AllocError, Global};
 use touched_blocks::AddressTest;
@@ -245,7 +245,7 @@ pub(crate) fn change_named<D: Disk, L>(
 {
     let ids = ids_of(alloc, olds)?;
     for root in news {
-        let (before, now) = (ids.root_of(root.key.objectid), named_at(root));
+        let (before, now) = (ids.root_of(root.key.objectid), named_root(root));
         if !stays(sides, before, &now) {
             let made = change_tree(alloc, disk, sides, steps, room, before, &now)?;
             all.add(made)?;
@@ -276,7 +276,7 @@ pub(crate) fn change_all_gone<D: Disk, L>(
     let ids = ids_of(alloc, news)?;
     for root in olds {
         if !ids.has(root.key.objectid) {
-            let made = change_gone(alloc, disk, sides, steps, room, &named_at(root))?;
+            let made = change_gone(alloc, disk, sides, steps, room, &named_root(root))?;
             all.add(made)?;
         }
     }
