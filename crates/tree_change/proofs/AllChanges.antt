@@ -96,7 +96,7 @@ module _ {L : Type 0} (both : Compared L) (end : ℕ) (image : List ℕ) (fits :
 
   -- What they make, in order, is what changes; and no more blocks are counted than are not shared.
   pub change_is : (change : Change) → change.old_blocks.items ≡ made.old_blocks → change.new_blocks.items ≡ made.new_blocks
-      → IsSortedOf is_before made.moved change.moved.items
+      → IsSortedOf is_before made.shifted change.moved.items
       → IsSortedOf item_before made.old_items (map located_item change.old_items.items)
       → IsSortedOf item_before made.new_items (map located_item change.new_items.items)
       → change.map ≡ chunks → change.roots.items ≡ roots
@@ -111,7 +111,7 @@ module _ {L : Type 0} (both : Compared L) (end : ℕ) (image : List ℕ) (fits :
         record {
           old_blocks = subst (IsPermutation (unshared_in old new written (length image) old)) (sym old_blocks) all.4.old_blocks;
           new_blocks = subst (IsPermutation (unshared_in old new written (length image) new)) (sym new_blocks) all.4.new_blocks;
-          moved = all.4.moved change.moved.items moved;
+          moved = all.4.shifted change.moved.items moved;
           old_items = all.4.old_items (map located_item change.old_items.items) old_items;
           new_items = all.4.new_items (map located_item change.new_items.items) new_items;
           map = map_is ∙ sym all.3;

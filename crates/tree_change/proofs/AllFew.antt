@@ -69,10 +69,10 @@ use Rattle.tree_change.proofs.Chunks.{chunks_found}
 use Rattle.tree_change.proofs.Contents.{all_found}
 use Rattle.tree_change.proofs.EachTree.{one_tree}
 use Rattle.tree_change.proofs.Entries.{few_for_none, few_marks_for}
-use Rattle.tree_change.proofs.FewSums.{entries_permuted, entries_as, all_mapped, fewer_as, most, wide, both_cost, trees_total, all_total, entries_fewer, as_change, as_moved}
+use Rattle.tree_change.proofs.FewSums.{entries_permuted, entries_as, all_mapped, fewer_as, most, wide, both_cost, trees_total, all_total, entries_fewer, as_change, as_shifted}
 use Rattle.tree_change.proofs.Gone.{gone as gone_law}
 use Rattle.tree_change.proofs.Levels.{IsLow, roots_low, supers_low}
-use Rattle.tree_change.proofs.MovedSums.{moved_all_joins, moved_cost, moved_gone, moved_named, moved_tree}
+use Rattle.tree_change.proofs.ShiftedSums.{shifted_all_joins, shifted_cost, shifted_gone, shifted_named, moved_tree}
 use Rattle.tree_change.proofs.MarksKnown.{marks_all}
 use Rattle.tree_change.proofs.MovesFew.{among_others, fewer, have_those, looks_few, moves_marked, others, passes, split_marks, those, tree_moves_marked}
 use Rattle.tree_change.proofs.Named.{named as named_law}
@@ -624,32 +624,32 @@ module _ {L : Type 0} (both : Compared L) (image : List ℕ) (c : IsCompared bot
     by_old : both.is_same ≡ true → fr.known.pairs ≡ pairs
     by_old same = fr.by_kept ∙ ap pairs_of (both.same same)
 
-    parts_moved : length parts.moved ≤ 2 + moved_cost side parts
-    parts_moved =
+    parts_shifted : length parts.shifted ≤ 2 + shifted_cost side parts
+    parts_shifted =
         let p = chunk_made.0 in
         let stand : RootsStand pairs olds = subst (RootsStand pairs) c.based.roots_are (roots_stand both image chunks c) in
         let chunk =
         moved_tree image both.cache.now old trees pairs array_side fm.known (Some (chunk_tree_root old.sup)) (chunk_tree_root both.fresh.now) p chunk_tree
         new_low.1 old_low.1 chunk_made.1 in
-        moved_all_joins side p fr.parts named_made.0 gone_made.0
-        (subst (λ n. length p.moved ≤ 1 + (n + 7 * length p.new_blocks)) chunk_entries chunk)
+        shifted_all_joins side p fr.parts named_made.0 gone_made.0
+        (subst (λ n. length p.shifted ≤ 1 + (n + 7 * length p.new_blocks)) chunk_entries chunk)
         (moved_tree image both.cache.now old trees pairs side fr.known (Some (root_tree_root old.sup)) (root_tree_root both.fresh.now) fr.parts root_is
         new_low.0 old_low.0 root_made)
-        (moved_named image both.cache.now old olds trees pairs side fr.known both.is_same same_alike low_olds by_old stand fr.roots named_made.0
+        (shifted_named image both.cache.now old olds trees pairs side fr.known both.is_same same_alike low_olds by_old stand fr.roots named_made.0
         (named_trees one_tree image both.cache.now old new olds fr.roots trees afters array pairs fm.known fr.known chunk_made.0 fr.parts
         named_made.0 gone_made.0 all_is) (roots_low both.fresh.now chunks judged fr.roots roots_are) named_made.1)
-        (moved_gone image both.cache.now old olds trees pairs side fr.known both.is_same same_alike low_olds by_old stand fr.roots olds
+        (shifted_gone image both.cache.now old olds trees pairs side fr.known both.is_same same_alike low_olds by_old stand fr.roots olds
         gone_made.0 gone_made.1)
 
-    pub moved_few : length (shifted_in old new (written_in both.cache.now) (length image)) ≤ 2 + (entries_of side come + 8 * length come + length left)
-    moved_few =
+    pub shifted_few : length (shifted_in old new (written_in both.cache.now) (length image)) ≤ 2 + (entries_of side come + 8 * length come + length left)
+    shifted_few =
         let p : Live → Bool = λ live. not (same live) in
         let q : Live → Bool = λ live. not (shared live) in
         let shifts : Live → Bool = is_shifted (live_in old.seen) in
-        sums (length parts.moved) (length (unchanged_shifted old new (written_in both.cache.now) (length image)))
+        sums (length parts.shifted) (length (unchanged_shifted old new (written_in both.cache.now) (length image)))
         (length (shifted_in old new (written_in both.cache.now) (length image))) (entries_of side parts.new_blocks)
-        (length parts.new_blocks) (length parts.old_blocks) (entries_of side come) (length come) (length left) parts_moved
-        (length_permutation (unchanged_shifted old new (written_in both.cache.now) (length image)) parts.moved
+        (length parts.new_blocks) (length parts.old_blocks) (entries_of side come) (length come) (length left) parts_shifted
+        (length_permutation (unchanged_shifted old new (written_in both.cache.now) (length image)) parts.shifted
         (moved_all one_tree image both.cache.now old new olds fr.roots trees afters array pairs fm.known fr.known chunk_made.0 fr.parts
         named_made.0 gone_made.0 all_is))
         (fewer (λ live. shared live && shifts live) (λ live. same live && shifts live) (λ live is. both_if live is) (live_in new.seen))
@@ -728,8 +728,8 @@ few_change both image c before after f fresh change walks is =
               (entries_of was change.old_blocks.items) (entries_of side change.new_blocks.items)
               (few_all both image c before after f fresh.seen walks pieces are) old_long new_long
               (entries_permuted was left change.old_blocks.items is.old_blocks) new_entries,
-          as_moved (length shifted) (entries_of side come) (length come) (length left) (length change.moved.items)
+          as_shifted (length shifted) (entries_of side come) (length come) (length left) (length change.moved.items)
               (entries_of side change.new_blocks.items) (length change.new_blocks.items) (length change.old_blocks.items)
-              (moved_few both image c before after f fresh.seen walks) (length_permutation shifted change.moved.items is.moved.all)
+              (shifted_few both image c before after f fresh.seen walks) (length_permutation shifted change.moved.items is.moved.all)
               new_entries new_long old_long,
         )

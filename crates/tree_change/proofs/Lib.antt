@@ -80,7 +80,7 @@ pub mod OneRead
 pub mod TreeLooks
 pub mod TreeSums
 pub mod ArrayFew
-pub mod MovedSums
+pub mod ShiftedSums
 pub mod MovesFew
 pub mod FewSums
 pub mod AllFew

@@ -184,7 +184,7 @@ module _ (image : List ℕ) (pending : FinMap nat_cmp ℕ) (old : Walked) (trees
       record {
         old_blocks = old_blocks;
         new_blocks = new_blocks;
-        moved = sym (none_shared shared f (is_shifted (live_in o.olds)) (live_in n.news));
+        shifted = sym (none_shared shared f (is_shifted (live_in o.olds)) (live_in n.news));
         old_items = was.items ∙ ap (λ lives. items_in lives o.olds) (sym old_blocks);
         new_items = came.items ∙ ap (λ lives. items_in lives n.news) (sym new_blocks);
         count =

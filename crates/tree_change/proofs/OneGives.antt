@@ -111,7 +111,7 @@ module _ (image : List ℕ) (pending : FinMap nat_cmp ℕ) (old : Walked) (pairs
       record {
         old_blocks = old_are;
         new_blocks = new_are;
-        moved = moved_is pairs (kept_by known) (listed_by known) (lasts_by known) shared is.sup stored now news new come come_is
+        shifted = moved_is pairs (kept_by known) (listed_by known) (lasts_by known) shared is.sup stored now news new come come_is
             ∙ shifted_kept pairs (kept_by known) shared is.sup stored now (live_in both.olds) news new.is new.keeps both.shifts;
         old_items = both.old_pairs.items ∙ ap (λ lives. items_in lives both.olds) (sym old_are);
         new_items = here.items ∙ ap (λ lives. items_in lives news) (sym new_are);

@@ -39,7 +39,7 @@ use Rattle.tree_laws.proofs.MeetingStops.{meets, no_walk}
 use Rattle.tree_laws.proofs.OldBlocks.{unshared_are}
 use Rattle.tree_laws.proofs.Skipping.{skips}
 use Rattle.tree_change.specs.Gathered.{blocks_seen}
-use Rattle.tree_change.specs.Walks.{last_at, live_with, lives_of, moved_of, moved_pair, moved_to, pairs_at, with_last}
+use Rattle.tree_change.specs.Walks.{last_at, live_with, lives_of, shifted_of, moved_pair, moved_to, pairs_at, with_last}
 use Rattle.tree_change.proofs.OneKept.{IsGood, all_good}
 use Rattle.tree_change.proofs.OneWalked.{IsRead, IsStop, reads_walked, stops_walked, walked_good}
 
@@ -248,17 +248,17 @@ module _ (pairs : Pairs) (kept : Kept) (anew : Anew) (lasts : Lasts) (shared : L
       by true = refl
       by false = ap (λ (l : Live). l ∷ lives) s.is
 
-  moved_all : (es : List Expect) → AllByRecursion IsStopped es → moved_of pairs ended es ≡ shifted_by pairs sup stored es
+  moved_all : (es : List Expect) → AllByRecursion IsStopped es → shifted_of pairs ended es ≡ shifted_by pairs sup stored es
   moved_all [] all = refl
   moved_all (e ∷ es) all =
-      moved_one e all.0 (moved_of pairs ended es)
+      moved_one e all.0 (shifted_of pairs ended es)
       ∙ ap (λ lives. if is_other_than (pairs e.tree e.address) (live_at sup stored e) then live_at sup stored e ∷ lives else lives)
       (moved_all es all.1)
 
   pub moved_is : (records : List Seen) → unkept kept nothing sup stored now ≡ Ok records
-      → moved_of pairs ended (met_of kept anew sup stored now) ≡ shifted_by pairs sup stored (kept_in kept sup stored now)
+      → shifted_of pairs ended (met_of kept anew sup stored now) ≡ shifted_by pairs sup stored (kept_in kept sup stored now)
   moved_is records is =
-      ap (moved_of pairs ended) (met_is records is)
+      ap (shifted_of pairs ended) (met_is records is)
       ∙ (moved_all (stops_of kept anew sup stored now)
       (all_map (λ e. OneOf (Stop e) walked) IsStopped (stops_of kept anew sup stored now) stopped
       (stops_walked now.tree kept anew sup stored Good block low lists now.level now refl refl (all_good sup stored now news n.is)))

@@ -167,7 +167,7 @@ module _ (known : Known) (e : Expect) (live : Live) (low : e.low ≡ None) (high
       ∙ ap (λ (option : Option Live). fine_step (moved_parts (cons_option option []))) (moves_none parent))
     where
       moved_parts : List Live → Parts
-      moved_parts moved = record { old_blocks = []; new_blocks = []; moved = moved; old_items = []; new_items = []; count = 0 }
+      moved_parts moved = record { old_blocks = []; new_blocks = []; shifted = moved; old_items = []; new_items = []; count = 0 }
 
 -- Nothing changes in a tree that stays, where the table has its root.
 pub stays_none : (pairs : Pairs) (known : Known) (was is : Side) (before : Option Expect) (now : Expect) → Stays pairs known before now

@@ -33,13 +33,13 @@ use Rattle.tree_change.specs.Walks.{Known, Parts, Side, gone_parts, tree_parts}
 
 -- no parts, and parts before others
 abbrev pub no_parts : Parts
-no_parts = record { old_blocks = []; new_blocks = []; moved = []; old_items = []; new_items = []; count = 0 }
+no_parts = record { old_blocks = []; new_blocks = []; shifted = []; old_items = []; new_items = []; count = 0 }
 
 abbrev pub with_parts : Parts → Parts → Parts
 with_parts some more = record {
   old_blocks = some.old_blocks ++ more.old_blocks;
   new_blocks = some.new_blocks ++ more.new_blocks;
-  moved = some.moved ++ more.moved;
+  shifted = some.shifted ++ more.shifted;
   old_items = some.old_items ++ more.old_items;
   new_items = some.new_items ++ more.new_items;
   count = some.count + more.count;
@@ -130,7 +130,7 @@ GoneLaw = (image : List ℕ) (pending : FinMap nat_cmp ℕ) (old : Walked) (olds
 pub record AreAllParts (old new : Walked) (pending : FinMap nat_cmp ℕ) (end : ℕ) (parts : Parts) : Type 0 where
   pub old_blocks : IsPermutation (changed_in old new (written_in pending) end old) parts.old_blocks
   pub new_blocks : IsPermutation (changed_in old new (written_in pending) end new) parts.new_blocks
-  pub moved : (sorted : List Live) → IsSortedOf is_before parts.moved sorted → IsInOrder is_before (unchanged_shifted old new (written_in pending) end) sorted
+  pub shifted : (sorted : List Live) → IsSortedOf is_before parts.shifted sorted → IsInOrder is_before (unchanged_shifted old new (written_in pending) end) sorted
   pub old_items : (sorted : List Located) → IsSortedOf item_before parts.old_items sorted
       → IsInOrder item_before (items_in (changed_in old new (written_in pending) end old) old.seen) sorted
   pub new_items : (sorted : List Located) → IsSortedOf item_before parts.new_items sorted

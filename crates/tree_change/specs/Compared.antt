@@ -152,7 +152,7 @@ TellsRest disk old new some all both chunks (Ok roots) = IfSome (disk.bytes old)
 pub record IsFinished (parts : TreeParts) (chunks : List Chunk) (roots : List RootAt) (change : Change) : Type 0 where
   pub old_blocks : change.old_blocks.items ≡ parts.old_blocks.items
   pub new_blocks : change.new_blocks.items ≡ parts.new_blocks.items
-  pub moved : IsSortedOf is_before parts.moved.items change.moved.items
+  pub moved : IsSortedOf is_before parts.shifted.items change.moved.items
   pub old_items : IsSortedOf item_before (map located_item parts.old_items.items) (map located_item change.old_items.items)
   pub new_items : IsSortedOf item_before (map located_item parts.new_items.items) (map located_item change.new_items.items)
   pub map_is : change.map ≡ chunks

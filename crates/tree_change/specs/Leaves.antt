@@ -22,5 +22,5 @@ lives_by lasts blocks = map (λ (block : WalkedBlock). live_with block (lasts bl
 abbrev pub moved_by_one : Pairs → (ℕ → Key) → Expect → Option Live
 moved_by_one pairs lasts e = moved_pair (pairs e.tree e.address) e.parent (lasts e.address)
 
-abbrev pub moved_by : Pairs → (ℕ → Key) → List Expect → List Live
-moved_by pairs lasts met = filter_map (moved_by_one pairs lasts) met
+abbrev pub shifted_among : Pairs → (ℕ → Key) → List Expect → List Live
+shifted_among pairs lasts met = filter_map (moved_by_one pairs lasts) met

@@ -57,7 +57,7 @@ abbrev pub parts_by : TreeParts → ℕ → Parts
 parts_by made count = record {
   old_blocks = made.old_blocks.items;
   new_blocks = made.new_blocks.items;
-  moved = made.moved.items;
+  shifted = made.shifted.items;
   old_items = map located_item made.old_items.items;
   new_items = map located_item made.new_items.items;
   count = count;

@@ -91,7 +91,7 @@ unchanged image pending old is news live = is_unchanged old (alone is news) (wri
 pub record ChangesTree (image : List ℕ) (pending : FinMap nat_cmp ℕ) (old : Walked) (is : Side) (now : Expect) (olds news : List Seen) (parts : Parts) : Type 0 where
   pub old_blocks : parts.old_blocks ≡ filter (λ live. not (unchanged image pending old is news live)) (live_in olds)
   pub new_blocks : parts.new_blocks ≡ filter (λ live. not (unchanged image pending old is news live)) (live_in news)
-  pub moved : parts.moved ≡ filter (λ live. unchanged image pending old is news live && is_shifted (live_in olds) live) (live_in news)
+  pub shifted : parts.shifted ≡ filter (λ live. unchanged image pending old is news live && is_shifted (live_in olds) live) (live_in news)
   pub old_items : parts.old_items ≡ items_in parts.old_blocks olds
   pub new_items : parts.new_items ≡ items_in parts.new_blocks news
   pub count : parts.count ≡ length parts.old_blocks + 2 * length parts.new_blocks

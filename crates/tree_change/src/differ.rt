@@ -166,7 +166,7 @@ fn compare<D: Disk, L>(
 fn finish(alloc: Global, parts: TreeParts, map: ChunkMap, roots: Vec<RootAt>) -> Result<Change, NoMemory>
     ensures { IfOk result (λ change. IsFinished parts map roots.items change) }
 {
-    let mut moved = parts.moved;
+    let mut moved = parts.shifted;
     sort_lives(alloc, &mut moved)?;
     let mut old_items = parts.old_items;
     sort_items(alloc, &mut old_items)?;

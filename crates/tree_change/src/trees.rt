@@ -38,7 +38,7 @@ pub(crate) struct TreeParts {
     /// The new pairs that changed.
     pub(crate) new_blocks: Vec<Live>,
     /// The other pairs whose node above or greatest key is another.
-    pub(crate) moved: Vec<Live>,
+    pub(crate) shifted: Vec<Live>,
     /// The items of the old pairs.
     pub(crate) old_items: Vec<ItemAt>,
     /// The items of the new pairs.
@@ -53,7 +53,7 @@ impl TreeParts {
         TreeParts {
             old_blocks: Vec::new(alloc),
             new_blocks: Vec::new(alloc),
-            moved: Vec::new(alloc),
+            shifted: Vec::new(alloc),
             old_items: Vec::new(alloc),
             new_items: Vec::new(alloc),
         }
@@ -67,7 +67,7 @@ impl TreeParts {
     {
         put_behind(&mut self.old_blocks, more.old_blocks)?;
         put_behind(&mut self.new_blocks, more.new_blocks)?;
-        put_behind(&mut self.moved, more.moved)?;
+        put_behind(&mut self.shifted, more.shifted)?;
         put_behind(&mut self.old_items, more.old_items)?;
         put_behind(&mut self.new_items, more.new_items)?;
         Ok(())
@@ -150,7 +150,7 @@ pub(crate) fn change_tree<D: Disk, L>(
     let mut old_blocks = Vec::new(alloc);
     add_known(sides.table, steps, &old.blocks, &mut old_blocks)?;
     let mut new_blocks = Vec::new(alloc);
-    let mut moved = Vec::new(alloc);
+    let mut shifted = Vec::new(alloc);
     add_new(
         alloc,
         sides.table,
@@ -160,12 +160,12 @@ pub(crate) fn change_tree<D: Disk, L>(
         &new.met,
         &new.ended,
         &mut new_blocks,
-        &mut moved,
+        &mut shifted,
     )?;
     Ok(TreeParts {
         old_blocks,
         new_blocks,
-        moved,
+        shifted,
         old_items: old.items,
         new_items: new.read.items,
     })
@@ -202,7 +202,7 @@ fn change_gone<D: Disk, L>(
     Ok(TreeParts {
         old_blocks,
         new_blocks: Vec::new(alloc),
-        moved: Vec::new(alloc),
+        shifted: Vec::new(alloc),
         old_items: old.items,
         new_items: Vec::new(alloc),
     })

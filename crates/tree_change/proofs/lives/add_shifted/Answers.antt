@@ -5,16 +5,16 @@ use Rattle.live_index.specs.Table.{pairs_of}
 use Rattle.tree_laws.specs.declared.told.Met.{Met}
 use Rattle.tree_change.specs.Leaves.{last_in, moved_by_one}
 use Rattle.tree_change.proofs.Leaving.{moved_met, some_more}
-use Rattle.tree_change.proofs.lives.add_moved.Goals as goal
+use Rattle.tree_change.proofs.lives.add_shifted.Goals as goal
 
 -- src/lives.rt:115:5
 pub loop-one-preserved : goal.loop-one-preserved
 loop-one-preserved g c = record {
   puts = some_more (λ (one : Met). moved_by_one (pairs_of c.args.table.now) (last_in c.args.lasts.now) one.expect)
       c.args.into.now.items c.loop-one.into.items c.push_some.new.into.items _ c.args.met.now c.loop-one.one-index _ c.loop-one-test.true
-      c.loop-one.invariant.puts c.moved_of.ensures.pair c.in_ok-push_some.ensures;
-  looks = omega (arith, c.loop-one.invariant.looks, c.moved_of.ensures.looks);
-  none = λ asked. c.moved_of.ensures.none asked ∙ c.loop-one.invariant.none asked;
+      c.loop-one.invariant.puts c.shifted_of.ensures.pair c.in_ok-push_some.ensures;
+  looks = omega (arith, c.loop-one.invariant.looks, c.shifted_of.ensures.looks);
+  none = λ asked. c.shifted_of.ensures.none asked ∙ c.loop-one.invariant.none asked;
 }
 
 pub returns-clause-puts : goal.returns-clause-puts

@@ -3,7 +3,7 @@ use Rattle.std.specs.List.{filter_map}
 use Rattle.live_index.specs.Table.{pairs_of}
 use Rattle.tree_laws.specs.declared.told.Met.{Met}
 use Rattle.tree_change.specs.Leaves.{last_in, moved_by_one}
-use Rattle.tree_change.proofs.lives.add_moved.Given as goal
+use Rattle.tree_change.proofs.lives.add_shifted.Given as goal
 
 -- those of the blocks so far are added, at one look at most for each, and at none where the walk asked the same table
 abbrev pub invariant-loop-one : goal.invariant-loop-one
