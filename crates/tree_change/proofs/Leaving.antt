@@ -11,7 +11,7 @@ use Rattle.records.specs.declared.rec.WalkedBlock.{WalkedBlock}
 use Rattle.tree_laws.specs.declared.told.Ended.{Ended}
 use Rattle.tree_laws.specs.declared.told.Met.{Met}
 use Rattle.tree_laws.specs.Known.{blocks_met}
-use Rattle.tree_change.specs.Leaves.{lives_by, shifted_among, moved_by_one}
+use Rattle.tree_change.specs.Leaves.{lives_by, shifted_among, shifted_by_one}
 use Rattle.tree_change.specs.Walks.{last_at, live_with, lives_of, shifted_of}
 
 -- the greatest keys are as they were told: so are the live pairs by them
@@ -41,7 +41,7 @@ some_more f old now new some xs i d inside so is more =
     ∙ ap (λ l. old ++ l) (sym (ap (filter_map f) (take_more xs i d inside) ∙ filter_map-append f (take i xs) (get_or xs i d ∷ [])))
 
 -- the pairs of blocks that were met, by what is held of them
-pub moved_met : (pairs : Pairs) (lasts : ℕ → Key) (met : List Met)
-    → filter_map (λ (one : Met). moved_by_one pairs lasts one.expect) met ≡ shifted_among pairs lasts (blocks_met met)
-moved_met pairs lasts [] = refl
-moved_met pairs lasts (one ∷ met) = ap (cons_option (moved_by_one pairs lasts one.expect)) (moved_met pairs lasts met)
+pub shifted_met : (pairs : Pairs) (lasts : ℕ → Key) (met : List Met)
+    → filter_map (λ (one : Met). shifted_by_one pairs lasts one.expect) met ≡ shifted_among pairs lasts (blocks_met met)
+shifted_met pairs lasts [] = refl
+shifted_met pairs lasts (one ∷ met) = ap (cons_option (shifted_by_one pairs lasts one.expect)) (shifted_met pairs lasts met)

@@ -23,7 +23,7 @@ use Rattle.tree_change.specs.Looks.{is_expected, met_by, new_visits, stays_by}
 use Rattle.tree_change.specs.LooksLaw.{entries_of}
 use Rattle.tree_change.specs.OneTree.{IsTree, side_of}
 use Rattle.tree_change.specs.Stays.{RootsStand, Stays}
-use Rattle.tree_change.specs.Walks.{Known, NewWalk, Parts, Side, gone_parts, last_at, shifted_of, moved_pair, new_walk, no_walk, old_or_none, old_walk, parts_of, tree_parts}
+use Rattle.tree_change.specs.Walks.{Known, NewWalk, Parts, Side, gone_parts, last_at, shifted_of, shifted_pair, new_walk, no_walk, old_or_none, old_walk, parts_of, tree_parts}
 use Rattle.tree_change.proofs.Levels.{IsLow}
 use Rattle.tree_change.proofs.Looking.{expect_of_same}
 use Rattle.tree_change.proofs.Staying.{named_stands, stays_none}
@@ -55,7 +55,7 @@ moved_tree image pending old trees pairs is known before now parts t low low_old
     (sym (ap (λ (p : Parts). length p.shifted) same)) most (sym (ap (λ (w : NewWalk). length w.met) n.2)) few.met_few few.new_few
   where
     moved_one : Pairs → NewWalk → Expect → Option Live
-    moved_one pairs new e = moved_pair (pairs e.tree e.address) e.parent (last_at new.ended e.address)
+    moved_one pairs new e = shifted_pair (pairs e.tree e.address) e.parent (last_at new.ended e.address)
 
     sums : (m f l k v e n : ℕ) → m ≡ f → f ≤ l → l ≡ k → k ≤ v → v ≤ 1 + e + 7 * n → m ≤ 1 + (e + 7 * n)
     sums m f l k v e n x y z w u = omega (arith, x, y, z, w, u)
