@@ -66,7 +66,7 @@ module _ {L : Type 0} (both : Compared L) (end : ℕ) (fits : FitsCompared both 
       let r = rested is (array, m.2.chunks_are) in
       let all_is =
       change_is both end image fits is array chunks roots m.0 m.1 r.0 (parts_by made (m.1.count + r.0.count)) places before after array_is m.2 r.1
-      (risen_is m.1 r.0 m.3 r.2) change done.old_blocks done.new_blocks done.shifted done.old_items done.new_items done.map_is done.roots_are in
+      (risen_is m.1 r.0 m.3 r.2) change done.old_blocks done.new_blocks done.moved done.old_items done.new_items done.map_is done.roots_are in
       let few = m.3.reads in
       let then_few = r.2.reads in
       let count = all_is.4 in
