@@ -1,5 +1,5 @@
 -- A commit that is tried: what its moves make of sums and spans, the finding then, and that it is the verdict.
-use Rattle.std.specs.Prelude.{◌≡◌, ℕ, ◌+◌, ◌||◌, Bool, not, List, ◌++◌, length, map, Option, Some, None, option_map}
+use Rattle.std.specs.Prelude.{◌≡◌, ℕ, ◌+◌, ◌||◌, Bool, not, List, ◌++◌, length, Option, Some, None, option_map}
 use Rattle.std.specs.List.{count_by}
 use Rattle.std.specs.Ordering.{nat_cmp}
 use Rattle.std.specs.FinMap.{FinMap}
@@ -20,9 +20,6 @@ use Rattle.span_index.specs.declared.span.Span.{Span}
 use Rattle.touched_accounts.specs.Least.{IsLeastTouched}
 use Rattle.touched_accounts.specs.Sums.{less_all, with_all}
 use Rattle.touched_blocks.specs.Touched.{stays_in_place, touches_block, written_in}
-use Rattle.tree_change.specs.Gathered.{located_item}
-use Rattle.tree_change.specs.Merging.{IsSortedOf, named_before, roots_left}
-use Rattle.volume_items.specs.declared.root_at.RootAt.{RootAt}
 use Rattle.write_cache.specs.Cache.{overlaid}
 use Rattle.commit_laws.specs.Commit.{Commit, IsCommit, IsKnown, IsMoved, Known}
 use Rattle.account_tally.specs.Kept.{chosen}
@@ -31,12 +28,12 @@ use Rattle.commit_judge.specs.Moves.{AreMovesOf, context_after}
 use Rattle.commit_judge.specs.Tables.{with_spans, without_spans}
 use Rattle.commit_judge.specs.declared.moves.Moves.{Moves}
 
--- what is known, moved by a commit, with these root items, sums and spans
-abbrev pub next_of : Known → Commit → List RootAt → Sums → Table → Known
-next_of k c roots sums spans = record {
+-- what is known, moved by a commit, with these sums and spans
+abbrev pub next_of : Known → Commit → Sums → Table → Known
+next_of k c sums spans = record {
   sup = c.fresh;
   chunks = c.change.map;
-  roots = roots;
+  roots = c.change.roots.items;
   free = flags_after c.change.old_items.items c.change.new_items.items c.changes k.free;
   full = k.full;
   pairs = with_pairs (with_pairs (without_pairs k.pairs c.change.old_blocks.items) c.change.new_blocks.items) c.change.moved.items;
@@ -62,20 +59,19 @@ pub record IsTried (k : Known) (c : Commit) (moves : Moves) (sums : Sums) (table
   pub found : IsLeastOf sums table (context_after k c) moves finding
 
 -- with a finding it is the full check's, and the moves can be undone; without one the full check accepts, and what is known is moved
-abbrev pub TriedSays : List ℕ → Known → Commit → List RootAt → Moves → Sums → Table → Option Finding → Type 0
-TriedSays judged k c roots moves sums table (Some finding) =
+abbrev pub TriedSays : List ℕ → Known → Commit → Moves → Sums → Table → Option Finding → Type 0
+TriedSays judged k c moves sums table (Some finding) =
     (full_check judged ≡ Found finding) × (with_all (less_all sums moves.came) moves.gone ≡ k.sums)
     × (with_spans (without_spans table moves.came_spans.items) moves.gone_spans.items ≡ k.spans)
-TriedSays judged k c roots moves sums table None =
-    (full_check judged ≡ Accept c.fresh.generation) × IsKnown judged (next_of k c roots sums table) × KeysAscend roots
-    × IsMoved k c (next_of k c roots sums table)
+TriedSays judged k c moves sums table None =
+    (full_check judged ≡ Accept c.fresh.generation) × IsKnown judged (next_of k c sums table) × KeysAscend c.change.roots.items
+    × IsMoved k c (next_of k c sums table)
 
 -- a commit that is tried is decided
 abbrev pub TriedLaw : Type 0
-TriedLaw = (image : List ℕ) (pending : FinMap nat_cmp ℕ) (k : Known) (c : Commit) (roots : List RootAt) (moves : Moves) (sums : Sums) (table : Table)
+TriedLaw = (image : List ℕ) (pending : FinMap nat_cmp ℕ) (k : Known) (c : Commit) (moves : Moves) (sums : Sums) (table : Table)
     (finding : Option Finding) → IsKnown image k → IsCommit image pending k c
-    → IsSortedOf named_before (roots_left k.roots (map located_item c.change.old_items.items) (map located_item c.change.new_items.items)) roots
-    → IsTried k c moves sums table finding → TriedSays (overlaid pending 0 image) k c roots moves sums table finding
+    → IsTried k c moves sums table finding → TriedSays (overlaid pending 0 image) k c moves sums table finding
 
 -- whether a stop may harm the block of a live pair: a pending write touches a byte of a copy, or the new chunks have it elsewhere
 abbrev pub is_hot_by : Known → Commit → FinMap nat_cmp ℕ → ℕ → Live → Bool

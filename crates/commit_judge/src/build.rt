@@ -1,24 +1,21 @@
 //! The start of an index.
 
-ghost use Rattle.std.specs.Prelude.{◌≡◌, ◌≤◌, map, IfOk, IfSome, OnOk};
+ghost use Rattle.std.specs.Prelude.{◌≡◌, ◌≤◌, IfOk, IfSome, OnOk};
 ghost use Rattle.recon_disk.specs.Keeping.{Kept};
 ghost use Rattle.block_source.specs.Gives.{is_disk_fault, is_disk_halt};
-ghost use Rattle.chunk_map.specs.Roots.{KeysAscend};
-ghost use Rattle.tree_change.specs.Merging.{root_at};
 ghost use Rattle.commit_judge.specs.Filling.{IsIndexed, LooksToIndex};
 ghost use Rattle.commit_judge.specs.Start.{HasRoom, IsBuilt, LooksToBuild};
 
 use crate::filling::tables_of;
 use crate::finding::finding_of;
 use crate::index::Index;
-use crate::roots::{ascending, roots_of};
+use crate::roots::ascending;
 use block_source::{Fault, Halt, told};
 use plain_check::Volume;
 use recon_disk::{Disk, Steps};
 use std::alloc::Global;
 use std::collections::BTreeSet;
-use verdict::{Finding, NoMemory};
-use volume_items::{RootAt, RootItem};
+use verdict::Finding;
 use write_cache::WriteCache;
 
 /// What the start of an index gives.
@@ -93,7 +90,7 @@ fn index_of<D: Disk, L>(
     if let Some(found) = finding_of(alloc, &tables, &volume.map, volume.sup.nodesize, steps)? {
         return Err(Halt::Found(found));
     }
-    let roots = named_roots(alloc, &volume.roots)?;
+    let roots = ascending(alloc, &volume.roots)?;
     Ok(Index {
         raw: volume.raw,
         sup: volume.sup,
@@ -105,14 +102,4 @@ fn index_of<D: Disk, L>(
         totals: tables.totals,
         spans: tables.spans,
     })
-}
-
-// Where trees begin by the root items of an accepted image, whose keys ascend.
-fn named_roots(alloc: Global, items: &[RootItem]) -> Result<Vec<RootAt>, NoMemory>
-    ensures ascend { IfOk result (λ list. KeysAscend list.items) }
-    ensures same { KeysAscend (map root_at items.now) → IfOk result
-        (λ list. list.items ≡ map root_at items.now) }
-{
-    let roots = roots_of(alloc, items)?;
-    ascending(alloc, &roots)
 }

@@ -1,6 +1,6 @@
 //! The judge of a commit.
 
-ghost use Rattle.std.specs.Prelude.{ℕ, ◌≡◌, ◌+◌, ◌≤◌, List, length, map, IfOk, IfSome, OnOk};
+ghost use Rattle.std.specs.Prelude.{ℕ, ◌≡◌, ◌+◌, ◌≤◌, List, length, IfOk, IfSome, OnOk};
 ghost use Rattle.std.specs.List.{count_by};
 ghost use Rattle.recon_disk.specs.Keeping.{Kept};
 ghost use Rattle.block_source.specs.Gives.{is_disk_fault, is_disk_halt};
@@ -8,8 +8,6 @@ ghost use Rattle.chunk_map.specs.Roots.{KeysAscend};
 ghost use Rattle.ledger_index.specs.Ledger.{sums_of};
 ghost use Rattle.span_index.specs.Sectors.{AreRunsFrom};
 ghost use Rattle.span_index.specs.Table.{times_of};
-ghost use Rattle.tree_change.specs.Gathered.{located_item};
-ghost use Rattle.tree_change.specs.Merging.{IsSortedOf, named_before, roots_left};
 ghost use Rattle.write_cache.specs.Cache.{overlaid};
 ghost use Rattle.commit_judge.specs.Index.{IndexStands, known};
 ghost use Rattle.commit_judge.specs.Judged.{HasRoom, IsJudgement, IsPlaceAfter, MovesPlace};
@@ -34,9 +32,8 @@ use live_maker::{put_pairs, take_pairs};
 use recon_disk::{Disk, Steps};
 use std::alloc::Global;
 use touched_accounts::judge_touched;
-use tree_change::{Change, merge_roots};
+use tree_change::Change;
 use verdict::{Family, Finding, NoMemory, SUPERBLOCK_AT, SUPERBLOCK_SIZE};
-use volume_items::RootAt;
 use write_cache::WriteCache;
 
 /// The judgement of a commit.
@@ -156,7 +153,7 @@ fn plan_within<D: Disk, L>(
     if end < SUPERBLOCK_AT + SUPERBLOCK_SIZE {
         return Err(Halt::Found(Finding::of_image(Family::S, 1, end)));
     }
-    plan_of(alloc, disk, cache, index, steps)
+    plan_of(alloc, disk, cache, end, index, steps)
 }
 
 // The judgement of what a plan changes, on a device of `end` bytes. Out of memory, the index is spent.
@@ -182,7 +179,6 @@ fn judge_plan<L>(
         (FewWherePassed (known index.old) (commit_in plan) steps.old steps.new) }
 {
     let made = made_by(alloc, &plan)?;
-    let roots = roots_after(alloc, index, &plan)?;
     let moves = moves_of(alloc, index, &plan, &made, steps)?;
     apply(&mut index.totals, &mut index.spans, &moves, steps)?;
     tried_law();
@@ -194,7 +190,7 @@ fn judge_plan<L>(
     let hot = hot_in(cache, index, &plan, end);
     let blocks = blocks_in(&plan.change);
     let generation = plan.sup.generation;
-    pass(alloc, index, plan, &made, &roots, steps)?;
+    pass(alloc, index, plan, &made, steps)?;
     Ok(Judged::Passed {
         generation,
         blocks,
@@ -210,22 +206,6 @@ fn made_by(alloc: Global, plan: &Plan) -> Result<Made, NoMemory>
     Made::of(
         alloc,
         plan.changes.as_slice(),
-        change.old_items.as_slice(),
-        change.new_items.as_slice(),
-    )
-}
-
-// The root items of the judged image.
-fn roots_after<L>(alloc: Global, index: &Index<L>, plan: &Plan) -> Result<Vec<RootAt>, NoMemory>
-    ensures { IfOk result (λ roots. IsSortedOf named_before
-        (roots_left index.now.roots.items
-        (map located_item plan.now.change.old_items.items)
-        (map located_item plan.now.change.new_items.items)) roots.items) }
-{
-    let change = &plan.change;
-    merge_roots(
-        alloc,
-        index.roots.as_slice(),
         change.old_items.as_slice(),
         change.new_items.as_slice(),
     )
@@ -281,12 +261,11 @@ fn pass<L>(
     index: &mut Index<L>,
     plan: Plan,
     made: &Made,
-    roots: &[RootAt],
     steps: &mut Steps<L>,
 ) -> Result<(), NoMemory>
     requires { IsMadeOf plan made.now }
-    ensures known { KeysAscend roots.now → OnOk result (known index.new ≡
-        next_of (known index.old) (commit_in plan) roots.now
+    ensures known { KeysAscend plan.change.roots.items → OnOk result (known index.new ≡
+        next_of (known index.old) (commit_in plan)
         (sums_of index.old.totals) (times_of index.old.spans)) }
     ensures raw { OnOk result (index.new.raw ≡ plan.raw) }
     ensures totals { OnOk result (index.new.totals ≡ index.old.totals) }
@@ -302,7 +281,7 @@ fn pass<L>(
     put_pairs(&mut index.live, change.new_blocks.as_slice(), steps)?;
     put_pairs(&mut index.live, change.moved.as_slice(), steps)?;
     made.turn(&mut index.sum_free)?;
-    index.roots = ascending(alloc, roots)?;
+    index.roots = ascending(alloc, &change.roots)?;
     index.raw = raw;
     index.sup = sup;
     index.map = change.map;

@@ -38,15 +38,17 @@ pub(crate) struct Plan {
     pub(crate) refs: Vec<ItemRef>,
 }
 
-/// What the pending writes change of the image that an index stands for, or the first finding of what the judged image holds. Of the
-/// blocks that the two images do not share, there is at most one read of the disk for each old one, and two for each new one.
+/// What the pending writes change of the image that an index stands for, on a device of `end` bytes, or the first finding of what the
+/// judged image holds. Of the blocks that the two images do not share, there is at most one read of the disk for each old one, and two for each new one.
 pub(crate) fn plan_of<D: Disk, L>(
     alloc: Global,
     disk: &mut D,
     cache: &WriteCache,
+    end: u64,
     index: &Index<L>,
     steps: &mut Steps<L>,
 ) -> Result<Plan, Halt>
+    requires { end ≡ D.len disk.old }
     ensures told { IfSome (D.bytes disk.old) (λ image. IndexStands image index.now →
         IsPlanned image cache.now (known index.now) (D.reads disk.old) (D.reads disk.new) result) }
     ensures place { IfOk result (λ plan. IsPlaceAfter (index.now).raw cache.now plan.raw) }
@@ -55,7 +57,7 @@ pub(crate) fn plan_of<D: Disk, L>(
     ensures kept { Kept D.Disk disk.old disk.new (is_disk_halt result) }
 {
     let fresh = fresh_of(&index.raw, cache)?;
-    match difference(alloc, disk, cache, index, &fresh.sup, steps)? {
+    match difference(alloc, disk, cache, end, index, &fresh.sup, steps)? {
         Diff::Change(change) => Ok(plan_by(alloc, index, &fresh, change, steps)?),
         Diff::Found(finding) => Err(Halt::Found(finding)),
     }

@@ -1,38 +1,14 @@
 //! Where trees begin, in the order of the keys of their root items.
 
-ghost use Rattle.std.specs.Prelude.{◌≡◌, ◌∷◌, ◌++◌, [], ◌↔◌, map, true, IfOk, IsTrue, OnOk};
+ghost use Rattle.std.specs.Prelude.{◌≡◌, ◌∷◌, ◌++◌, [], ◌↔◌, true, IfOk, IsTrue, OnOk};
 ghost use Rattle.std.specs.List.{AllByRecursion};
 ghost use Rattle.verdict.specs.OnDisk.{key_below};
 ghost use Rattle.volume_items.specs.declared.root_at.RootAt.{RootAt as ARoot};
 ghost use Rattle.chunk_map.specs.Roots.{KeysAscend};
-ghost use Rattle.tree_change.specs.Merging.{root_at};
 
 use std::alloc::Global;
 use verdict::NoMemory;
-use volume_items::{RootAt, RootItem};
-
-/// Where trees begin by some root items.
-pub(crate) fn roots_of(alloc: Global, items: &[RootItem]) -> Result<Vec<RootAt>, NoMemory>
-    ensures { IfOk result (λ roots. roots.items ≡ map root_at items.now) }
-{
-    let mut roots = Vec::new(alloc);
-    for item in items {
-        put(&mut roots, root_at(item))?;
-    }
-    Ok(roots)
-}
-
-// Where the tree of a root item begins.
-fn root_at(item: &RootItem) -> RootAt
-    ensures { result ≡ root_at item.now }
-{
-    RootAt {
-        key: item.key,
-        address: item.bytenr,
-        generation: item.generation,
-        level: item.level,
-    }
-}
+use volume_items::RootAt;
 
 /// The same list, where its keys ascend. Of another list, which no accepted image has, those that have no greater key than one before
 /// them are left out.

@@ -2,6 +2,5 @@
 pub mod Flag
 pub mod Flags
 pub mod Hot
-pub mod Roots
 pub mod Table
 pub mod Whole

@@ -1,5 +1,5 @@
 -- The judgement of the next image, by what is known of an accepted one and by what changes.
-use Rattle.std.specs.Prelude.{◌≡◌, ℕ, ◌+◌, ◌-◌, ◌<◌, Bool, true, false, List, [], ◌∷◌, ◌++◌, map, Option, Some, None, Ok}
+use Rattle.std.specs.Prelude.{◌≡◌, ℕ, ◌+◌, ◌-◌, ◌<◌, Bool, true, false, List, [], ◌∷◌, ◌++◌, Option, Some, None, Ok}
 use Rattle.std.specs.List.{Contains}
 use Rattle.std.specs.Ordering.{nat_cmp}
 use Rattle.std.specs.FinMap.{FinMap}
@@ -31,8 +31,6 @@ use Rattle.super_reader.specs.declared.Super.{Super}
 use Rattle.touched_accounts.specs.Least.{IsLeastTouched}
 use Rattle.touched_blocks.specs.Touched.{written_in}
 use Rattle.tree_change.specs.Change.{BasesStand, IsDifference}
-use Rattle.tree_change.specs.Gathered.{located_item}
-use Rattle.tree_change.specs.Merging.{IsSortedOf, named_before, roots_left}
 use Rattle.tree_change.specs.declared.change.Change.{Change}
 use Rattle.tree_change.specs.declared.change.Diff.TheVariants.{Change as Changed}
 use Rattle.volume_items.specs.declared.root_at.RootAt.{RootAt}
@@ -97,8 +95,7 @@ pub record IsCommit (image : List ℕ) (pending : FinMap nat_cmp ℕ) (k : Known
 pub record IsMoved (k : Known) (c : Commit) (next : Known) : Type 0 where
   pub sup : next.sup ≡ c.fresh
   pub chunks : next.chunks ≡ c.change.map
-  pub roots : IsSortedOf named_before
-      (roots_left k.roots (map located_item c.change.old_items.items) (map located_item c.change.new_items.items)) next.roots
+  pub roots : next.roots ≡ c.change.roots.items
   pub free : (tree ino : ℕ) → next.free tree ino ≡ flags_after c.change.old_items.items c.change.new_items.items c.changes k.free tree ino
   pub full : (address : ℕ) → next.full address ≡ k.full address
   pub pairs : (tree address : ℕ) → next.pairs tree address

@@ -1,21 +1,17 @@
--- What changes besides the accounts: which inodes' data has no checksums, where trees begin, and how many blocks a stop may harm.
-use Rattle.std.specs.Prelude.{◌≡◌, ℕ, Bool, not, ◌||◌, List, length, map, Ok}
+-- What changes besides the accounts: which inodes' data has no checksums, and how many blocks a stop may harm.
+use Rattle.std.specs.Prelude.{◌≡◌, ℕ, Bool, not, ◌||◌, List, length, Ok}
 use Rattle.std.specs.List.{count_by}
 use Rattle.std.specs.Ordering.{nat_cmp}
 use Rattle.std.specs.FinMap.{FinMap}
 use Rattle.change_records.specs.SumFree.{flags_after}
 use Rattle.change_records.specs.declared.changes.ItemChange.{ItemChange}
 use Rattle.live_index.specs.declared.live.Live.{Live}
-use Rattle.records.specs.Contents.{root_items_in}
 use Rattle.records.specs.Context.{has_sum_free}
 use Rattle.tree_laws.specs.LivePairs.{Walked, live_in, walked}
 use Rattle.tree_laws.specs.Shared.{are_read_alike}
 use Rattle.touched_blocks.specs.Touched.{Written, stays_in_place, touches_block, written_in}
 use Rattle.tree_change.specs.Change.{IsChange}
-use Rattle.tree_change.specs.Gathered.{located_item}
-use Rattle.tree_change.specs.Merging.{IsSortedOf, named_before, roots_left}
 use Rattle.tree_change.specs.declared.change.Change.{Change}
-use Rattle.volume_items.specs.declared.root_at.RootAt.{RootAt}
 use Rattle.write_cache.specs.Cache.{overlaid}
 use Rattle.commit_laws.specs.Items.{ItemsStand, items_of}
 use Rattle.commit_laws.specs.Paired.{SayChanges}
@@ -30,16 +26,6 @@ FlagsLaw = (image : List ℕ) (pending : FinMap nat_cmp ℕ) (old new : Walked) 
     → SayChanges (are_read_alike old.sup new.sup) change.old_items.items change.new_items.items changes
     → has_sum_free (records_of new) tree ino
     ≡ flags_after change.old_items.items change.new_items.items changes (has_sum_free (records_of old)) tree ino
-
--- the root items of the next image are those of the first, without what is gone, and what came, in the order of their keys
-abbrev pub RootsLaw : Type 0
-RootsLaw = (image : List ℕ) (pending : FinMap nat_cmp ℕ) (old new : Walked) (change : Change) (olds news : List RootAt) (merged : List RootAt)
-    → walked image ≡ Ok old → walked (overlaid pending 0 image) ≡ Ok new
-    → ItemsStand old.sup.nodesize (items_of old) → ItemsStand new.sup.nodesize (items_of new)
-    → IsChange old new (written_in pending) (length image) change
-    → root_items_in old.sup old.chunks image ≡ Ok olds → root_items_in new.sup new.chunks (overlaid pending 0 image) ≡ Ok news
-    → IsSortedOf named_before (roots_left olds (map located_item change.old_items.items) (map located_item change.new_items.items)) merged
-    → merged ≡ news
 
 -- whether a write touches a byte of a copy of a live pair's block, or the next image has no place or another for it
 unfoldable pub is_hot : Walked → Walked → Written → ℕ → Live → Bool

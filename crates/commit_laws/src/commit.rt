@@ -2,7 +2,7 @@
 
 ghost use Rattle.commit_laws.specs.Commit.{CommitLaw};
 
-use crate::flags::{flags_law, roots_law, table_moved_law};
+use crate::flags::{flags_law, table_moved_law};
 use crate::items::{blocks_law, items_law};
 use crate::paired::{all_changes_law, found_law};
 use crate::same::held_law;
@@ -26,6 +26,5 @@ pub fn commit_law()
     runs_law();
     judged_law();
     flags_law();
-    roots_law();
     table_moved_law();
 }

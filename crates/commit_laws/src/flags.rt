@@ -1,16 +1,11 @@
 //! Laws of what changes besides the accounts.
 
-ghost use Rattle.commit_laws.specs.Flags.{FlagsLaw, HotLaw, RootsLaw};
+ghost use Rattle.commit_laws.specs.Flags.{FlagsLaw, HotLaw};
 ghost use Rattle.commit_laws.specs.Tables.{TableMovedLaw};
 
 /// The inodes whose data has no checksums are those of the image before, once all changes are made.
 pub fn flags_law()
     ensures { FlagsLaw }
-{}
-
-/// The root items are those of the image before, without what is gone, and what came.
-pub fn roots_law()
-    ensures { RootsLaw }
 {}
 
 /// The live pairs that a stop while the writes go out may harm are among those that are not shared.

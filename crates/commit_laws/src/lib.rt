@@ -14,7 +14,7 @@ mod steps;
 mod stops;
 
 pub use commit::commit_law;
-pub use flags::{flags_law, hot_law, roots_law, table_moved_law};
+pub use flags::{flags_law, hot_law, table_moved_law};
 pub use frame::frame_law;
 pub use items::{blocks_law, items_law};
 pub use paired::{all_changes_law, found_law, paired_law};

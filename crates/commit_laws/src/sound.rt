@@ -2,7 +2,7 @@
 
 ghost use Rattle.commit_laws.specs.Sound.{AscendLaw, KnownSpansLaw, SoundLaw};
 
-use crate::flags::{flags_law, roots_law, table_moved_law};
+use crate::flags::{flags_law, table_moved_law};
 use crate::items::{blocks_law, items_law};
 use crate::paired::{all_changes_law, found_law};
 use crate::same::held_law;
@@ -34,13 +34,10 @@ pub fn sound_law()
     runs_law();
     judged_law();
     flags_law();
-    roots_law();
     table_moved_law();
 }
 
 /// The root items of an image ascend strictly by their keys.
 pub fn ascend_law()
     ensures { AscendLaw }
-{
-    items_law();
-}
+{}

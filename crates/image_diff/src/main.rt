@@ -6,14 +6,15 @@ mod lines;
 mod seen;
 mod why;
 
-use known::{known_of, superblock_of};
+use known::{Known, known_of, superblock_of};
 use live_index::LiveIndex;
-use recon_disk::{MemDisk, Steps};
+use recon_disk::{Disk, MemDisk, Steps};
 use std::alloc::Global;
 use std::io::{self, BufWriter};
 use std::process::ExitCode;
 use std::rt::Env;
 use std::{env, fs};
+use super_reader::Super;
 use tree_change::{Diff, difference};
 use why::Why;
 use write_cache::WriteCache;
@@ -47,6 +48,23 @@ fn writes_between(alloc: Global, old: &[u8], new: &[u8]) -> Result<WriteCache, W
     Ok(cache)
 }
 
+// What changes, as it is found once.
+fn found(
+    alloc: Global,
+    disk: &mut MemDisk,
+    cache: &WriteCache,
+    known: &Known,
+    fresh: &Super,
+    steps: &mut Steps<()>,
+) -> Result<Diff, Why> {
+    let Ok(end) = disk.length() else {
+        return Err(Why::Disk);
+    };
+    Ok(difference::<MemDisk, (), Known>(
+        alloc, disk, cache, end, known, fresh, steps,
+    )?)
+}
+
 // What changes from the image in one file to that in another, with the number of reads. It is found so many times over, for who wants to
 // know how long that takes.
 fn compared(rt: &HostRuntime, old: &str, new: &str, times: u32) -> Result<(Diff, u64), Why> {
@@ -60,14 +78,10 @@ fn compared(rt: &HostRuntime, old: &str, new: &str, times: u32) -> Result<(Diff,
     let mut steps = Steps::new(());
     let known = known_of(alloc, &mut disk, sup, &mut steps)?;
     let before = disk.reads();
-    let diff = difference::<MemDisk, (), known::Known>(
-        alloc, &mut disk, &cache, &known, &fresh, &mut steps,
-    )?;
+    let diff = found(alloc, &mut disk, &cache, &known, &fresh, &mut steps)?;
     let reads = disk.reads().saturating_sub(before);
     for _ in 1..times {
-        difference::<MemDisk, (), known::Known>(
-            alloc, &mut disk, &cache, &known, &fresh, &mut steps,
-        )?;
+        found(alloc, &mut disk, &cache, &known, &fresh, &mut steps)?;
     }
     Ok((diff, reads))
 }

@@ -81,15 +81,7 @@ impl Seen {
         }
         match &one.part {
             Rec::ChunkItem(item) => self.map.add(&item.chunk()),
-            Rec::RootItem(item) => {
-                let root = RootAt {
-                    key: item.key,
-                    address: item.bytenr,
-                    generation: item.generation,
-                    level: item.level,
-                };
-                Ok(self.roots.push(root)?)
-            }
+            Rec::RootItem(item) => Ok(self.roots.push(RootAt::of(item))?),
             _ => Ok(()),
         }
     }

@@ -1,6 +1,7 @@
 -- A commit takes away and brings no more postings than there are of the items that count and of the blocks that are not shared.
 use Rattle.std.proofs.Common.{◌≡◌, ℕ, ◌+◌, ◌*◌, ◌≤◌, inl, inr, Bool, true, false, not, List, [], ◌∷◌, ◌++◌, length, map}
 use Rattle.std.proofs.Common.{refl, ap, sym, ◌∙◌, subst, arith}
+use Rattle.std.specs.Prelude.{Ok}
 use Rattle.std.specs.List.{AllPairs, Contains, flat_map}
 use Rattle.std.specs.List.Sorted.{IsPermutation}
 use Rattle.std.specs.Ordering.{nat_cmp}
@@ -21,7 +22,7 @@ use Rattle.change_records.specs.declared.item_ref.ItemRef.{ItemRef}
 use Rattle.change_records.proofs.Merge.{contains_first, contains_more, contains_none}
 use Rattle.live_index.specs.Pairs.{Pairs}
 use Rattle.live_index.specs.declared.live.Live.{Live}
-use Rattle.records.specs.Contents.{superblock_in}
+use Rattle.records.specs.Contents.{root_items_in, superblock_in}
 use Rattle.records.specs.Context.{has_sum_free}
 use Rattle.records.specs.Part.{Located}
 use Rattle.records.specs.Postings.{all_postings, postings_of}
@@ -412,6 +413,7 @@ few laws image pending k next c old new passage =
       was = passage.was;
       is = passage.is;
       change_is = moved;
+      roots_are = subst (λ (n : Walked). root_items_in n.sup n.chunks judged_image ≡ Ok c.change.roots.items) will change.5;
       says = is'.changes_are;
     } in
     few_between laws image pending old new before.0.roots after.0.roots c between is'.refs_are in

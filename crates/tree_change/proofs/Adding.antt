@@ -22,7 +22,7 @@ use Rattle.records.specs.Contents.{names, named_root}
 
 -- parts by what they hold
 abbrev made_of : List Live → List Live → List Live → List Located → List Located → ℕ → Parts
-made_of a b c d e n = record { old_blocks = a; new_blocks = b; moved = c; old_items = d; new_items = e; count = n }
+made_of a b c d e n = record { old_blocks = a; new_blocks = b; shifted = c; old_items = d; new_items = e; count = n }
 
 -- parts that hold the same are the same
 pub parts_same : {a a' b b' c c' : List Live} {d d' e e' : List Located} {n n' : ℕ} → a ≡ a' → b ≡ b' → c ≡ c' → d ≡ d' → e ≡ e' → n ≡ n'
@@ -37,14 +37,14 @@ none_before some = parts_same refl refl refl refl refl (omega arith)
 
 none_behind : (some : Parts) → with_parts some no_parts ≡ some
 none_behind some =
-    parts_same (append-nil some.old_blocks) (append-nil some.new_blocks) (append-nil some.moved) (append-nil some.old_items)
+    parts_same (append-nil some.old_blocks) (append-nil some.new_blocks) (append-nil some.shifted) (append-nil some.old_items)
     (append-nil some.new_items) (omega arith)
 
 -- three of them
 pub with_with : (some more last : Parts) → with_parts (with_parts some more) last ≡ with_parts some (with_parts more last)
 with_with some more last =
     parts_same (append_assoc some.old_blocks more.old_blocks last.old_blocks) (append_assoc some.new_blocks more.new_blocks last.new_blocks)
-    (append_assoc some.moved more.moved last.moved) (append_assoc some.old_items more.old_items last.old_items)
+    (append_assoc some.shifted more.shifted last.shifted) (append_assoc some.old_items more.old_items last.old_items)
     (append_assoc some.new_items more.new_items last.new_items) (omega arith)
 
 -- parts before what follows, where that has no finding

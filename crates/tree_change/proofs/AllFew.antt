@@ -50,7 +50,7 @@ use Rattle.tree_change.specs.Compared.{HasNewMap, IsCompared, KeepsBy, judged_by
 use Rattle.tree_change.specs.FewLooks.{few_looks}
 use Rattle.tree_change.specs.Looks.{gone_all_looks, named_looks, tree_looks}
 use Rattle.tree_change.specs.LooksLaw.{entries_of}
-use Rattle.tree_change.specs.Merging.{IsSortedOf, named_before, roots_left}
+use Rattle.tree_change.specs.Merging.{IsSortedOf, roots_left}
 use Rattle.tree_change.specs.OneTree.{IsTree, KnowsNothing, KnowsTree, side_of, unchanged}
 use Rattle.tree_change.specs.Stays.{RootsStand}
 use Rattle.tree_change.specs.Told.{side_with}
@@ -69,10 +69,10 @@ use Rattle.tree_change.proofs.Chunks.{chunks_found}
 use Rattle.tree_change.proofs.Contents.{all_found}
 use Rattle.tree_change.proofs.EachTree.{one_tree}
 use Rattle.tree_change.proofs.Entries.{few_for_none, few_marks_for}
-use Rattle.tree_change.proofs.FewSums.{entries_permuted, entries_as, all_mapped, fewer_as, most, wide, both_cost, trees_total, all_total, entries_fewer, as_change, as_moved}
+use Rattle.tree_change.proofs.FewSums.{entries_permuted, entries_as, all_mapped, fewer_as, most, wide, both_cost, trees_total, all_total, entries_fewer, as_change, as_shifted}
 use Rattle.tree_change.proofs.Gone.{gone as gone_law}
 use Rattle.tree_change.proofs.Levels.{IsLow, roots_low, supers_low}
-use Rattle.tree_change.proofs.MovedSums.{moved_all_joins, moved_cost, moved_gone, moved_named, moved_tree}
+use Rattle.tree_change.proofs.ShiftedSums.{shifted_all_joins, shifted_cost, shifted_gone, shifted_named, moved_tree}
 use Rattle.tree_change.proofs.MarksKnown.{marks_all}
 use Rattle.tree_change.proofs.MovesFew.{among_others, fewer, have_those, looks_few, moves_marked, others, passes, split_marks, those, tree_moves_marked}
 use Rattle.tree_change.proofs.Named.{named as named_law}
@@ -83,6 +83,7 @@ use Rattle.tree_change.proofs.RootItems.{roots_made}
 use Rattle.tree_change.proofs.TreeSums.{all_cost, gone_all_sum, named_sum, tree_cost, tree_sum}
 use Rattle.tree_change.proofs.Unordered.{all_filter}
 use Rattle.volume_items.specs.declared.root_at.RootAt.{RootAt}
+use Rattle.tree_laws.specs.MergedLaw.{root_before}
 
 -- a result is a value, where it is no finding
 value_of : {A : Type 0} (result : Result A Finding) → ((finding : Finding) → result ≡ Err finding → ⊥) → (value : A) × (result ≡ Ok value)
@@ -420,42 +421,37 @@ module _ {L : Type 0} (both : Compared L) (image : List ℕ) (c : IsCompared bot
         subst (λ (s : Side). tree_parts pairs fr.known s side (Some (root_tree_root s.sup)) (root_tree_root both.fresh.now) ≡ Ok fr.parts)
         (was_is both image chunks c) fr.tree
 
-    record HasRoots : Type 0 where
-      pub news : List RootAt
-      pub roots_are : fr.roots ≡ news
-      pub items : root_items_in both.fresh.now chunks judged ≡ Ok news
-
-    roots : HasRoots
-    roots =
+    roots_are : root_items_in both.fresh.now chunks judged ≡ Ok fr.roots
+    roots_are =
         let made =
         roots_made one_tree image both.cache.now old trees pairs side fr.known fr.parts olds fr.roots c.based.items root_is root_made
-        (subst (λ rs. IsSortedOf named_before (roots_left rs fr.parts.old_items fr.parts.new_items) fr.roots) c.based.roots_are fr.merged) in
+        (subst (λ rs. IsSortedOf root_before (roots_left rs fr.parts.old_items fr.parts.new_items) fr.roots) c.based.roots_are fr.merged) in
         let step =
-        step_ok (finding_or (roots_fault both.fresh.now.compat_ro made.0) (tt {0})) (λ _. Ok made.0) steps.roots (sym made.2 ∙ steps.items) in
-        record { news = made.0; roots_are = made.1; items = steps.items ∙ sym step.2 }
+        step_ok (finding_or (roots_fault both.fresh.now.compat_ro fr.roots) (tt {0})) (λ _. Ok fr.roots) steps.roots (sym made ∙ steps.items) in
+        steps.items ∙ sym step.2
 
-    named_made : (parts : Parts) × (named_parts pairs fr.known was side olds roots.news ≡ Ok parts)
-    named_made = value_of (named_parts pairs fr.known was side olds roots.news) (λ finding failed.
-        not_both (all_records both.fresh.now steps.array chunks roots.news judged) seen finding
+    named_made : (parts : Parts) × (named_parts pairs fr.known was side olds fr.roots ≡ Ok parts)
+    named_made = value_of (named_parts pairs fr.known was side olds fr.roots) (λ finding failed.
+        not_both (all_records both.fresh.now steps.array chunks fr.roots judged) seen finding
         (subst (λ rs. all_records both.fresh.now steps.array chunks rs judged ≡ Ok seen)
-        (same_ok steps.roots roots.news (sym steps.items ∙ roots.items)) steps.records)
-        (all_found judged both.fresh.now c.super_is steps.array steps.arrays chunks steps.chunks_are roots.news roots.items finding
-        ((named_law one_tree image both.cache.now old olds trees pairs side fr.known roots.news over).0 finding failed)))
+        (same_ok steps.roots fr.roots (sym steps.items ∙ roots_are)) steps.records)
+        (all_found judged both.fresh.now c.super_is steps.array steps.arrays chunks steps.chunks_are fr.roots roots_are finding
+        ((named_law one_tree image both.cache.now old olds trees pairs side fr.known fr.roots over).0 finding failed)))
 
-    gone_made : (parts : Parts) × (gone_all pairs fr.known was roots.news olds ≡ Ok parts)
-    gone_made = value_of (gone_all pairs fr.known was roots.news olds) (λ finding failed.
-        gone_law image both.cache.now old olds trees pairs side fr.known roots.news finding over failed)
+    gone_made : (parts : Parts) × (gone_all pairs fr.known was fr.roots olds ≡ Ok parts)
+    gone_made = value_of (gone_all pairs fr.known was fr.roots olds) (λ finding failed.
+        gone_law image both.cache.now old olds trees pairs side fr.known fr.roots finding over failed)
 
     abbrev parts : Parts
     parts = with_parts chunk_made.0 (with_parts fr.parts (with_parts named_made.0 gone_made.0))
 
     abbrev afters : List Tree
-    afters = trees_in both.fresh.now chunks chunks roots.news judged
+    afters = trees_in both.fresh.now chunks chunks fr.roots judged
 
-    all_is : IsAll image both.cache.now old new olds roots.news trees afters array pairs fm.known fr.known chunk_made.0 fr.parts named_made.0 gone_made.0
+    all_is : IsAll image both.cache.now old new olds fr.roots trees afters array pairs fm.known fr.known chunk_made.0 fr.parts named_made.0 gone_made.0
     all_is = record {
       over = over;
-      has = record { walks = walks; roots = roots.news; items = roots.items; trees_are = refl };
+      has = record { walks = walks; roots = fr.roots; items = roots_are; trees_are = refl };
       afters_are = refl;
       array_is = has_new;
       array_known = chunk_tree.known_is;
@@ -467,7 +463,7 @@ module _ {L : Type 0} (both : Compared L) (image : List ℕ) (c : IsCompared bot
 
     all_parts : AreAllParts old new both.cache.now (length image) parts
     all_parts =
-        all_trees one_tree image both.cache.now old new olds roots.news trees afters array pairs fm.known fr.known chunk_made.0 fr.parts named_made.0
+        all_trees one_tree image both.cache.now old new olds fr.roots trees afters array pairs fm.known fr.known chunk_made.0 fr.parts named_made.0
         gone_made.0 all_is
 
     -- ---- what the walks cost
@@ -498,20 +494,18 @@ module _ {L : Type 0} (both : Compared L) (image : List ℕ) (c : IsCompared bot
     named_cost =
         subst (λ s. named_looks both.is_same fr.known s side both.roots.now fr.roots ≤ all_cost was side named_made.0) (sym (was_is both image chunks c))
         (subst (λ rs. named_looks both.is_same fr.known was side rs fr.roots ≤ all_cost was side named_made.0) (sym c.based.roots_are)
-        (subst (λ rs. named_looks both.is_same fr.known was side olds rs ≤ all_cost was side named_made.0) (sym roots.roots_are)
-        (named_sum image both.cache.now old olds trees pairs side fr.known both.is_same same_alike low_olds roots.news named_made.0
-        (named_trees one_tree image both.cache.now old new olds roots.news trees afters array pairs fm.known fr.known chunk_made.0 fr.parts
-        named_made.0 gone_made.0 all_is) (roots_low both.fresh.now chunks judged roots.news roots.items) named_made.1)))
+        (named_sum image both.cache.now old olds trees pairs side fr.known both.is_same same_alike low_olds fr.roots named_made.0
+        (named_trees one_tree image both.cache.now old new olds fr.roots trees afters array pairs fm.known fr.known chunk_made.0 fr.parts
+        named_made.0 gone_made.0 all_is) (roots_low both.fresh.now chunks judged fr.roots roots_are) named_made.1))
 
     gone_cost : gone_all_looks fr.known (side_with both.was image) fr.roots both.roots.now ≤ all_cost was side gone_made.0
     gone_cost =
         subst (λ s. gone_all_looks fr.known s fr.roots both.roots.now ≤ all_cost was side gone_made.0) (sym (was_is both image chunks c))
         (subst (λ rs. gone_all_looks fr.known was fr.roots rs ≤ all_cost was side gone_made.0) (sym c.based.roots_are)
-        (subst (λ rs. gone_all_looks fr.known was rs olds ≤ all_cost was side gone_made.0) (sym roots.roots_are)
         (gone_all_sum image both.cache.now old olds trees pairs side fr.known both.is_same same_alike low_olds c.based.has c.based.pairs_are
-        roots.news olds gone_made.0
-        (olds_named one_tree image both.cache.now old new olds roots.news trees afters array pairs fm.known fr.known chunk_made.0 fr.parts
-        named_made.0 gone_made.0 all_is) low_olds gone_made.1)))
+        fr.roots olds gone_made.0
+        (olds_named one_tree image both.cache.now old new olds fr.roots trees afters array pairs fm.known fr.known chunk_made.0 fr.parts
+        named_made.0 gone_made.0 all_is) low_olds gone_made.1))
 
     -- ---- the blocks of the chunk tree, by all chunks
 
@@ -630,33 +624,33 @@ module _ {L : Type 0} (both : Compared L) (image : List ℕ) (c : IsCompared bot
     by_old : both.is_same ≡ true → fr.known.pairs ≡ pairs
     by_old same = fr.by_kept ∙ ap pairs_of (both.same same)
 
-    parts_moved : length parts.moved ≤ 2 + moved_cost side parts
-    parts_moved =
+    parts_shifted : length parts.shifted ≤ 2 + shifted_cost side parts
+    parts_shifted =
         let p = chunk_made.0 in
         let stand : RootsStand pairs olds = subst (RootsStand pairs) c.based.roots_are (roots_stand both image chunks c) in
         let chunk =
         moved_tree image both.cache.now old trees pairs array_side fm.known (Some (chunk_tree_root old.sup)) (chunk_tree_root both.fresh.now) p chunk_tree
         new_low.1 old_low.1 chunk_made.1 in
-        moved_all_joins side p fr.parts named_made.0 gone_made.0
-        (subst (λ n. length p.moved ≤ 1 + (n + 7 * length p.new_blocks)) chunk_entries chunk)
+        shifted_all_joins side p fr.parts named_made.0 gone_made.0
+        (subst (λ n. length p.shifted ≤ 1 + (n + 7 * length p.new_blocks)) chunk_entries chunk)
         (moved_tree image both.cache.now old trees pairs side fr.known (Some (root_tree_root old.sup)) (root_tree_root both.fresh.now) fr.parts root_is
         new_low.0 old_low.0 root_made)
-        (moved_named image both.cache.now old olds trees pairs side fr.known both.is_same same_alike low_olds by_old stand roots.news named_made.0
-        (named_trees one_tree image both.cache.now old new olds roots.news trees afters array pairs fm.known fr.known chunk_made.0 fr.parts
-        named_made.0 gone_made.0 all_is) (roots_low both.fresh.now chunks judged roots.news roots.items) named_made.1)
-        (moved_gone image both.cache.now old olds trees pairs side fr.known both.is_same same_alike low_olds by_old stand roots.news olds
+        (shifted_named image both.cache.now old olds trees pairs side fr.known both.is_same same_alike low_olds by_old stand fr.roots named_made.0
+        (named_trees one_tree image both.cache.now old new olds fr.roots trees afters array pairs fm.known fr.known chunk_made.0 fr.parts
+        named_made.0 gone_made.0 all_is) (roots_low both.fresh.now chunks judged fr.roots roots_are) named_made.1)
+        (shifted_gone image both.cache.now old olds trees pairs side fr.known both.is_same same_alike low_olds by_old stand fr.roots olds
         gone_made.0 gone_made.1)
 
-    pub moved_few : length (shifted_in old new (written_in both.cache.now) (length image)) ≤ 2 + (entries_of side come + 8 * length come + length left)
-    moved_few =
+    pub shifted_few : length (shifted_in old new (written_in both.cache.now) (length image)) ≤ 2 + (entries_of side come + 8 * length come + length left)
+    shifted_few =
         let p : Live → Bool = λ live. not (same live) in
         let q : Live → Bool = λ live. not (shared live) in
         let shifts : Live → Bool = is_shifted (live_in old.seen) in
-        sums (length parts.moved) (length (unchanged_shifted old new (written_in both.cache.now) (length image)))
+        sums (length parts.shifted) (length (unchanged_shifted old new (written_in both.cache.now) (length image)))
         (length (shifted_in old new (written_in both.cache.now) (length image))) (entries_of side parts.new_blocks)
-        (length parts.new_blocks) (length parts.old_blocks) (entries_of side come) (length come) (length left) parts_moved
-        (length_permutation (unchanged_shifted old new (written_in both.cache.now) (length image)) parts.moved
-        (moved_all one_tree image both.cache.now old new olds roots.news trees afters array pairs fm.known fr.known chunk_made.0 fr.parts
+        (length parts.new_blocks) (length parts.old_blocks) (entries_of side come) (length come) (length left) parts_shifted
+        (length_permutation (unchanged_shifted old new (written_in both.cache.now) (length image)) parts.shifted
+        (moved_all one_tree image both.cache.now old new olds fr.roots trees afters array pairs fm.known fr.known chunk_made.0 fr.parts
         named_made.0 gone_made.0 all_is))
         (fewer (λ live. shared live && shifts live) (λ live. same live && shifts live) (λ live is. both_if live is) (live_in new.seen))
         (fewer_as (entries_permuted side came parts.new_blocks all_parts.new_blocks) (entries_fewer side p q unshared_if (live_in new.seen)))
@@ -734,8 +728,8 @@ few_change both image c before after f fresh change walks is =
               (entries_of was change.old_blocks.items) (entries_of side change.new_blocks.items)
               (few_all both image c before after f fresh.seen walks pieces are) old_long new_long
               (entries_permuted was left change.old_blocks.items is.old_blocks) new_entries,
-          as_moved (length shifted) (entries_of side come) (length come) (length left) (length change.moved.items)
+          as_shifted (length shifted) (entries_of side come) (length come) (length left) (length change.moved.items)
               (entries_of side change.new_blocks.items) (length change.new_blocks.items) (length change.old_blocks.items)
-              (moved_few both image c before after f fresh.seen walks) (length_permutation shifted change.moved.items is.moved.all)
+              (shifted_few both image c before after f fresh.seen walks) (length_permutation shifted change.moved.items is.moved.all)
               new_entries new_long old_long,
         )

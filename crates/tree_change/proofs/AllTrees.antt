@@ -278,9 +278,9 @@ module _ (law : OneTreeLaw) (image : List ℕ) (pending : FinMap nat_cmp ℕ) (o
       (all_filter (λ one. listed (item_id one) ids ≡ true) (stands_in lives) (items seen) each.found))
 
   -- the shared pairs that are shifted, in some order
-  pub moved_all : IsPermutation all.moved parts.moved
+  pub moved_all : IsPermutation all.shifted parts.shifted
   moved_all =
-      subst (IsPermutation all.moved) (sym pieces.moved)
+      subst (IsPermutation all.shifted) (sym pieces.shifted)
       (lives_listed (λ live. is_unchanged old new (written_in pending) (length image) live && is_shifted (live_in old.seen) live) new.seen new_listed)
 
   all_parts : AreAllParts old new pending (length image) parts
@@ -289,8 +289,8 @@ module _ (law : OneTreeLaw) (image : List ℕ) (pending : FinMap nat_cmp ℕ) (o
         (lives_listed (λ live. not (is_unchanged old new (written_in pending) (length image) live)) old.seen old_listed);
     new_blocks = subst (IsPermutation all.new_blocks) (sym pieces.new_blocks)
         (lives_listed (λ live. not (is_unchanged old new (written_in pending) (length image) live)) new.seen new_listed);
-    moved = λ sorted sort. in_order is_before all.moved parts.moved sorted
-        (subst (IsPermutation all.moved) (sym pieces.moved)
+    shifted = λ sorted sort. in_order is_before all.shifted parts.shifted sorted
+        (subst (IsPermutation all.shifted) (sym pieces.shifted)
         (lives_listed (λ live. is_unchanged old new (written_in pending) (length image) live && is_shifted
         (live_in old.seen) live) new.seen new_listed)) sort
         (pairs_apart new.sup afters new.seen

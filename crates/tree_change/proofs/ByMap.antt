@@ -3,7 +3,7 @@ use Rattle.std.proofs.Common.{◌≡◌, ℕ, zero, suc, ◌<◌, ◌⊎◌, inl
 use Rattle.std.specs.Prelude.{Option, Some, None, Result, Ok, Err, IfSome, map}
 use Rattle.std.specs.Ordering.{nat_cmp}
 use Rattle.std.specs.FinMap.{FinMap}
-use Rattle.verdict.specs.Rules.{and_then}
+use Rattle.verdict.specs.Rules.{and_then, finding_or}
 use Rattle.verdict.specs.Trees.{is_node_size}
 use Rattle.verdict.specs.declared.finding.Finding.{Finding}
 use Rattle.verdict.specs.declared.place.Chunk.{Chunk}
@@ -13,7 +13,7 @@ use Rattle.volume_items.specs.declared.root_at.RootAt.{RootAt}
 use Rattle.live_index.specs.Pairs.{AreNarrow, Pairs}
 use Rattle.live_index.specs.Table.{pairs_of}
 use Rattle.node_reader.specs.Stored.{stored_in}
-use Rattle.records.specs.Contents.{root_items_in, root_tree_root}
+use Rattle.records.specs.Contents.{root_items_in, root_tree_root, roots_fault}
 use Rattle.block_source.specs.declared.halt.Halt.{Halt}
 use Rattle.block_source.specs.declared.halt.Halt.TheVariants.{Found, Disk, NoMemory}
 use Rattle.touched_blocks.specs.Marking.{AreMarked, AreMarkedFrom}
@@ -35,9 +35,9 @@ use Rattle.tree_laws.proofs.Treed.{map_kept}
 use Rattle.tree_change.specs.Firsts.{first_copies}
 use Rattle.tree_change.specs.AllTrees.{IsOver, KnowsTrees, gone_all, named_parts, with_parts}
 use Rattle.tree_change.specs.Compared.{FindsRest, FitsCompared, HasNewMap, IsCompared, KeepsBy, MakesRest, TellsRest, judged_by, side_to}
-use Rattle.tree_change.specs.Making.{FindsOthers, IsAdded, MakesOthers, RootsJudged, TellsOthers}
+use Rattle.tree_change.specs.Making.{FindsOthers, IsAdded, MakesOthers, TellsOthers}
 use Rattle.tree_change.specs.Making.FindsOthers.{InGone, InItems, InNamed, InTree}
-use Rattle.tree_change.specs.Merging.{IsSortedOf, named_before, roots_left}
+use Rattle.tree_change.specs.Merging.{IsSortedOf, roots_left}
 use Rattle.tree_change.specs.OneTree.{IsTree, KnowsNothing, side_of}
 use Rattle.tree_change.specs.Stays.{RootsStand}
 use Rattle.tree_change.specs.Told.{side_with}
@@ -55,6 +55,7 @@ use Rattle.tree_change.proofs.Named.{named}
 use Rattle.tree_change.proofs.Olds.{old_stands}
 use Rattle.tree_change.proofs.RootItems.{roots_found, roots_made}
 use Rattle.tree_change.proofs.Staying.{items_stand}
+use Rattle.tree_laws.specs.MergedLaw.{root_before}
 
 -- what is known, by its parts
 abbrev pub known_with : Pairs → Marked → (ℕ → Bool) → Under → Known
@@ -176,31 +177,27 @@ module _ {L : Type 0} (both : Compared L) (image : List ℕ) (chunks : List Chun
     tree = tree_parts pairs known (side_of image old) side (Some (root_tree_root old.sup)) (root_tree_root both.fresh.now)
 
     abbrev pub Merged : Parts → List RootAt → Type 0
-    Merged parts roots = IsSortedOf named_before (roots_left olds parts.old_items parts.new_items) roots
+    Merged parts roots = IsSortedOf root_before (roots_left olds parts.old_items parts.new_items) roots
 
-    -- the roots are those of items, on which the rules are judged
-    judged : (parts : Parts) (roots : List RootAt) (answer : Result (Unit {0}) Finding) → tree ≡ Ok parts → Merged parts roots
-        → RootsJudged both.fresh.now.compat_ro roots answer
-        → (items : List RootAt) × (roots ≡ items)
-        × (root_items_in both.fresh.now chunks (judged_by both image) ≡ and_then answer (λ _. Ok items))
-    judged parts roots answer made merged say =
-        let m = roots_made one_tree image both.cache.now old trees pairs side known parts olds roots c.based.items root_tree made merged in
-        (m.0, m.1, m.2 ∙ ap (λ (a : Result (Unit {0}) Finding). and_then a (λ _. Ok m.0)) (say m.0 m.1))
+    -- the root items of the new image, by what the rules say of the roots
+    judged : (parts : Parts) (roots : List RootAt) (fault : Option Finding) → tree ≡ Ok parts → Merged parts roots
+        → roots_fault both.fresh.now.compat_ro roots ≡ fault
+        → root_items_in both.fresh.now chunks (judged_by both image) ≡ and_then (finding_or fault (tt {0})) (λ _. Ok roots)
+    judged parts roots fault made merged say =
+        roots_made one_tree image both.cache.now old trees pairs side known parts olds roots c.based.items root_tree made merged
+        ∙ ap (λ f. and_then (finding_or f (tt {0})) (λ _. Ok roots)) say
 
     -- what all make
     rest_made : (root_parts named_trees gone_trees parts : Parts) (roots : List RootAt) → tree ≡ Ok root_parts → Merged root_parts roots
-        → RootsJudged both.fresh.now.compat_ro roots (Ok (tt {0}))
+        → roots_fault both.fresh.now.compat_ro roots ≡ None
         → named_parts pairs known (side_of image old) side olds roots ≡ Ok named_trees
         → gone_all pairs known (side_of image old) roots olds ≡ Ok gone_trees
         → parts ≡ with_parts root_parts (with_parts named_trees gone_trees)
-        → MakesRest both image old olds chunks parts
+        → MakesRest both image old olds chunks parts roots
     rest_made root_parts named_trees gone_trees parts roots made merged say named_are gone_are all =
-        let j = judged root_parts roots (Ok (tt {0})) made merged say in
-        let named_by = subst (λ rs. named_parts pairs known (side_of image old) side olds rs ≡ Ok named_trees) j.1 named_are in
-        let fine = (named one_tree image both.cache.now old olds trees pairs side known j.0 over).1 named_trees named_by in
+        let fine = (named one_tree image both.cache.now old olds trees pairs side known roots over).1 named_trees named_are in
         record {
-          news = j.0;
-          items = j.2;
+          items = judged root_parts roots None made merged say;
           records = fine.0;
           fine = fine.1;
           known = known;
@@ -209,8 +206,8 @@ module _ {L : Type 0} (both : Compared L) (image : List ℕ) (chunks : List Chun
           named = named_trees;
           gone = gone_trees;
           root_tree = made;
-          named_trees = named_by;
-          gone_trees = subst (λ rs. gone_all pairs known (side_of image old) rs olds ≡ Ok gone_trees) j.1 gone_are;
+          named_trees = named_are;
+          gone_trees = gone_are;
           all = all;
         }
 
@@ -219,19 +216,17 @@ module _ {L : Type 0} (both : Compared L) (image : List ℕ) (chunks : List Chun
     found_tree finding failed = inl (roots_found one_tree image both.cache.now old trees pairs side known root_tree finding failed)
 
     found_items : (parts : Parts) (roots : List RootAt) (finding : Finding) → tree ≡ Ok parts → Merged parts roots
-        → RootsJudged both.fresh.now.compat_ro roots (Err finding) → FindsRest both image chunks finding
-    found_items parts roots finding made merged say = inl (judged parts roots (Err finding) made merged say).2
+        → roots_fault both.fresh.now.compat_ro roots ≡ Some finding → FindsRest both image chunks finding
+    found_items parts roots finding made merged say = inl (judged parts roots (Some finding) made merged say)
 
     found_named : (parts : Parts) (roots : List RootAt) (finding : Finding) → tree ≡ Ok parts → Merged parts roots
-        → RootsJudged both.fresh.now.compat_ro roots (Ok (tt {0}))
+        → roots_fault both.fresh.now.compat_ro roots ≡ None
         → named_parts pairs known (side_of image old) side olds roots ≡ Err finding → FindsRest both image chunks finding
     found_named parts roots finding made merged say failed =
-        let j = judged parts roots (Ok (tt {0})) made merged say in
         inr (
-          j.0,
-          j.2,
-          (named one_tree image both.cache.now old olds trees pairs side known j.0 over).0 finding
-              (subst (λ rs. named_parts pairs known (side_of image old) side olds rs ≡ Err finding) j.1 failed),
+          roots,
+          judged parts roots None made merged say,
+          (named one_tree image both.cache.now old olds trees pairs side known roots over).0 finding failed,
         )
 
     -- none is in a tree that is gone
@@ -282,10 +277,10 @@ module _ {L : Type 0} (both : Compared L) (new : Bor (List Chunk)) (moves : Bor 
         tree_parts (pairs_of both.table.now) known_now s now (Some (root_tree_root s.sup)) (root_tree_root both.fresh.now) ≡ answer)
         (was_is both image new.now c) is
 
-    merged_at : (parts : Parts) (roots : List RootAt) → IsSortedOf named_before (roots_left both.roots.now parts.old_items parts.new_items) roots
+    merged_at : (parts : Parts) (roots : List RootAt) → IsSortedOf root_before (roots_left both.roots.now parts.old_items parts.new_items) roots
         → Merged both image new.now c known_now over parts roots
     merged_at parts roots sort =
-        subst (λ rs. IsSortedOf named_before (roots_left rs parts.old_items parts.new_items) roots) c.based.roots_are sort
+        subst (λ rs. IsSortedOf root_before (roots_left rs parts.old_items parts.new_items) roots) c.based.roots_are sort
 
     named_at : (roots : List RootAt) (answer : Result Parts Finding)
         → named_parts (pairs_of both.table.now) known_now was now both.roots.now roots ≡ answer
@@ -301,11 +296,11 @@ module _ {L : Type 0} (both : Compared L) (new : Bor (List Chunk)) (moves : Bor 
         subst (λ rs. gone_all (pairs_of both.table.now) known_now (side_of image c.based.old) roots rs ≡ answer) c.based.roots_are
         (subst (λ s. gone_all (pairs_of both.table.now) known_now s roots both.roots.now ≡ answer) (was_is both image new.now c) is)
 
-    makes : (parts : Parts) → MakesOthers sides_by both.roots.now image parts → MakesRest both image c.based.old c.based.olds new.now parts
-    makes parts m =
-        rest_made both image new.now c known_now over m.root_parts m.named m.gone parts m.roots (tree_at (Ok m.root_parts) m.makes.tree)
-        (merged_at m.root_parts m.roots m.makes.merged) m.judged (named_at m.roots (Ok m.named) m.named_are) (gone_at m.roots (Ok m.gone) m.gone_are)
-        m.all
+    makes : (parts : Parts) (roots : List RootAt) → MakesOthers sides_by both.roots.now image parts roots
+        → MakesRest both image c.based.old c.based.olds new.now parts roots
+    makes parts roots m =
+        rest_made both image new.now c known_now over m.root_parts m.named m.gone parts roots (tree_at (Ok m.root_parts) m.makes.tree)
+        (merged_at m.root_parts roots m.makes.merged) m.judged (named_at roots (Ok m.named) m.named_are) (gone_at roots (Ok m.gone) m.gone_are) m.all
 
     finds : (finding : Finding) → FindsOthers sides_by both.roots.now image finding → FindsRest both image new.now finding
     finds finding (InTree failed) = found_tree both image new.now c known_now over finding (tree_at (Err finding) failed)
@@ -317,7 +312,8 @@ module _ {L : Type 0} (both : Compared L) (new : Bor (List Chunk)) (moves : Bor 
     finds finding (InGone roots failed) =
         elim (found_gone both image new.now c known_now over roots finding (gone_at roots (Err finding) failed)) [ ]
 
-  pub rest_told : {D A : Type 0} (disk : Ghosts D) (first last : D) (some all : TreeParts) (moving joined : Marks) (end : ℕ) (result : Result A Halt)
+  pub rest_told : {D : Type 0} (disk : Ghosts D) (first last : D) (some all : TreeParts) (moving joined : Marks) (end : ℕ)
+      (result : Result (List RootAt) Halt)
       → FitsCompared both end → IsMove
       → (AreApart new.now → 0 < both.was.sup.now.nodesize
       → AreMarkedFrom (pairs_of both.kept.now) (at_address (held_and_moved both.was.map.now new.now both.was.sup.now.nodesize both.was.end))
@@ -326,7 +322,7 @@ module _ {L : Type 0} (both : Compared L) (new : Bor (List Chunk)) (moves : Bor 
       → AreListedBy (pairs_of both.kept.now) (marked_by joined) (under_of starts.now)
       → (RootsStand (pairs_of both.table.now) both.roots.now → TellsOthers disk first last some all sides_by both.roots.now result)
       → TellsRest disk first last some all both new.now result
-  rest_told {D} {A} disk first last some all moving joined end result fits is moved joins listed tells = by result tells
+  rest_told disk first last some all moving joined end result fits is moved joins listed tells = by result tells
     where
       over : (image : List ℕ) (c : IsCompared both image) → HasNewMap both image new.now → Over both image new.now c known_now
       over image c has =
@@ -343,19 +339,19 @@ module _ {L : Type 0} (both : Compared L) (new : Bor (List Chunk)) (moves : Bor 
       found finding None others = tt
       found finding (Some image) others = λ c has. finds image c (over image c has) finding (others (roots_stand both image new.now c))
 
-      done : (told : Option (List ℕ)) → (Stand → IfSome told (λ image.
-          (parts : Parts) × MakesOthers sides_by both.roots.now image parts × IsAdded some all parts (disk.reads first) (disk.reads last)))
+      done : (roots : List RootAt) (told : Option (List ℕ)) → (Stand → IfSome told (λ image.
+          (parts : Parts) × MakesOthers sides_by both.roots.now image parts roots × IsAdded some all parts (disk.reads first) (disk.reads last)))
           → IfSome told (λ image. (c : IsCompared both image) → HasNewMap both image new.now
-          → (parts : Parts) × MakesRest both image c.based.old c.based.olds new.now parts
+          → (parts : Parts) × MakesRest both image c.based.old c.based.olds new.now parts roots
           × IsAdded some all parts (disk.reads first) (disk.reads last))
-      done None others = tt
-      done (Some image) others = λ c has.
+      done roots None others = tt
+      done roots (Some image) others = λ c has.
           let made = others (roots_stand both image new.now c) in
-          (made.0, makes image c (over image c has) made.0 made.1, made.2)
+          (made.0, makes image c (over image c has) made.0 roots made.1, made.2)
 
-      by : (r : Result A Halt) → (Stand → TellsOthers disk first last some all sides_by both.roots.now r)
+      by : (r : Result (List RootAt) Halt) → (Stand → TellsOthers disk first last some all sides_by both.roots.now r)
           → TellsRest disk first last some all both new.now r
       by (Err (Found finding)) tells = found finding (disk.bytes first) tells
       by (Err Disk) tells = tt
       by (Err NoMemory) tells = tt
-      by (Ok value) tells = done (disk.bytes first) tells
+      by (Ok roots) tells = done roots (disk.bytes first) tells

@@ -6,6 +6,7 @@ use Rattle.verdict.specs.declared.place.Chunk.{Chunk}
 use Rattle.recon_disk.specs.declared.disk.Disk.{Ghosts}
 use Rattle.super_reader.specs.Superblock.{array_place}
 use Rattle.volume_items.specs.SystemArray.{array_chunks}
+use Rattle.volume_items.specs.declared.root_at.RootAt.{RootAt}
 use Rattle.records.specs.Contents.{chunk_map_in, contents}
 use Rattle.live_index.specs.Table.{pairs_of}
 use Rattle.touched_blocks.specs.Marks.{marked_by}
@@ -37,7 +38,8 @@ both_added start middle all some more r0 r1 r2 none first second =
     ∙ ap (λ parts. with_parts parts more) (ap (λ n. parts_by middle n) zero_more ∙ first.behind 0 ∙ ap (λ parts. with_parts parts some) none ∙ none_before some)
 
 -- what the two steps tell, and what is made of it
-module _ {L : Type 0} (both : Compared L) (end : ℕ) (fits : FitsCompared both end) (array chunks : List Chunk) (start middle all made : TreeParts)
+module _ {L : Type 0} (both : Compared L) (end : ℕ) (fits : FitsCompared both end) (array chunks : List Chunk) (roots : List RootAt)
+    (start middle all made : TreeParts)
     (places : List PairPlace) (r0 r1 r2 before after : ℕ) (array_is : HasNewArray both array) (none : parts_by start 0 ≡ no_parts)
     (risen : (count : ℕ) → IsRisen (pairs_of both.table.now) (marked_by both.marks.now) places (parts_by all count) (parts_by made count) before after) where
   abbrev pub Mapped : List ℕ → Type 0
@@ -46,7 +48,7 @@ module _ {L : Type 0} (both : Compared L) (end : ℕ) (fits : FitsCompared both 
 
   abbrev pub Rested : List ℕ → Type 0
   Rested image = (is : IsCompared both image) → HasNewMap both image chunks
-      → (parts : Parts) × MakesRest both image is.based.old is.based.olds chunks parts × IsAdded middle all parts r1 r2
+      → (parts : Parts) × MakesRest both image is.based.old is.based.olds chunks parts roots × IsAdded middle all parts r1 r2
 
   -- all parts, with the pairs that rise
   risen_is : (some more : Parts) → IsAdded start middle some r0 r1 → IsAdded middle all more r1 r2
@@ -55,7 +57,7 @@ module _ {L : Type 0} (both : Compared L) (end : ℕ) (fits : FitsCompared both 
       subst (λ parts. IsRisen (pairs_of both.table.now) (marked_by both.marks.now) places parts (parts_by made (some.count + more.count)) before after)
       (both_added start middle all some more r0 r1 r2 none first second) (risen (some.count + more.count))
 
-  pub compared : (told : Option (List ℕ)) (change : Change) → IfSome told Mapped → IfSome told Rested → IsFinished made chunks change
+  pub compared : (told : Option (List ℕ)) (change : Change) → IfSome told Mapped → IfSome told Rested → IsFinished made chunks roots change
       → IfSome told (λ image. IsCompared both image → IsDifference image (judged_by both image) (written_in both.cache.now) (Changed change)
       × ReadsFew r0 r2 (Changed change))
   compared None change mapped rested done = tt
@@ -63,19 +65,19 @@ module _ {L : Type 0} (both : Compared L) (end : ℕ) (fits : FitsCompared both 
       let m = mapped is array_is in
       let r = rested is (array, m.2.chunks_are) in
       let all_is =
-      change_is both end image fits is array chunks m.0 m.1 r.0 (parts_by made (m.1.count + r.0.count)) places before after array_is m.2 r.1
-      (risen_is m.1 r.0 m.3 r.2) change done.old_blocks done.new_blocks done.moved done.old_items done.new_items done.map_is in
+      change_is both end image fits is array chunks roots m.0 m.1 r.0 (parts_by made (m.1.count + r.0.count)) places before after array_is m.2 r.1
+      (risen_is m.1 r.0 m.3 r.2) change done.old_blocks done.new_blocks done.moved done.old_items done.new_items done.map_is done.roots_are in
       let few = m.3.reads in
       let then_few = r.2.reads in
-      let count = all_is.3 in
-      ((is.based.old, all_is.0, is.based.walks, all_is.1, all_is.2), omega (arith, few, then_few, count))
+      let count = all_is.4 in
+      ((is.based.old, all_is.0, is.based.walks, all_is.1, all_is.2, all_is.3), omega (arith, few, then_few, count))
 
   pub few_to_rise : (told : Option (List ℕ)) → IfSome told Mapped → IfSome told Rested → IfSome told (λ image. FewToRise both image before after)
   few_to_rise None mapped rested = tt
   few_to_rise (Some image) mapped rested = λ is new walks.
       let m = mapped is array_is in
       let r = rested is (array, m.2.chunks_are) in
-      rises both end image fits is array chunks m.0 m.1 r.0 (parts_by made (m.1.count + r.0.count)) places before after array_is m.2 r.1
+      rises both end image fits is array chunks roots m.0 m.1 r.0 (parts_by made (m.1.count + r.0.count)) places before after array_is m.2 r.1
       (risen_is m.1 r.0 m.3 r.2) new walks
 
 -- the first finding of what the new image holds
@@ -119,7 +121,7 @@ map_halts disk old middle last some all both array halt result is array_is found
 
 pub rest_halts : {D L : Type 0} (disk : Ghosts D) (old middle next last : D) (start some all : TreeParts) (both : Compared L) (array chunks : List Chunk)
     (halt : Halt) (result : Result Change Halt) → result ≡ Err halt → HasNewArray both array → disk.bytes middle ≡ disk.bytes old
-    → TellsMap disk old middle start some both array (Ok chunks) → TellsRest {A = Unit {0}} disk middle next some all both chunks (Err halt)
+    → TellsMap disk old middle start some both array (Ok chunks) → TellsRest disk middle next some all both chunks (Err halt)
     → TellsChange disk old last both result
 rest_halts disk old middle next last start some all both array chunks halt result is array_is same made found =
     subst (λ r. TellsChange disk old last both r) (sym is) (by halt found)
@@ -137,7 +139,7 @@ rest_halts disk old middle next last start some all both array chunks halt resul
         let m = (made is array_is).2.chunks_are in
         finds_rest both image is array chunks finding array_is m (here is (array, m))
 
-    by : (h : Halt) → TellsRest {A = Unit {0}} disk middle next some all both chunks (Err h) → TellsChange disk old last both (Err h)
+    by : (h : Halt) → TellsRest disk middle next some all both chunks (Err h) → TellsChange disk old last both (Err h)
     by (Found finding) found = at finding (disk.bytes old) (disk.bytes middle) same made found
     by Disk found = tt
     by NoMemory found = tt

@@ -101,26 +101,23 @@ module _ {L : Type 0} (was : BlockSource) (pending : FinMap nat_cmp ℕ) (sup : 
       (few_change both image c first last f new change walks is))
 
 -- so many looks are few where the answer is what changes, and so many pairs are shifted
-pub change_few : {D E L : Type 0} (disk : Ghosts D) (start old new : D) (was : BlockSource) (pending : FinMap nat_cmp ℕ) (sup : Super)
+pub change_few : {D E L : Type 0} (disk : Ghosts D) (old new : D) (was : BlockSource) (pending : FinMap nat_cmp ℕ) (sup : Super)
     (chunks : List Chunk) (roots : List RootAt) (sum_free : ℕ → ℕ → Bool) (full : ℕ → Bool) (table : LiveIndex L) (fresh : Super) (first last : ℕ) (change : Change)
-    (result : Result Change Halt) → was.sup.now ≡ sup → was.map.now ≡ chunks → was.end ≡ disk.len old → disk.bytes old ≡ disk.bytes start
+    (result : Result Change Halt) → was.sup.now ≡ sup → was.map.now ≡ chunks → was.end ≡ disk.len old
     → IfSome (disk.bytes old) (λ image. length image ≡ disk.len old)
     → told result ≡ Ok (Ok change) → OnOk result (LooksFromOld (disk.bytes old) first last was pending fresh roots table)
-    → GivesDifference {E = E} disk start new pending sup chunks roots sum_free full (pairs_of table) fresh (Ok (Changed change))
-    → LooksFew (disk.bytes start) pending sup chunks roots sum_free full (pairs_of table) fresh first last (Changed change)
-    × MovesFew (disk.bytes start) pending sup chunks roots sum_free full (pairs_of table) fresh (Changed change)
-change_few {D} {E} disk start old new was pending sup chunks roots sum_free full table fresh first last change result same_sup same_map end same sized is
-    looks gives =
-    by (disk.bytes start) (subst (λ told. IfSome told (λ image. length image ≡ disk.len old)) same sized)
-    (subst (λ told. LooksFromOld told first last was pending fresh roots table) same
-    (subst (λ r. OnOk r (LooksFromOld (disk.bytes old) first last was pending fresh roots table)) (change_is result change is) looks))
+    → GivesDifference {E = E} disk old new pending sup chunks roots sum_free full (pairs_of table) fresh (Ok (Changed change))
+    → LooksFew (disk.bytes old) pending sup chunks roots sum_free full (pairs_of table) fresh first last (Changed change)
+    × MovesFew (disk.bytes old) pending sup chunks roots sum_free full (pairs_of table) fresh (Changed change)
+change_few disk old new was pending sup chunks roots sum_free full table fresh first last change result same_sup same_map end sized is looks gives =
+    by (disk.bytes old) sized (subst (λ r. OnOk r (LooksFromOld (disk.bytes old) first last was pending fresh roots table)) (change_is result change is) looks)
     gives.told
   where
     by : (bytes : Option (List ℕ)) → IfSome bytes (λ image. length image ≡ disk.len old)
         → LooksFromOld bytes first last was pending fresh roots table
         → IfSome bytes (λ image. BasesStand image sup chunks roots sum_free full (pairs_of table) → superblock_in (overlaid pending 0 image) ≡ Ok fresh
         → IsDifference image (overlaid pending 0 image) (written_in pending) (Changed change)
-        × ReadsFew (disk.reads start) (disk.reads new) (Changed change))
+        × ReadsFew (disk.reads old) (disk.reads new) (Changed change))
         → LooksFew bytes pending sup chunks roots sum_free full (pairs_of table) fresh first last (Changed change)
         × MovesFew bytes pending sup chunks roots sum_free full (pairs_of table) fresh (Changed change)
     by None n looks tells = (tt, tt)

@@ -1,5 +1,5 @@
 -- What the call promises that finds the difference.
-use Rattle.std.proofs.Common.{◌≡◌, ℕ, Bool, List, sym, ◌∙◌, Ok, Err, subst}
+use Rattle.std.proofs.Common.{◌≡◌, ℕ, Bool, List, sym, Ok, Err, subst}
 use Rattle.std.specs.Prelude.{Option, Some, None, IfSome, Result}
 use Rattle.std.specs.Ordering.{nat_cmp}
 use Rattle.std.specs.FinMap.{FinMap}
@@ -18,7 +18,6 @@ use Rattle.block_source.specs.declared.halt.Halt.TheVariants.{Found, Disk, NoMem
 use Rattle.tree_change.specs.Change.{BasesStand, GivesDifference, IsDifference, ReadsFew}
 use Rattle.tree_change.specs.Compared.{IsBased, TellsOld}
 use Rattle.tree_change.specs.declared.change.Change.{Change}
-use Rattle.tree_change.specs.declared.change.Diff.{Diff}
 use Rattle.tree_change.specs.declared.change.Diff.TheVariants.{Found as Refused, Change as Changed}
 use Rattle.tree_change.proofs.Contents.{bases_are}
 
@@ -35,70 +34,51 @@ change_is (Err (Found other)) change is = absurd (cc)
 change_is (Err Disk) change is = absurd (cc)
 change_is (Err NoMemory) change is = absurd (cc)
 
-module _ {D : Type 0} (disk : Ghosts D) (start old new : D) (was_sup : Super) (was_map : List Chunk) (pending : FinMap nat_cmp ℕ) (sup : Super) (chunks : List Chunk)
-    (roots : List RootAt) (sum_free : ℕ → ℕ → Bool) (full : ℕ → Bool) (pairs : Pairs) (fresh : Super) (same_bytes : disk.bytes old ≡ disk.bytes start)
-    (same_reads : disk.reads old ≡ disk.reads start) (kept_bytes : disk.bytes new ≡ disk.bytes old)
+module _ {D : Type 0} (disk : Ghosts D) (old new : D) (was_sup : Super) (was_map : List Chunk) (pending : FinMap nat_cmp ℕ) (sup : Super) (chunks : List Chunk)
+    (roots : List RootAt) (sum_free : ℕ → ℕ → Bool) (full : ℕ → Bool) (pairs : Pairs) (fresh : Super) (kept_bytes : disk.bytes new ≡ disk.bytes old)
     (same_sup : was_sup ≡ sup) (same_map : was_map ≡ chunks) where
-  -- what is told of this answer
-  abbrev pub IsTold : Diff → Type 0
-  IsTold diff =
-      IfSome (disk.bytes start) (λ image.
-      BasesStand image sup chunks roots sum_free full pairs → superblock_in (overlaid pending 0 image) ≡ Ok fresh
-      → IsDifference image (overlaid pending 0 image) (written_in pending) diff × ReadsFew (disk.reads start) (disk.reads new) diff)
-
   -- the bases are those of the source
   based_by : (image : List ℕ) → BasesStand image sup chunks roots sum_free full pairs → IsBased image was_sup was_map roots pairs
   based_by image stand =
       subst (λ s. IsBased image s was_map roots pairs) (sym same_sup)
       (subst (λ m. IsBased image sup m roots pairs) (sym same_map) (bases_are image sup chunks roots sum_free full pairs stand))
 
-  found_by : (finding : Finding) (told other : Option (List ℕ)) → other ≡ told
-      → IfSome other (λ image. IsBased image was_sup was_map roots pairs → superblock_in (overlaid pending 0 image) ≡ Ok fresh
+  found_by : (finding : Finding) (told : Option (List ℕ))
+      → IfSome told (λ image. IsBased image was_sup was_map roots pairs → superblock_in (overlaid pending 0 image) ≡ Ok fresh
       → contents (overlaid pending 0 image) ≡ Err finding)
       → IfSome told (λ image.
       BasesStand image sup chunks roots sum_free full pairs → superblock_in (overlaid pending 0 image) ≡ Ok fresh
       → IsDifference image (overlaid pending 0 image) (written_in pending) (Refused finding)
-      × ReadsFew (disk.reads start) (disk.reads new) (Refused finding))
-  found_by finding None other alike tells = tt
-  found_by finding (Some image) other alike tells =
-      let here =
-      subst (λ o. IfSome o (λ i. IsBased i was_sup was_map roots pairs → superblock_in (overlaid pending 0 i) ≡ Ok fresh
-      → contents (overlaid pending 0 i) ≡ Err finding)) alike tells in
-      λ stand super_is. (here (based_by image stand) super_is, tt)
+      × ReadsFew (disk.reads old) (disk.reads new) (Refused finding))
+  found_by finding None tells = tt
+  found_by finding (Some image) tells = λ stand super_is. (tells (based_by image stand) super_is, tt)
 
-  change_by : (change : Change) (told other : Option (List ℕ)) → other ≡ told
-      → IfSome other (λ image. IsBased image was_sup was_map roots pairs → superblock_in (overlaid pending 0 image) ≡ Ok fresh
+  change_by : (change : Change) (told : Option (List ℕ))
+      → IfSome told (λ image. IsBased image was_sup was_map roots pairs → superblock_in (overlaid pending 0 image) ≡ Ok fresh
       → IsDifference image (overlaid pending 0 image) (written_in pending) (Changed change)
       × ReadsFew (disk.reads old) (disk.reads new) (Changed change))
       → IfSome told (λ image.
       BasesStand image sup chunks roots sum_free full pairs → superblock_in (overlaid pending 0 image) ≡ Ok fresh
       → IsDifference image (overlaid pending 0 image) (written_in pending) (Changed change)
-      × ReadsFew (disk.reads start) (disk.reads new) (Changed change))
-  change_by change None other alike tells = tt
-  change_by change (Some image) other alike tells =
-      let here =
-      subst (λ o. IfSome o (λ i. IsBased i was_sup was_map roots pairs → superblock_in (overlaid pending 0 i) ≡ Ok fresh
-      → IsDifference i (overlaid pending 0 i) (written_in pending) (Changed change)
-      × ReadsFew (disk.reads old) (disk.reads new) (Changed change))) alike tells in
-      λ stand super_is.
-      let both = here (based_by image stand) super_is in
-      (both.0, subst (λ n. ReadsFew n (disk.reads new) (Changed change)) same_reads both.1)
+      × ReadsFew (disk.reads old) (disk.reads new) (Changed change))
+  change_by change None tells = tt
+  change_by change (Some image) tells = λ stand super_is. tells (based_by image stand) super_is
 
   -- the answers, by what the step says
   pub finds : {E : Type 0} (finding : Finding) (result : Result Change Halt) → told result ≡ Ok (Err finding)
       → TellsOld disk old new was_sup was_map pending fresh roots pairs result
-      → GivesDifference {E = E} disk start new pending sup chunks roots sum_free full pairs fresh (Ok (Refused finding))
+      → GivesDifference {E = E} disk old new pending sup chunks roots sum_free full pairs fresh (Ok (Refused finding))
   finds finding result is tells = record {
-    told = found_by finding (disk.bytes start) (disk.bytes old) same_bytes
+    told = found_by finding (disk.bytes old)
         (subst (λ r. TellsOld disk old new was_sup was_map pending fresh roots pairs r) (found_is result finding is) tells);
-    bytes = kept_bytes ∙ same_bytes;
+    bytes = kept_bytes;
   }
 
   pub changes : {E : Type 0} (change : Change) (result : Result Change Halt) → told result ≡ Ok (Ok change)
       → TellsOld disk old new was_sup was_map pending fresh roots pairs result
-      → GivesDifference {E = E} disk start new pending sup chunks roots sum_free full pairs fresh (Ok (Changed change))
+      → GivesDifference {E = E} disk old new pending sup chunks roots sum_free full pairs fresh (Ok (Changed change))
   changes change result is tells = record {
-    told = change_by change (disk.bytes start) (disk.bytes old) same_bytes
+    told = change_by change (disk.bytes old)
         (subst (λ r. TellsOld disk old new was_sup was_map pending fresh roots pairs r) (change_is result change is) tells);
-    bytes = kept_bytes ∙ same_bytes;
+    bytes = kept_bytes;
   }

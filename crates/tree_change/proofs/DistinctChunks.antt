@@ -207,14 +207,14 @@ with_few (d ∷ rest) kept =
 
 -- ---- where two lists place all addresses alike, the same blocks move from an old list to them
 
-pub moved_alike : (old some whole : List Chunk) → ((address n end : ℕ) → place some address n end ≡ place whole address n end)
+pub shifted_alike : (old some whole : List Chunk) → ((address n end : ℕ) → place some address n end ≡ place whole address n end)
     → (nodesize end address : ℕ) → is_moved old some nodesize end address ≡ is_moved old whole nodesize end address
-moved_alike old some whole same nodesize end address = ap (λ p. not (same_place (place old address nodesize end) p)) (same address nodesize end)
+shifted_alike old some whole same nodesize end address = ap (λ p. not (same_place (place old address nodesize end) p)) (same address nodesize end)
 
 pub held_alike : (old some whole : List Chunk) → ((address n end : ℕ) → place some address n end ≡ place whole address n end)
     → (nodesize end address : ℕ) → held_and_moved old some nodesize end address ≡ held_and_moved old whole nodesize end address
 held_alike old some whole same nodesize end address =
-    ap (λ b. is_some (home old address nodesize) && b) (moved_alike old some whole same nodesize end address)
+    ap (λ b. is_some (home old address nodesize) && b) (shifted_alike old some whole same nodesize end address)
 
 -- what the code has, once all chunks were looked at
 pub distinct_kept : (whole items some : List Chunk) (i : ℕ) → items ≡ whole → length items ≤ i → some ≡ distinct (take i items)

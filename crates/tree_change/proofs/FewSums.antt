@@ -102,5 +102,5 @@ pub as_change : (before after k l m o e l' m' o' e' : ℕ) → after ≤ before 
     → after ≤ before + (k + 58 * l' + 35 * m' + 56 * o' + 4 * e')
 as_change before after k l m o e l' m' o' e' x a b c d = omega (arith, x, a, b, c, d)
 
-pub as_moved : (s e n o m e' n' o' : ℕ) → s ≤ 2 + (e + 8 * n + o) → m ≡ s → e' ≡ e → n' ≡ n → o' ≡ o → m ≤ 2 + (e' + 8 * n' + o')
-as_moved s e n o m e' n' o' x a b c d = omega (arith, x, a, b, c, d)
+pub as_shifted : (s e n o m e' n' o' : ℕ) → s ≤ 2 + (e + 8 * n + o) → m ≡ s → e' ≡ e → n' ≡ n → o' ≡ o → m ≤ 2 + (e' + 8 * n' + o')
+as_shifted s e n o m e' n' o' x a b c d = omega (arith, x, a, b, c, d)

@@ -1,10 +1,9 @@
 -- Two walks of which no block is shared: all of the first is gone, and all of the second came.
-use Rattle.std.proofs.Common.{◌≡◌, ℕ, suc, ◌<◌, ◌==◌, Bool, true, false, not, ◌&&◌, ◌||◌, List, [], ◌∷◌, ◌++◌, length, refl, ap, sym, subst, ◌∙◌, arith}
+use Rattle.std.proofs.Common.{◌≡◌, ℕ, suc, ◌==◌, Bool, true, false, not, ◌&&◌, ◌||◌, List, [], ◌∷◌, ◌++◌, length, refl, ap, sym, subst, ◌∙◌, arith}
 use Rattle.std.proofs.lemmas.Bool.Decides.{nat_tests}
 use Rattle.std.proofs.lemmas.Grind.{common_steps}
-use Rattle.std.proofs.lemmas.List.{get_or-map, length-map}
 use Rattle.std.proofs.lemmas.List.Elements.{filter_map-append}
-use Rattle.std.specs.Prelude.{Option, Some, None, is_some, Ok, map}
+use Rattle.std.specs.Prelude.{None, is_some, Ok, map}
 use Rattle.std.specs.List.{AllByRecursion, AllPairs, cons_option, filter, filter_map, list_any}
 use Rattle.verdict.proofs.Lists.{all_map as each_map}
 use Rattle.verdict.specs.OnDisk.{key_same}
@@ -14,14 +13,13 @@ use Rattle.live_index.specs.Pairs.{Pairs}
 use Rattle.live_index.specs.declared.live.Live.{Live}
 use Rattle.node_reader.specs.Stored.{Stored}
 use Rattle.node_reader.specs.declared.expect.Expect.{Expect}
-use Rattle.records.specs.Part.{Located}
 use Rattle.records.specs.Seen.{Seen}
 use Rattle.records.specs.Seen.Seen.{BlockSeen, ItemSeen, PointerSeen}
 use Rattle.records.specs.Walk.{block_at, walk_of}
 use Rattle.records.specs.WalkLaw.{visited}
 use Rattle.tree_laws.specs.Keeping.{Comes, Stands, last_in, live_at}
 use Rattle.tree_laws.specs.LivePairs.{live_in}
-use Rattle.tree_laws.specs.MergedLaw.{AreRead, begins_before, chunks_seen, items, root_before, root_in, roots_seen}
+use Rattle.tree_laws.specs.MergedLaw.{AreRead, begins_before, chunks_seen, items, root_before, roots_seen}
 use Rattle.tree_laws.specs.OldSide.{kept_where}
 use Rattle.tree_laws.specs.Skips.{Kept, nothing, unkept}
 use Rattle.tree_laws.specs.Unshared.{AreOfPairs, is_block_seen, pair_seen}
@@ -32,10 +30,9 @@ use Rattle.tree_laws.proofs.MergedLists.{chunks_merge, roots_merge}
 use Rattle.tree_laws.proofs.OldBlocks.{unshared_are}
 use Rattle.tree_laws.proofs.Trails.{Matches, Visit, all_own}
 use Rattle.tree_change.specs.Gathered.{block_seen, blocks_seen}
-use Rattle.tree_change.specs.Merging.{chunks_left, has_named, named_before, roots_among, roots_left}
+use Rattle.tree_change.specs.Merging.{chunks_left, roots_left}
 use Rattle.tree_change.specs.Walks.{last_at, live_with, lives_of, pairs_at}
 use Rattle.tree_change.proofs.Whole.{KeepsNone, unkept_whole}
-use Rattle.volume_items.specs.declared.root_at.RootAt.{RootAt}
 
 -- the known pairs of the blocks among records, and how many these are
 pub pairs_seen : (pairs : Pairs) (records : List Seen) → filter_map (pair_seen pairs) records ≡ pairs_at pairs (blocks_seen records)
@@ -176,30 +173,10 @@ chunks_all olds news =
     itself : (n : ℕ) → (n == n) ≡ true
     itself n = grind (arith, nat_tests)
 
-pub roots_are : (some : List Located) → roots_among some ≡ map root_at (filter_map (λ (one : Located). root_in one.part) some)
-roots_are [] = refl
-roots_are (one ∷ some) = by (root_in one.part) (roots_are some)
-  where
-    by : (root : Option RootAt) → roots_among some ≡ map root_at (filter_map (λ (one : Located). root_in one.part) some)
-        → cons_option (root_at_of root) (roots_among some) ≡ map root_at (cons_option root (filter_map (λ (one : Located). root_in one.part) some))
-    by None rest = rest
-    by (Some root) rest = ap (λ roots. root_at root ∷ roots) rest
-
 -- the same of root items
-pub roots_all : (olds news : List Seen) → roots_left (roots_seen olds) (items olds) (items news) ≡ (roots_seen news)
+pub roots_all : (olds news : List Seen) → roots_left (roots_seen olds) (items olds) (items news) ≡ roots_seen news
 roots_all olds news =
-    ap (λ gone. filter (λ root. not (has_named gone root)) (roots_seen olds) ++ roots_among (items news)) (roots_are (items olds))
-    ∙ (ap (λ left. left ++ roots_among (items news)) (none_left (λ a b. key_same a.key b.key) (λ a. itself a.key) (roots_seen olds))
-    ∙ roots_are (items news))
+    ap (λ left. left ++ roots_seen news) (none_left (λ a b. key_same a.key b.key) (λ a. itself a.key) (roots_seen olds))
   where
     itself : (k : Key) → key_same k k ≡ true
     itself k = grind (arith, common_steps)
-
--- root items in the order of their keys are so as what they say of where trees begin
-pub named_ascend : (xs : List RootAt) → AllPairs (λ a b. root_before a b ≡ true) xs → AllPairs (λ a b. named_before a b ≡ true) xs
-named_ascend [] all = λ i j d less within. absurd (omega (arith, within))
-named_ascend (x ∷ xs) all = λ i j d less within.
-    let n = length-map (x ∷ xs) root_at in
-    let inside : j < length (x ∷ xs) = subst (λ n. j < n) n within in
-    let before : i < length (x ∷ xs) = omega (arith, less, inside) in
-    rw (get_or-(x ∷ xs) i x d before, get_or-(x ∷ xs) j x d inside) (all i j x less inside)

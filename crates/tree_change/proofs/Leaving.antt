@@ -11,8 +11,8 @@ use Rattle.records.specs.declared.rec.WalkedBlock.{WalkedBlock}
 use Rattle.tree_laws.specs.declared.told.Ended.{Ended}
 use Rattle.tree_laws.specs.declared.told.Met.{Met}
 use Rattle.tree_laws.specs.Known.{blocks_met}
-use Rattle.tree_change.specs.Leaves.{lives_by, moved_by, moved_by_one}
-use Rattle.tree_change.specs.Walks.{last_at, live_with, lives_of, moved_of}
+use Rattle.tree_change.specs.Leaves.{lives_by, shifted_among, shifted_by_one}
+use Rattle.tree_change.specs.Walks.{last_at, live_with, lives_of, shifted_of}
 
 -- the greatest keys are as they were told: so are the live pairs by them
 pub lives_alike : (lasts : ℕ → Key) (ended : List Ended) (blocks : List WalkedBlock) → ((address : ℕ) → lasts address ≡ last_at ended address)
@@ -22,10 +22,10 @@ lives_alike lasts ended (block ∷ blocks) same =
     ap (λ last. live_with block last ∷ lives_by lasts blocks) (same block.address)
     ∙ ap (λ more. live_with block (last_at ended block.address) ∷ more) (lives_alike lasts ended blocks same)
 
-pub moved_alike : (pairs : Pairs) (lasts : ℕ → Key) (ended : List Ended) (met : List Expect) → ((address : ℕ) → lasts address ≡ last_at ended address)
-    → moved_by pairs lasts met ≡ moved_of pairs ended met
-moved_alike pairs lasts ended [] same = refl
-moved_alike pairs lasts ended (e ∷ met) same = rw (same e.address, moved_alike pairs lasts ended met same) refl
+pub shifted_alike : (pairs : Pairs) (lasts : ℕ → Key) (ended : List Ended) (met : List Expect) → ((address : ℕ) → lasts address ≡ last_at ended address)
+    → shifted_among pairs lasts met ≡ shifted_of pairs ended met
+shifted_alike pairs lasts ended [] same = refl
+shifted_alike pairs lasts ended (e ∷ met) same = rw (same e.address, shifted_alike pairs lasts ended met same) refl
 
 -- one block more, where it may give a pair
 one : {B : Type 0} (some : Option B) (h : Option B) → some ≡ h → option_to_list some ≡ filter_map (λ (x : Option B). x) (h ∷ [])
@@ -41,7 +41,7 @@ some_more f old now new some xs i d inside so is more =
     ∙ ap (λ l. old ++ l) (sym (ap (filter_map f) (take_more xs i d inside) ∙ filter_map-append f (take i xs) (get_or xs i d ∷ [])))
 
 -- the pairs of blocks that were met, by what is held of them
-pub moved_met : (pairs : Pairs) (lasts : ℕ → Key) (met : List Met)
-    → filter_map (λ (one : Met). moved_by_one pairs lasts one.expect) met ≡ moved_by pairs lasts (blocks_met met)
-moved_met pairs lasts [] = refl
-moved_met pairs lasts (one ∷ met) = ap (cons_option (moved_by_one pairs lasts one.expect)) (moved_met pairs lasts met)
+pub shifted_met : (pairs : Pairs) (lasts : ℕ → Key) (met : List Met)
+    → filter_map (λ (one : Met). shifted_by_one pairs lasts one.expect) met ≡ shifted_among pairs lasts (blocks_met met)
+shifted_met pairs lasts [] = refl
+shifted_met pairs lasts (one ∷ met) = ap (cons_option (shifted_by_one pairs lasts one.expect)) (shifted_met pairs lasts met)

@@ -38,6 +38,7 @@ use Rattle.tree_laws.proofs.MergedLists.{roots_are_seen, walk_fits}
 use Rattle.tree_laws.proofs.Treed.{steps_of}
 use Rattle.tree_change.proofs.Olds.{same_ok}
 use Rattle.volume_items.specs.declared.root_at.RootAt.{RootAt}
+use Rattle.volume_items.specs.RootPlace.{root_at}
 
 low_of : (n : ℕ) → nat_lt 7 n ≡ false → n < 8
 low_of n is = let most = ltb-false 7 n is in omega (arith, most)
@@ -67,7 +68,7 @@ abbrev pub IsLow : RootAt → Type 0
 IsLow root = root.level < 8
 
 abbrev FitsLevel : Key → Part → Type 0
-FitsLevel key (RootPart root) = IsLow root
+FitsLevel key (RootPart root) = IsLow (root_at root)
 FitsLevel key other = Unit {0}
 
 level_fits : (at : At) (key : Key) (bytes : List ℕ) (part : Part) → at.sort ≡ Root → item_record at key bytes ≡ Ok part → FitsLevel key part

@@ -12,7 +12,6 @@ pub mod Whole
 pub mod Leaving
 pub mod RisingLoops
 pub mod LastKeys
-pub mod RootRules
 pub mod Naming
 pub mod Adding
 pub mod Staying
@@ -21,7 +20,6 @@ pub mod OneWalked
 pub mod OneKept
 pub mod OneNew
 pub mod OneShifted
-pub mod OneRoots
 pub mod OneSupers
 pub mod OnePlain
 pub mod OneGives
@@ -82,7 +80,7 @@ pub mod OneRead
 pub mod TreeLooks
 pub mod TreeSums
 pub mod ArrayFew
-pub mod MovedSums
+pub mod ShiftedSums
 pub mod MovesFew
 pub mod FewSums
 pub mod AllFew

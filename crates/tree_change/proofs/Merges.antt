@@ -25,8 +25,8 @@ use Rattle.verdict.specs.declared.key.Key.{Key}
 use Rattle.records.specs.Part.{Located}
 use Rattle.volume_items.specs.declared.root_at.RootAt.{RootAt}
 use Rattle.live_index.specs.Orders.{by_key}
-use Rattle.tree_laws.specs.MergedLaw.{begins_before, begins_with}
-use Rattle.tree_change.specs.Merging.{IsSortedOf, chunks_among, chunks_left, has_named, named_before, roots_among, roots_left}
+use Rattle.tree_laws.specs.MergedLaw.{begins_before, begins_with, root_before, has_root_key}
+use Rattle.tree_change.specs.Merging.{IsSortedOf, chunks_among, chunks_left, roots_among, roots_left}
 use Rattle.tree_change.specs.Merges.{fits, has_key, has_start}
 
 -- a chunk ends at an address of 64 bits
@@ -71,13 +71,13 @@ pub merged_roots : (none old kept whole roots : List RootAt) (keys : BTreeSet Ke
     → none ≡ []
     → ((key : Key) → contains by_key keys key ≡ has_key (roots_among gone) key)
     → kept ≡ none ++ filter (λ (root : RootAt). not (contains by_key keys root.key)) old
-    → whole ≡ kept ++ roots_among came → IsSortedOf named_before whole roots → IsSortedOf named_before (roots_left old gone came) roots
-merged_roots none old kept whole roots keys gone came empty has keeps adds is = subst (λ w. IsSortedOf named_before w roots) whole_is is
+    → whole ≡ kept ++ roots_among came → IsSortedOf root_before whole roots → IsSortedOf root_before (roots_left old gone came) roots
+merged_roots none old kept whole roots keys gone came empty has keeps adds is = subst (λ w. IsSortedOf root_before w roots) whole_is is
   where
     whole_is : whole ≡ roots_left old gone came
     whole_is = adds ∙ ap (λ l. l ++ roots_among came)
         (keeps ∙ ap (λ l. l ++ filter (λ (root : RootAt). not (contains by_key keys root.key)) old) empty
-        ∙ filter_alike (λ (root : RootAt). not (contains by_key keys root.key)) (λ (root : RootAt). not (has_named (roots_among gone) root))
+        ∙ filter_alike (λ (root : RootAt). not (contains by_key keys root.key)) (λ (root : RootAt). not (has_root_key (roots_among gone) root))
         (λ root. ap not (has root.key)) old)
 
 -- one item more, where it may give something

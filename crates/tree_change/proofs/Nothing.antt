@@ -22,7 +22,7 @@ use Rattle.tree_laws.specs.Keeping.{Stands}
 use Rattle.tree_laws.specs.KeepingWalk.{skip_in}
 use Rattle.tree_laws.specs.LivePairs.{Walked, live_in, table_of}
 use Rattle.tree_laws.specs.Meeting.{met_in}
-use Rattle.tree_laws.specs.MergedLaw.{IsInOrder, begins_before, chunks_seen, items, roots_seen}
+use Rattle.tree_laws.specs.MergedLaw.{IsInOrder, begins_before, chunks_seen, items, roots_seen, root_before}
 use Rattle.tree_laws.specs.OldSide.{IsRoot, kept_at}
 use Rattle.tree_laws.specs.Shared.{is_shared_by}
 use Rattle.tree_laws.specs.SharedLaw.{HasTrees}
@@ -31,11 +31,11 @@ use Rattle.tree_laws.specs.TableLaw.{Tree}
 use Rattle.tree_laws.specs.Unshared.{AreOfPairs, items_in}
 use Rattle.tree_laws.proofs.Forest.{stands_as, tree_table}
 use Rattle.tree_change.specs.Gathered.{Gathers, blocks_seen}
-use Rattle.tree_change.specs.Merging.{chunks_left, named_before, roots_left}
+use Rattle.tree_change.specs.Merging.{chunks_left, roots_left}
 use Rattle.tree_change.specs.OneTree.{ChangesTree, GivesTree, HasRecords, IsAmong, IsOldOf, KnowsNothing, old_tree, unchanged, side_of}
 use Rattle.tree_change.specs.Walks.{Known, NewWalk, Parts, Side, kept_by, lasts_by, listed_by, lives_of, new_walk, no_tree, old_or_none, pairs_at, parts_of, tree_parts}
 use Rattle.tree_change.proofs.Ended.{behind_all, ends_whole, lasts_told}
-use Rattle.tree_change.proofs.Free.{all_free, all_of, chunks_all, chunks_ascend, count_seen, lives_told, named_ascend, none_shared, pairs_seen, roots_all, roots_ascend}
+use Rattle.tree_change.proofs.Free.{all_free, all_of, chunks_all, chunks_ascend, count_seen, lives_told, none_shared, pairs_seen, roots_all, roots_ascend}
 use Rattle.tree_change.proofs.Olds.{fine_step, gathered, ok_never, old_fine, old_given, old_stands, same_ok, step_err}
 use Rattle.tree_change.proofs.Whole.{KeepsNone, met_none, none_at, none_of, skip_whole}
 
@@ -184,7 +184,7 @@ module _ (image : List ℕ) (pending : FinMap nat_cmp ℕ) (old : Walked) (trees
       record {
         old_blocks = old_blocks;
         new_blocks = new_blocks;
-        moved = sym (none_shared shared f (is_shifted (live_in o.olds)) (live_in n.news));
+        shifted = sym (none_shared shared f (is_shifted (live_in o.olds)) (live_in n.news));
         old_items = was.items ∙ ap (λ lives. items_in lives o.olds) (sym old_blocks);
         new_items = came.items ∙ ap (λ lives. items_in lives n.news) (sym new_blocks);
         count =
@@ -193,12 +193,11 @@ module _ (image : List ℕ) (pending : FinMap nat_cmp ℕ) (old : Walked) (trees
         chunks = λ tree. in_order begins_before (chunks_left (chunks_seen o.olds) (items o.olds) (items n.news)) (chunks_seen n.news)
             (chunks_all o.olds n.news)
             (record { all = IsPermutation-refl (chunks_seen n.news); ascends = chunks_ascend shared f is.sup stored now n.news n.walk tree });
-        roots = λ tree. in_order named_before (roots_left (roots_seen o.olds) (items o.olds) (items n.news))
-            (roots_seen n.news)
+        roots = λ tree. in_order root_before (roots_left (roots_seen o.olds) (items o.olds) (items n.news)) (roots_seen n.news)
             (roots_all o.olds n.news)
             (record {
               all = IsPermutation-refl (roots_seen n.news);
-              ascends = named_ascend (roots_seen n.news) (roots_ascend shared f is.sup stored now n.news n.walk tree);
+              ascends = roots_ascend shared f is.sup stored now n.news n.walk tree;
             });
       }
 

@@ -17,7 +17,7 @@ use Rattle.node_reader.specs.declared.expect.Expect.{Expect}
 use Rattle.tree_change.specs.Gathered.{Gathers}
 use Rattle.tree_change.specs.Making.{TellsParts, is_side, parts_in, was_side}
 use Rattle.tree_change.specs.Told.{known_by, side_with}
-use Rattle.tree_change.specs.Walks.{Known, NewWalk, Parts, Side, lives_of, moved_of, new_walk, old_or_none, pairs_at, parts_of, tree_parts}
+use Rattle.tree_change.specs.Walks.{Known, NewWalk, Parts, Side, lives_of, shifted_of, new_walk, old_or_none, pairs_at, parts_of, tree_parts}
 use Rattle.tree_change.specs.declared.sides.Sides.{Sides}
 use Rattle.tree_change.specs.declared.trees.TreeParts.{TreeParts}
 
@@ -54,7 +54,7 @@ abbrev made_of : List Live → List Live → List Live → Gathers → Gathers �
 made_of old_blocks new_blocks moved old new count = record {
   old_blocks = old_blocks;
   new_blocks = new_blocks;
-  moved = moved;
+  shifted = moved;
   old_items = old.items;
   new_items = new.items;
   count = count;
@@ -74,7 +74,7 @@ pub tree_told : {L : Type 0} (sides : Sides L) (told : Option (List ℕ)) (befor
     → IfSome told (λ _. last ≤ middle + length old.blocks)
     → old_start ≡ [] → old_blocks ≡ old_start ++ pairs_at (pairs_of sides.table.now) old.blocks
     → new_start ≡ [] → moved_start ≡ []
-    → (new_blocks ≡ new_start ++ lives_of new.ended new.read.blocks) × (moved ≡ moved_start ++ moved_of (pairs_of sides.table.now) new.ended new.met)
+    → (new_blocks ≡ new_start ++ lives_of new.ended new.read.blocks) × (moved ≡ moved_start ++ shifted_of (pairs_of sides.table.now) new.ended new.met)
     → IfSome told (λ image. (count : ℕ) × (parts_in sides before now image ≡ Ok (made_of old_blocks new_blocks moved old new.read count))
     × (last ≤ first + count))
 tree_told sides None before now new old old_blocks old_start new_blocks new_start moved moved_start first middle last none new_is old_is few more a b c d e = tt
@@ -86,9 +86,9 @@ tree_told sides (Some image) before now new old old_blocks old_start new_blocks 
       count,
       both_give pairs (known_by sides.known) (was_side sides image) (is_side sides image) before now new old new_is old_walk
           ∙ ap fine (sym (made_same old_blocks (pairs_at pairs old.blocks) new_blocks (lives_of new.ended new.read.blocks) moved
-          (moved_of pairs new.ended new.met) old new.read count
+          (shifted_of pairs new.ended new.met) old new.read count
           (b ∙ ap (λ l. l ++ pairs_at pairs old.blocks) a) (e.0 ∙ ap (λ l. l ++ lives_of new.ended new.read.blocks) c)
-          (e.1 ∙ ap (λ l. l ++ moved_of pairs new.ended new.met) d))),
+          (e.1 ∙ ap (λ l. l ++ shifted_of pairs new.ended new.met) d))),
       omega (arith, few, more),
     )
   where

@@ -1,6 +1,6 @@
 -- What changes in a tree, from what is known of its two walks.
 use Rattle.std.proofs.Common.{◌≡◌, ℕ, ◌+◌, ◌*◌, true, not, List, [], ◌∷◌, length, suc, refl, ap, sym, subst, ◌∙◌}
-use Rattle.std.specs.Prelude.{Option, Some, None, Result, Ok, Err, map}
+use Rattle.std.specs.Prelude.{Option, Some, None, Result, Ok, Err}
 use Rattle.std.specs.List.{AllByRecursion, filter}
 use Rattle.std.specs.Ordering.{nat_cmp}
 use Rattle.std.specs.FinMap.{FinMap}
@@ -22,7 +22,7 @@ use Rattle.tree_laws.specs.KeepingWalk.{skip_in}
 use Rattle.tree_laws.specs.OldSide.{kept_at}
 use Rattle.tree_laws.specs.LivePairs.{Walked, live_in}
 use Rattle.tree_laws.specs.Meeting.{met_in, met_of}
-use Rattle.tree_laws.specs.MergedLaw.{IsInOrder, begins_before, chunks_seen, items, roots_seen}
+use Rattle.tree_laws.specs.MergedLaw.{IsInOrder, begins_before, chunks_seen, items, roots_seen, root_before}
 use Rattle.tree_laws.specs.MovedLaw.{is_other_than}
 use Rattle.tree_laws.specs.ShiftedLaw.{is_shifted}
 use Rattle.tree_laws.specs.SkipLaw.{IsSound}
@@ -31,7 +31,7 @@ use Rattle.tree_laws.specs.Stops.{stops_of}
 use Rattle.tree_laws.specs.Unshared.{AreOfPairs, is_block_seen, items_in}
 use Rattle.tree_laws.proofs.Skipping.{skips}
 use Rattle.tree_change.specs.Gathered.{Gathers, blocks_seen}
-use Rattle.tree_change.specs.Merging.{chunks_left, named_before, roots_left}
+use Rattle.tree_change.specs.Merging.{chunks_left, roots_left}
 use Rattle.tree_change.specs.OneTree.{ChangesTree, GivesTree, HasRecords, unchanged, side_of}
 use Rattle.tree_change.specs.Walks.{Known, NewWalk, Parts, Side, kept_by, lasts_by, listed_by, new_walk, old_or_none, parts_of, tree_parts}
 use Rattle.tree_change.proofs.OneNew.{IsNew, met_is, moved_is, new_blocks, of_pairs}
@@ -76,7 +76,7 @@ module _ (image : List ℕ) (pending : FinMap nat_cmp ℕ) (old : Walked) (pairs
     pub chunks : (come : List Seen) → unkept (kept_by known) nothing is.sup stored now ≡ Ok come → now.tree ≡ 3
         → IsInOrder begins_before (chunks_left (chunks_seen olds) (items gone) (items come)) (chunks_seen news)
     pub roots : (come : List Seen) → unkept (kept_by known) nothing is.sup stored now ≡ Ok come → now.tree ≡ 1
-        → IsInOrder named_before (roots_left (roots_seen olds) (items gone) (items come)) (roots_seen news)
+        → IsInOrder root_before (roots_left (roots_seen olds) (items gone) (items come)) (roots_seen news)
 
   -- the new walk, by the records without those of kept blocks
   new_is : IsSound now.tree (kept_by known) nothing (listed_by known) is.sup stored
@@ -111,7 +111,7 @@ module _ (image : List ℕ) (pending : FinMap nat_cmp ℕ) (old : Walked) (pairs
       record {
         old_blocks = old_are;
         new_blocks = new_are;
-        moved = moved_is pairs (kept_by known) (listed_by known) (lasts_by known) shared is.sup stored now news new come come_is
+        shifted = moved_is pairs (kept_by known) (listed_by known) (lasts_by known) shared is.sup stored now news new come come_is
             ∙ shifted_kept pairs (kept_by known) shared is.sup stored now (live_in both.olds) news new.is new.keeps both.shifts;
         old_items = both.old_pairs.items ∙ ap (λ lives. items_in lives both.olds) (sym old_are);
         new_items = here.items ∙ ap (λ lives. items_in lives news) (sym new_are);

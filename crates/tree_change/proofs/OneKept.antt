@@ -27,7 +27,7 @@ use Rattle.tree_laws.proofs.Tables.{Any, any_each}
 use Rattle.tree_laws.proofs.Trails.{trail_below, trail_of}
 use Rattle.tree_laws.proofs.Visiting.{Visits, comes_from, visits_from}
 use Rattle.tree_laws.proofs.Within.{Below, within}
-use Rattle.tree_change.specs.Walks.{moved_to}
+use Rattle.tree_change.specs.Walks.{shifted_to}
 
 some_at : (entry : Option Live) (live : Live) (P : Live → Type 0) → entry ≡ Some live → IfSome entry P → P live
 some_at None live P is has = absurd (cc)
@@ -36,7 +36,7 @@ some_at (Some one) live P is has = let same : one ≡ live = cc in subst P same 
 -- a pair of the same block, with the node above and the greatest key of another
 lives_same : (e v : Expect) (last : Key) (x y : Result (List ℕ) CopyFault) (other : Key) (parent : ℕ) → v.tree ≡ e.tree → v.address ≡ e.address
     → v.level ≡ e.level → v.generation ≡ e.generation → x ≡ y
-    → moved_to (record {
+    → shifted_to (record {
       tree = v.tree;
       address = v.address;
       level = v.level;
@@ -63,7 +63,7 @@ lives_same e v last x y other parent tree address level generation bytes = rw (t
 pub record WasKept (pairs : Pairs) (moving : Marks) (under : Under) (sup : Super) (new : Stored) (e : Expect) : Type 0 where
   pub was : Live
   pub known : pairs e.tree e.address ≡ Some was
-  pub is : moved_to was e.parent (last_in (walk_of sup new e)) ≡ live_at sup new e
+  pub is : shifted_to was e.parent (last_in (walk_of sup new e)) ≡ live_at sup new e
   pub lists : under e.tree e.address ≡ starts_at e.level (moving e.tree) (new e.address)
 
 pub was_kept : (pairs : Pairs) (marked moving : Marks) (touched moved : ℕ → Bool) (under : Under) (sup : Super) (old new : Stored) (root : Expect)

@@ -39,7 +39,7 @@ use Rattle.tree_laws.proofs.MeetingStops.{meets, no_walk}
 use Rattle.tree_laws.proofs.OldBlocks.{unshared_are}
 use Rattle.tree_laws.proofs.Skipping.{skips}
 use Rattle.tree_change.specs.Gathered.{blocks_seen}
-use Rattle.tree_change.specs.Walks.{last_at, live_with, lives_of, moved_of, moved_pair, moved_to, pairs_at, with_last}
+use Rattle.tree_change.specs.Walks.{last_at, live_with, lives_of, shifted_of, shifted_pair, shifted_to, pairs_at, with_last}
 use Rattle.tree_change.proofs.OneKept.{IsGood, all_good}
 use Rattle.tree_change.proofs.OneWalked.{IsRead, IsStop, reads_walked, stops_walked, walked_good}
 
@@ -47,7 +47,7 @@ use Rattle.tree_change.proofs.OneWalked.{IsRead, IsStop, reads_walked, stops_wal
 pub record IsKeptBlock (pairs : Pairs) (anew : Anew) (sup : Super) (stored : Stored) (v : Expect) : Type 0 where
   pub was : Live
   pub known : pairs v.tree v.address ≡ Some was
-  pub is : moved_to was v.parent (last_in (walk_of sup stored v)) ≡ live_at sup stored v
+  pub is : shifted_to was v.parent (last_in (walk_of sup stored v)) ≡ live_at sup stored v
   pub test : ℕ → Bool
   pub lists : anew v ≡ starts_of (v.level - 1) v (starts_at v.level test (stored v.address))
 
@@ -219,7 +219,7 @@ module _ (pairs : Pairs) (kept : Kept) (anew : Anew) (lasts : Lasts) (shared : L
   record IsStopped (e : Expect) : Type 0 where
     was : Live
     known : pairs e.tree e.address ≡ Some was
-    is : moved_to was e.parent (last_in (walk_of sup stored e)) ≡ live_at sup stored e
+    is : shifted_to was e.parent (last_in (walk_of sup stored e)) ≡ live_at sup stored e
     last : last_at ended e.address ≡ last_in (walk_of sup stored e)
 
   stopped : (e : Expect) → OneOf (Stop e) walked → IsStopped e
@@ -235,30 +235,30 @@ module _ (pairs : Pairs) (kept : Kept) (anew : Anew) (lasts : Lasts) (shared : L
           record { was = b.was; known = b.known; is = b.is; last = last_is e good here }
 
   moved_one : (e : Expect) → IsStopped e → (lives : List Live)
-      → cons_option (moved_pair (pairs e.tree e.address) e.parent (last_at ended e.address)) lives
+      → cons_option (shifted_pair (pairs e.tree e.address) e.parent (last_at ended e.address)) lives
       ≡ (if is_other_than (pairs e.tree e.address) (live_at sup stored e) then live_at sup stored e ∷ lives else lives)
   moved_one e s lives =
-      ap (λ p. cons_option (moved_pair p e.parent (last_at ended e.address)) lives) s.known
-      ∙ (ap (λ k. cons_option (moved_pair (Some s.was) e.parent k) lives) s.last
+      ap (λ p. cons_option (shifted_pair p e.parent (last_at ended e.address)) lives) s.known
+      ∙ (ap (λ k. cons_option (shifted_pair (Some s.was) e.parent k) lives) s.last
       ∙ (by (s.was.parent == e.parent && key_same s.was.last (last_in (walk_of sup stored e)))
       ∙ ap (λ p. if is_other_than p (live_at sup stored e) then live_at sup stored e ∷ lives else lives) (sym s.known)))
     where
-      by : (b : Bool) → cons_option (if b then None else Some (moved_to s.was e.parent (last_in (walk_of sup stored e)))) lives
+      by : (b : Bool) → cons_option (if b then None else Some (shifted_to s.was e.parent (last_in (walk_of sup stored e)))) lives
           ≡ (if not b then live_at sup stored e ∷ lives else lives)
       by true = refl
       by false = ap (λ (l : Live). l ∷ lives) s.is
 
-  moved_all : (es : List Expect) → AllByRecursion IsStopped es → moved_of pairs ended es ≡ shifted_by pairs sup stored es
+  moved_all : (es : List Expect) → AllByRecursion IsStopped es → shifted_of pairs ended es ≡ shifted_by pairs sup stored es
   moved_all [] all = refl
   moved_all (e ∷ es) all =
-      moved_one e all.0 (moved_of pairs ended es)
+      moved_one e all.0 (shifted_of pairs ended es)
       ∙ ap (λ lives. if is_other_than (pairs e.tree e.address) (live_at sup stored e) then live_at sup stored e ∷ lives else lives)
       (moved_all es all.1)
 
   pub moved_is : (records : List Seen) → unkept kept nothing sup stored now ≡ Ok records
-      → moved_of pairs ended (met_of kept anew sup stored now) ≡ shifted_by pairs sup stored (kept_in kept sup stored now)
+      → shifted_of pairs ended (met_of kept anew sup stored now) ≡ shifted_by pairs sup stored (kept_in kept sup stored now)
   moved_is records is =
-      ap (moved_of pairs ended) (met_is records is)
+      ap (shifted_of pairs ended) (met_is records is)
       ∙ (moved_all (stops_of kept anew sup stored now)
       (all_map (λ e. OneOf (Stop e) walked) IsStopped (stops_of kept anew sup stored now) stopped
       (stops_walked now.tree kept anew sup stored Good block low lists now.level now refl refl (all_good sup stored now news n.is)))

@@ -26,7 +26,7 @@ use Rattle.tree_laws.specs.Ending.{Ends}
 use Rattle.tree_laws.specs.KeepingWalk.{skip_in}
 use Rattle.tree_laws.specs.Keeping.{AreListed, AreMarked, AreUntouched, Marks, Stands, Under, anew_of, kept_of, live_at, starts_of}
 use Rattle.tree_laws.specs.LivePairs.{Walked, live_in, table_of}
-use Rattle.tree_laws.specs.MergedLaw.{AreRead, AreShared, items, roots_seen}
+use Rattle.tree_laws.specs.MergedLaw.{AreRead, AreShared, items}
 use Rattle.tree_laws.specs.MovedLaw.{is_other_than, kept_in, shifted_by}
 use Rattle.tree_laws.specs.OldSide.{IsRoot, TellsShared, kept_at, kept_where}
 use Rattle.tree_laws.specs.Shared.{are_read_alike}
@@ -62,7 +62,6 @@ use Rattle.tree_change.proofs.OneGives.{AreBoth, gives_tree}
 use Rattle.tree_change.proofs.OneKept.{was_kept}
 use Rattle.tree_change.proofs.OneNew.{IsKeptBlock, IsNew}
 use Rattle.tree_change.proofs.OnePlain.{nothing_marked, untouched_alike}
-use Rattle.tree_change.proofs.OneRoots.{roots_named}
 use Rattle.tree_change.proofs.OneShifted.{shifts_as}
 use Rattle.tree_change.proofs.OneSupers.{unkept_alike, unkept_fine}
 
@@ -298,8 +297,8 @@ module _ (image : List ℕ) (pending : FinMap nat_cmp ℕ) (old : Walked) (trees
                 (of_root is.sup (stored, now) fine).each;
             chunks = λ come comes three. chunks_merge shared K old.sup was stored before now olds.0 news gone.0 come
                 (read olds.0 gone.0 come olds.1 gone.1 comes) three;
-            roots = λ come comes one. roots_named (roots_seen olds.0) (roots_seen news) gone.0 come
-                (roots_merge shared K old.sup was stored before now olds.0 news gone.0 come (read olds.0 gone.0 come olds.1 gone.1 comes) one);
+            roots = λ come comes one. roots_merge shared K old.sup was stored before now olds.0 news gone.0 come
+                (read olds.0 gone.0 come olds.1 gone.1 comes) one;
           }
 
     pub gives_old : GivesTree image pending old pairs is known (Some before) now

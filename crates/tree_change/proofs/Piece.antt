@@ -29,7 +29,7 @@ abbrev pub changed : Walked → Walked → Written → ℕ → Parts
 changed old new written end = record {
   old_blocks = changed_in old new written end old;
   new_blocks = changed_in old new written end new;
-  moved = unchanged_shifted old new written end;
+  shifted = unchanged_shifted old new written end;
   old_items = items_in (changed_in old new written end old) old.seen;
   new_items = items_in (changed_in old new written end new) new.seen;
   count = 0;
@@ -45,7 +45,7 @@ item_id one = one.tree
 pub record IsPiece (all : Parts) (id : ℕ) (parts : Parts) : Type 0 where
   pub old_blocks : parts.old_blocks ≡ of_id live_id id all.old_blocks
   pub new_blocks : parts.new_blocks ≡ of_id live_id id all.new_blocks
-  pub moved : parts.moved ≡ of_id live_id id all.moved
+  pub shifted : parts.shifted ≡ of_id live_id id all.shifted
   pub old_items : parts.old_items ≡ of_id item_id id all.old_items
   pub new_items : parts.new_items ≡ of_id item_id id all.new_items
   pub count : parts.count ≡ length parts.old_blocks + 2 * length parts.new_blocks
@@ -54,13 +54,13 @@ pub record IsPiece (all : Parts) (id : ℕ) (parts : Parts) : Type 0 where
 pub record ArePieces (all : Parts) (ids : List ℕ) (parts : Parts) : Type 0 where
   pub old_blocks : parts.old_blocks ≡ of_ids live_id ids all.old_blocks
   pub new_blocks : parts.new_blocks ≡ of_ids live_id ids all.new_blocks
-  pub moved : parts.moved ≡ of_ids live_id ids all.moved
+  pub shifted : parts.shifted ≡ of_ids live_id ids all.shifted
   pub old_items : parts.old_items ≡ of_ids item_id ids all.old_items
   pub new_items : parts.new_items ≡ of_ids item_id ids all.new_items
   pub count : parts.count ≡ length parts.old_blocks + 2 * length parts.new_blocks
 
 pub pieces_none : (all : Parts) → ArePieces all [] no_parts
-pieces_none all = record { old_blocks = refl; new_blocks = refl; moved = refl; old_items = refl; new_items = refl; count = refl }
+pieces_none all = record { old_blocks = refl; new_blocks = refl; shifted = refl; old_items = refl; new_items = refl; count = refl }
 
 -- the parts of one tree before those of others
 both : {X : Type 0} (a b c d : List X) → a ≡ c → b ≡ d → a ++ b ≡ c ++ d
@@ -75,7 +75,7 @@ pub pieces_with : (all : Parts) (id : ℕ) (ids : List ℕ) (p q : Parts) → Is
 pieces_with all id ids p q a b = record {
   old_blocks = both p.old_blocks q.old_blocks (of_id live_id id all.old_blocks) (of_ids live_id ids all.old_blocks) a.old_blocks b.old_blocks;
   new_blocks = both p.new_blocks q.new_blocks (of_id live_id id all.new_blocks) (of_ids live_id ids all.new_blocks) a.new_blocks b.new_blocks;
-  moved = both p.moved q.moved (of_id live_id id all.moved) (of_ids live_id ids all.moved) a.moved b.moved;
+  shifted = both p.shifted q.shifted (of_id live_id id all.shifted) (of_ids live_id ids all.shifted) a.shifted b.shifted;
   old_items = both p.old_items q.old_items (of_id item_id id all.old_items) (of_ids item_id ids all.old_items) a.old_items b.old_items;
   new_items = both p.new_items q.new_items (of_id item_id id all.new_items) (of_ids item_id ids all.new_items) a.new_items b.new_items;
   count = counts p.count q.count p.old_blocks p.new_blocks q.old_blocks q.new_blocks a.count b.count;
@@ -94,8 +94,8 @@ pieces_append all ids others p q a b = record {
       ∙ ids_both live_id ids others all.old_blocks;
   new_blocks = both p.new_blocks q.new_blocks (of_ids live_id ids all.new_blocks) (of_ids live_id others all.new_blocks) a.new_blocks b.new_blocks
       ∙ ids_both live_id ids others all.new_blocks;
-  moved = both p.moved q.moved (of_ids live_id ids all.moved) (of_ids live_id others all.moved) a.moved b.moved
-      ∙ ids_both live_id ids others all.moved;
+  shifted = both p.shifted q.shifted (of_ids live_id ids all.shifted) (of_ids live_id others all.shifted) a.shifted b.shifted
+      ∙ ids_both live_id ids others all.shifted;
   old_items = both p.old_items q.old_items (of_ids item_id ids all.old_items) (of_ids item_id others all.old_items) a.old_items b.old_items
       ∙ ids_both item_id ids others all.old_items;
   new_items = both p.new_items q.new_items (of_ids item_id ids all.new_items) (of_ids item_id others all.new_items) a.new_items b.new_items
@@ -135,7 +135,7 @@ piece_of image pending old new is now olds news parts id c of_old of_new same =
     record {
       old_blocks = old_blocks;
       new_blocks = new_blocks;
-      moved = c.moved ∙ (ap (filter (λ live. unchanged image pending old is news live && is_shifted (live_in olds) live)) of_new.lives
+      shifted = c.shifted ∙ (ap (filter (λ live. unchanged image pending old is news live && is_shifted (live_in olds) live)) of_new.lives
           ∙ filter_swap (λ live. live_id live == id) (λ live. shared live && is_shifted (live_in old.seen) live)
           (λ live. unchanged image pending old is news live && is_shifted (live_in olds) live) (λ live at. shifts live at) (live_in new.seen));
       old_items = c.old_items ∙ (ap (λ lives. items_in lives olds) old_blocks

@@ -72,11 +72,11 @@ module _ (image : List ℕ) (pending : FinMap nat_cmp ℕ) (old new : Walked) (t
   told live = shared_is image pending old new trees was marked marks.trees_are live
 
   -- the shifted pairs of the parts, in whatever order they are
-  moved_are : IsPermutation (unchanged_shifted old new (written_in pending) (length image)) parts.moved
+  moved_are : IsPermutation (unchanged_shifted old new (written_in pending) (length image)) parts.shifted
   moved_are =
-      let some = some_order is_before one_way chained parts.moved in
-      IsPermutation-trans (unchanged_shifted old new (written_in pending) (length image)) some.0 parts.moved
-      (all.moved some.0 (record { all = some.1; ascends = some.2 })).all (IsPermutation-sym parts.moved some.0 some.1)
+      let some = some_order is_before one_way chained parts.shifted in
+      IsPermutation-trans (unchanged_shifted old new (written_in pending) (length image)) some.0 parts.shifted
+      (all.shifted some.0 (record { all = some.1; ascends = some.2 })).all (IsPermutation-sym parts.shifted some.0 some.1)
 
   -- the old pairs that are not shared
   old_blocks : IsPermutation (unshared_in old new (written_in pending) (length image) old)
@@ -93,24 +93,24 @@ module _ (image : List ℕ) (pending : FinMap nat_cmp ℕ) (old new : Walked) (t
 
   -- the new pairs that are marked and stay as they are: those that shifted and the others
   new_risen : IsPermutation (filter (λ live. U live && M live) (live_in new.seen))
-      (filter M parts.moved ++ filter_map (unmoved_at pairs parts.old_blocks parts.moved) places)
+      (filter M parts.shifted ++ filter_map (unmoved_at pairs parts.old_blocks parts.shifted) places)
   new_risen =
       let N = live_in new.seen in
       let R = λ (live : Live). U live && M live in
-      let rest = filter_map (unmoved_at pairs parts.old_blocks parts.moved) places in
+      let rest = filter_map (unmoved_at pairs parts.old_blocks parts.shifted) places in
       let first : filter shifts (filter R N) ≡ filter M (filter (λ live. U live && shifts live) N) =
       filter_twice shifts R (λ live. R live && shifts live) (λ live. refl) N
       ∙ sym (filter_twice M (λ live. U live && shifts live) (λ live. R live && shifts live) (λ live. turned (U live) (shifts live) (M live)) N) in
       let later : filter (λ live. not (shifts live)) (filter R N) ≡ filter (λ live. R live && not (shifts live)) N =
       filter_twice (λ live. not (shifts live)) R (λ live. R live && not (shifts live)) (λ live. refl) N in
-      IsPermutation-trans (filter R N) (filter shifts (filter R N) ++ filter (λ live. not (shifts live)) (filter R N)) (filter M parts.moved ++ rest)
+      IsPermutation-trans (filter R N) (filter shifts (filter R N) ++ filter (λ live. not (shifts live)) (filter R N)) (filter M parts.shifted ++ rest)
       (IsPermutation-filter_both shifts (λ live. not (shifts live)) (λ live. refl) (filter R N))
-      (IsPermutation-append (filter shifts (filter R N)) (filter M parts.moved) (filter (λ live. not (shifts live)) (filter R N)) rest
-      (subst (λ ys. IsPermutation ys (filter M parts.moved)) (sym first)
-      (filter_permuted M (filter (λ live. U live && shifts live) N) parts.moved moved_are))
+      (IsPermutation-append (filter shifts (filter R N)) (filter M parts.shifted) (filter (λ live. not (shifts live)) (filter R N)) rest
+      (subst (λ ys. IsPermutation ys (filter M parts.shifted)) (sym first)
+      (filter_permuted M (filter (λ live. U live && shifts live) N) parts.shifted moved_are))
       (subst (λ ys. IsPermutation ys rest) (sym later)
       (new_unmoved image pending old new trees afters was is pairs marked places pairs_are marks.known from.each from.order parts.old_blocks
-      all.old_blocks parts.moved moved_are)))
+      all.old_blocks parts.shifted moved_are)))
     where
       turned : (u s m : Bool) → ((u && s) && m) ≡ ((u && m) && s)
       turned false s m = refl
@@ -121,28 +121,28 @@ module _ (image : List ℕ) (pending : FinMap nat_cmp ℕ) (old new : Walked) (t
 
   -- the new pairs that are not shared
   new_blocks : IsPermutation (unshared_in old new (written_in pending) (length image) new)
-      ((parts.new_blocks ++ filter M parts.moved) ++ filter_map (unmoved_at pairs parts.old_blocks parts.moved) places)
+      ((parts.new_blocks ++ filter M parts.shifted) ++ filter_map (unmoved_at pairs parts.old_blocks parts.shifted) places)
   new_blocks =
       let N = live_in new.seen in
-      let rest = filter_map (unmoved_at pairs parts.old_blocks parts.moved) places in
-      subst (IsPermutation (filter (λ live. not (S live)) N)) (sym (append_assoc parts.new_blocks (filter M parts.moved) rest))
+      let rest = filter_map (unmoved_at pairs parts.old_blocks parts.shifted) places in
+      subst (IsPermutation (filter (λ live. not (S live)) N)) (sym (append_assoc parts.new_blocks (filter M parts.shifted) rest))
       (IsPermutation-trans (filter (λ live. not (S live)) N) (filter (λ live. not (U live)) N ++ filter (λ live. U live && M live) N)
-      (parts.new_blocks ++ (filter M parts.moved ++ rest))
+      (parts.new_blocks ++ (filter M parts.shifted ++ rest))
       (split_marked S U M told N)
-      (IsPermutation-append (filter (λ live. not (U live)) N) parts.new_blocks (filter (λ live. U live && M live) N) (filter M parts.moved ++ rest)
+      (IsPermutation-append (filter (λ live. not (U live)) N) parts.new_blocks (filter (λ live. U live && M live) N) (filter M parts.shifted ++ rest)
       all.new_blocks new_risen))
 
   -- the shifted pairs that are not marked are those that are shared
-  moved : (sorted : List Live) → IsSortedOf is_before (filter (λ live. not (M live)) parts.moved) sorted
+  moved : (sorted : List Live) → IsSortedOf is_before (filter (λ live. not (M live)) parts.shifted) sorted
       → IsInOrder is_before (shifted_in old new (written_in pending) (length image)) sorted
   moved sorted sort =
       let N = live_in new.seen in
       let walk = trees_walk (overlaid pending 0 image) new afters is in
-      in_order is_before (filter (λ live. S live && shifts live) N) (filter (λ live. not (M live)) parts.moved) sorted
-      (subst (λ ys. IsPermutation ys (filter (λ live. not (M live)) parts.moved))
+      in_order is_before (filter (λ live. S live && shifts live) N) (filter (λ live. not (M live)) parts.shifted) sorted
+      (subst (λ ys. IsPermutation ys (filter (λ live. not (M live)) parts.shifted))
       (filter_twice (λ live. not (M live)) (λ live. U live && shifts live) (λ live. S live && shifts live)
       (λ live. turned (S live) (U live) (M live) (shifts live) (told live)) N)
-      (filter_permuted (λ live. not (M live)) (filter (λ live. U live && shifts live) N) parts.moved moved_are))
+      (filter_permuted (λ live. not (M live)) (filter (λ live. U live && shifts live) N) parts.shifted moved_are))
       sort (pairs_apart new.sup afters new.seen (λ live. S live && shifts live) walk.0 walk.1)
     where
       turned : (s u m t : Bool) → s ≡ (u && not m) → ((u && t) && not m) ≡ (s && t)
@@ -168,13 +168,13 @@ module _ (image : List ℕ) (pending : FinMap nat_cmp ℕ) (old new : Walked) (t
   -- no more are counted than are not shared
   counted : parts.count
       ≤ length (parts.old_blocks ++ filter_map (risen_at pairs parts.old_blocks) places)
-      + 2 * length ((parts.new_blocks ++ filter M parts.moved) ++ filter_map (unmoved_at pairs parts.old_blocks parts.moved) places)
+      + 2 * length ((parts.new_blocks ++ filter M parts.shifted) ++ filter_map (unmoved_at pairs parts.old_blocks parts.shifted) places)
   counted =
       let risen = filter_map (risen_at pairs parts.old_blocks) places in
-      let rest = filter_map (unmoved_at pairs parts.old_blocks parts.moved) places in
+      let rest = filter_map (unmoved_at pairs parts.old_blocks parts.shifted) places in
       let a = length-append parts.old_blocks risen in
-      let b = length-append (parts.new_blocks ++ filter M parts.moved) rest in
-      let c = length-append parts.new_blocks (filter M parts.moved) in
+      let b = length-append (parts.new_blocks ++ filter M parts.shifted) rest in
+      let c = length-append parts.new_blocks (filter M parts.shifted) in
       let d = all.count in
       omega (arith, a, b, c, d)
 
@@ -197,7 +197,7 @@ module _ (image : List ℕ) (pending : FinMap nat_cmp ℕ) (old new : Walked) (t
     unshared = record {
       old_blocks = old_blocks;
       new_blocks = new_blocks;
-      moved = moved;
+      shifted = moved;
       old_items = λ sorted sort. subst (λ items. IsInOrder item_before items sorted) (sym old_same) (all.old_items sorted sort);
       new_items = λ sorted sort. subst (λ items. IsInOrder item_before items sorted) (sym new_same) (all.new_items sorted sort);
       count = counted;

@@ -82,33 +82,33 @@ free_as marked other same = λ i tree address. same tree address i
 -- parts with the pairs that rise, as the loops put them
 pub risen_parts : (pairs : Pairs) (marked changed shifted : Marked) (places : List PairPlace) (parts : Parts) (old middle new moved none : List Live)
     → ((tree address : ℕ) → changed tree address ≡ in_lives parts.old_blocks tree address)
-    → ((tree address : ℕ) → shifted tree address ≡ in_lives parts.moved tree address)
-    → middle ≡ parts.new_blocks ++ filter (is_marked marked) parts.moved
-    → moved ≡ none ++ filter (λ live. not (is_marked marked live)) parts.moved → none ≡ []
+    → ((tree address : ℕ) → shifted tree address ≡ in_lives parts.shifted tree address)
+    → middle ≡ parts.new_blocks ++ filter (is_marked marked) parts.shifted
+    → moved ≡ none ++ filter (λ live. not (is_marked marked live)) parts.shifted → none ≡ []
     → old ≡ parts.old_blocks ++ filter_map (risen_by pairs changed) places
     → new ≡ middle ++ filter_map (unmoved_by pairs changed shifted) places
-    → record parts { old_blocks = old; new_blocks = new; moved = moved } ≡ with_risen pairs marked places parts
+    → record parts { old_blocks = old; new_blocks = new; shifted = moved } ≡ with_risen pairs marked places parts
 risen_parts pairs marked changed shifted places parts old middle new moved none same_changed same_shifted middle_is moved_is none_is old_is new_is =
-    λ i. record parts { old_blocks = olds i; new_blocks = news i; moved = moves i }
+    λ i. record parts { old_blocks = olds i; new_blocks = news i; shifted = moves i }
   where
     c : changed ≡ in_lives parts.old_blocks
     c = free_as changed (in_lives parts.old_blocks) same_changed
 
-    s : shifted ≡ in_lives parts.moved
-    s = free_as shifted (in_lives parts.moved) same_shifted
+    s : shifted ≡ in_lives parts.shifted
+    s = free_as shifted (in_lives parts.shifted) same_shifted
 
     olds : old ≡ parts.old_blocks ++ filter_map (risen_at pairs parts.old_blocks) places
     olds = old_is ∙ ap (λ m. parts.old_blocks ++ filter_map (risen_by pairs m) places) c
 
-    news : new ≡ (parts.new_blocks ++ filter (is_marked marked) parts.moved) ++ filter_map (unmoved_at pairs parts.old_blocks parts.moved) places
+    news : new ≡ (parts.new_blocks ++ filter (is_marked marked) parts.shifted) ++ filter_map (unmoved_at pairs parts.old_blocks parts.shifted) places
     news =
         new_is
         ∙ (ap (λ m. m ++ filter_map (unmoved_by pairs changed shifted) places) middle_is
-        ∙ (ap (λ m. (parts.new_blocks ++ filter (is_marked marked) parts.moved) ++ filter_map (unmoved_by pairs m shifted) places) c
-        ∙ ap (λ m. (parts.new_blocks ++ filter (is_marked marked) parts.moved) ++ filter_map (unmoved_by pairs (in_lives parts.old_blocks) m) places) s))
+        ∙ (ap (λ m. (parts.new_blocks ++ filter (is_marked marked) parts.shifted) ++ filter_map (unmoved_by pairs m shifted) places) c
+        ∙ ap (λ m. (parts.new_blocks ++ filter (is_marked marked) parts.shifted) ++ filter_map (unmoved_by pairs (in_lives parts.old_blocks) m) places) s))
 
-    moves : moved ≡ filter (λ live. not (is_marked marked live)) parts.moved
-    moves = moved_is ∙ ap (λ m. m ++ filter (λ live. not (is_marked marked live)) parts.moved) none_is
+    moves : moved ≡ filter (λ live. not (is_marked marked live)) parts.shifted
+    moves = moved_is ∙ ap (λ m. m ++ filter (λ live. not (is_marked marked live)) parts.shifted) none_is
 
 -- the looks are as many as places are left
 pub left_looks : (changed : Marked) (lives : List Live) (places : List PairPlace) (before after : ℕ)
@@ -125,7 +125,7 @@ none_risen pairs marked places parts each zero =
     (λ i. record parts {
       old_blocks = sym (append-nil parts.old_blocks) i;
       new_blocks = news i;
-      moved = sym (all parts.moved) i;
+      shifted = sym (all parts.shifted) i;
     })
   where
     empty : (ps : List PairPlace) → length ps ≡ 0 → ps ≡ []
@@ -146,10 +146,10 @@ none_risen pairs marked places parts each zero =
     all [] = refl
     all (live ∷ lives) = rw (free live) (ap (λ ls. live ∷ ls) (all lives))
 
-    news : parts.new_blocks ≡ (parts.new_blocks ++ filter (is_marked marked) parts.moved) ++ []
+    news : parts.new_blocks ≡ (parts.new_blocks ++ filter (is_marked marked) parts.shifted) ++ []
     news =
-        sym (append-nil (parts.new_blocks ++ filter (is_marked marked) parts.moved)
-        ∙ (ap (λ m. parts.new_blocks ++ m) (nothing parts.moved) ∙ append-nil parts.new_blocks))
+        sym (append-nil (parts.new_blocks ++ filter (is_marked marked) parts.shifted)
+        ∙ (ap (λ m. parts.new_blocks ++ m) (nothing parts.shifted) ∙ append-nil parts.new_blocks))
 
 pub same_looks : (n m : ℕ) → n ≤ n + m
 same_looks n m = omega arith

@@ -1,6 +1,6 @@
 -- The root items of an image, by what changes in its root tree.
 use Rattle.std.proofs.Common.{◌≡◌, ℕ, List, refl, ap, sym, subst, ◌∙◌}
-use Rattle.std.specs.Prelude.{Some, Ok, Err, map}
+use Rattle.std.specs.Prelude.{Some, Ok, Err}
 use Rattle.std.specs.Ordering.{nat_cmp}
 use Rattle.std.specs.FinMap.{FinMap}
 use Rattle.walk_laws.proofs.Trees.{step_ok}
@@ -14,10 +14,10 @@ use Rattle.records.specs.Contents.{root_items_in, root_records, root_tree_root, 
 use Rattle.records.specs.Seen.{Seen}
 use Rattle.records.specs.Walk.{Records}
 use Rattle.tree_laws.specs.LivePairs.{Walked}
-use Rattle.tree_laws.specs.MergedLaw.{IsInOrder, roots_seen}
+use Rattle.tree_laws.specs.MergedLaw.{IsInOrder, roots_seen, root_before}
 use Rattle.tree_laws.specs.TableLaw.{Tree}
 use Rattle.tree_laws.proofs.MergedLists.{roots_are_seen}
-use Rattle.tree_change.specs.Merging.{IsSortedOf, named_before, roots_left}
+use Rattle.tree_change.specs.Merging.{IsSortedOf, roots_left}
 use Rattle.tree_change.specs.OneTree.{IsTree, OneTreeLaw, side_of}
 use Rattle.tree_change.specs.Walks.{Known, Parts, Side, tree_parts}
 use Rattle.tree_change.proofs.Olds.{same_ok}
@@ -51,18 +51,18 @@ pub roots_made : OneTreeLaw → (image : List ℕ) (pending : FinMap nat_cmp ℕ
     (known : Known) (parts : Parts) (olds : List RootAt) (roots : List RootAt) → root_items_in old.sup old.chunks image ≡ Ok olds
     → IsTree image pending old trees pairs is known (Some (root_tree_root old.sup)) (root_tree_root is.sup)
     → tree_parts pairs known (side_of image old) is (Some (root_tree_root old.sup)) (root_tree_root is.sup) ≡ Ok parts
-    → IsSortedOf named_before (roots_left olds parts.old_items parts.new_items) roots
-    → (items : List RootAt) × (roots ≡ items)
-    × (root_items_in is.sup is.chunks is.image ≡ and_then (finding_or (roots_fault is.sup.compat_ro items) (tt {0})) (λ _. Ok items))
+    → IsSortedOf root_before (roots_left olds parts.old_items parts.new_items) roots
+    → root_items_in is.sup is.chunks is.image ≡ and_then (finding_or (roots_fault is.sup.compat_ro roots) (tt {0})) (λ _. Ok roots)
 roots_made law image pending old trees pairs is known parts olds roots had tree given sort =
     let gives = law image pending old trees pairs is known (Some (root_tree_root old.sup)) (root_tree_root is.sup) tree in
     let p = gives.parts parts given in
     let news = p.1 in
     let whole = roots_left olds parts.old_items parts.new_items in
-    let order : IsInOrder named_before whole (roots_seen news) =
-    subst (λ items. IsInOrder named_before (roots_left items parts.old_items parts.new_items) (roots_seen news))
+    let order : IsInOrder root_before whole (roots_seen news) =
+    subst (λ items. IsInOrder root_before (roots_left items parts.old_items parts.new_items) (roots_seen news))
     (items_are_seen old.sup old.chunks image p.0 olds p.2 had) (p.4.roots refl) in
-    (roots_seen news, only_list named_before whole roots (roots_seen news) sort order, roots_of is.sup is.chunks is.image news p.3)
+    subst (λ rs. root_items_in is.sup is.chunks is.image ≡ and_then (finding_or (roots_fault is.sup.compat_ro rs) (tt {0})) (λ _. Ok rs))
+    (sym (only_list root_before whole roots (roots_seen news) sort order)) (roots_of is.sup is.chunks is.image news p.3)
 
 -- the first finding on the parts of a root tree is that of the root items
 pub roots_found : OneTreeLaw → (image : List ℕ) (pending : FinMap nat_cmp ℕ) (old : Walked) (trees : List Tree) (pairs : Pairs) (is : Side)

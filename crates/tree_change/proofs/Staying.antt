@@ -33,7 +33,7 @@ use Rattle.tree_change.specs.AllTrees.{no_parts, root_named}
 use Rattle.tree_change.specs.Making.{is_side, named_parts_in, parts_in, was_side}
 use Rattle.tree_change.specs.Stays.{HasRoot, RootsStand, Stays}
 use Rattle.tree_change.specs.Told.{known_by}
-use Rattle.tree_change.specs.Walks.{Known, NewWalk, Parts, Side, kept_by, last_at, lasts_by, listed_by, moved_pair, moved_to, new_walk, no_tree, old_walk, parts_of, tree_parts}
+use Rattle.tree_change.specs.Walks.{Known, NewWalk, Parts, Side, kept_by, last_at, lasts_by, listed_by, shifted_pair, shifted_to, new_walk, no_tree, old_walk, parts_of, tree_parts}
 use Rattle.tree_change.specs.declared.sides.Sides.{Sides}
 use Rattle.tree_change.proofs.Adding.{behind_none, named_step, then_parts}
 use Rattle.tree_change.proofs.Olds.{fine_step, gathered}
@@ -152,11 +152,11 @@ module _ (known : Known) (e : Expect) (live : Live) (low : e.low ≡ None) (high
       λ i. and_then (reads i) (λ records. fine_step (gathered records))
 
   -- neither the node above nor the greatest key is another
-  moves_none : live.parent ≡ e.parent → moved_pair (known.pairs e.tree e.address) e.parent (last_at met_alone.ended e.address) ≡ None
+  moves_none : live.parent ≡ e.parent → shifted_pair (known.pairs e.tree e.address) e.parent (last_at met_alone.ended e.address) ≡ None
   moves_none parent =
-      ap (λ (was : Option Live). moved_pair was e.parent (last_at met_alone.ended e.address)) pair
-      ∙ (ap (λ (b : Bool). moved_pair (Some live) e.parent (if b then live.last else no_key)) (eq-eqb e.address e.address refl)
-      ∙ rw (eq-eqb live.parent e.parent parent) (ap (λ (b : Bool). if b then None else Some (moved_to live e.parent live.last)) (same_itself live.last)))
+      ap (λ (was : Option Live). shifted_pair was e.parent (last_at met_alone.ended e.address)) pair
+      ∙ (ap (λ (b : Bool). shifted_pair (Some live) e.parent (if b then live.last else no_key)) (eq-eqb e.address e.address refl)
+      ∙ rw (eq-eqb live.parent e.parent parent) (ap (λ (b : Bool). if b then None else Some (shifted_to live e.parent live.last)) (same_itself live.last)))
 
   alone_parts : (was is : Side) → kept_by known e ≡ Some live.last → live.parent ≡ e.parent
       → tree_parts known.pairs known was is (Some e) e ≡ Ok no_parts
@@ -167,7 +167,7 @@ module _ (known : Known) (e : Expect) (live : Live) (low : e.low ≡ None) (high
       ∙ ap (λ (option : Option Live). fine_step (moved_parts (cons_option option []))) (moves_none parent))
     where
       moved_parts : List Live → Parts
-      moved_parts moved = record { old_blocks = []; new_blocks = []; moved = moved; old_items = []; new_items = []; count = 0 }
+      moved_parts moved = record { old_blocks = []; new_blocks = []; shifted = moved; old_items = []; new_items = []; count = 0 }
 
 -- Nothing changes in a tree that stays, where the table has its root.
 pub stays_none : (pairs : Pairs) (known : Known) (was is : Side) (before : Option Expect) (now : Expect) → Stays pairs known before now

@@ -5,14 +5,14 @@ use Rattle.std.specs.List.{AllByRecursion}
 use Rattle.verdict.specs.declared.finding.Finding.{Finding}
 use Rattle.verdict.specs.declared.place.Chunk.{Chunk}
 use Rattle.node_reader.specs.declared.expect.Expect.{Expect}
-use Rattle.records.specs.Contents.{chunk_tree_root, root_tree_root}
+use Rattle.records.specs.Contents.{chunk_tree_root, root_tree_root, roots_fault}
 use Rattle.volume_items.specs.MapRules.{map_finding}
 use Rattle.volume_items.specs.declared.root_at.RootAt.{RootAt}
-use Rattle.tree_laws.specs.MergedLaw.{begins_before}
+use Rattle.tree_laws.specs.MergedLaw.{begins_before, root_before}
 use Rattle.tree_change.specs.AllTrees.{with_parts}
 use Rattle.tree_change.specs.Gathered.{located_item}
-use Rattle.tree_change.specs.Making.{IsAdded, MakesChunks, MakesRoots, RootsJudged, parts_by, parts_in}
-use Rattle.tree_change.specs.Merging.{IsSortedOf, chunks_left, named_before, roots_left}
+use Rattle.tree_change.specs.Making.{IsAdded, MakesChunks, MakesRoots, parts_by, parts_in}
+use Rattle.tree_change.specs.Merging.{IsSortedOf, chunks_left, roots_left}
 use Rattle.tree_change.specs.Walks.{Parts}
 use Rattle.tree_change.specs.declared.sides.Sides.{Sides}
 use Rattle.tree_change.specs.declared.trees.TreeParts.{TreeParts}
@@ -66,7 +66,7 @@ module _ {L : Type 0} (sides : Sides L) where
   roots_are : (olds : List RootAt) (made : TreeParts) (roots : List RootAt) (before now : Expect) (image : List ℕ) (count : ℕ)
       → before ≡ root_tree_root sides.was.sup.now → now ≡ root_tree_root sides.is.sup.now
       → parts_in sides (Some before) now image ≡ Ok (parts_by made count)
-      → IsSortedOf named_before (roots_left olds (map located_item made.old_items.items) (map located_item made.new_items.items)) roots
+      → IsSortedOf root_before (roots_left olds (map located_item made.old_items.items) (map located_item made.new_items.items)) roots
       → MakesRoots sides olds image (parts_by made count) roots
   roots_are olds made roots before now image count a b tree merged = record {
     tree = ap (λ e. parts_in sides (Some e) (root_tree_root sides.is.sup.now) image) (sym a) ∙ ap (λ e. parts_in sides (Some before) e image) (sym b) ∙ tree;
@@ -76,11 +76,11 @@ module _ {L : Type 0} (sides : Sides L) where
   pub roots_told : (told : Option (List ℕ)) (olds : List RootAt) (some all made : TreeParts) (roots : List RootAt) (before now : Expect) (first last : ℕ)
       → before ≡ root_tree_root sides.was.sup.now → now ≡ root_tree_root sides.is.sup.now
       → IfSome told (IsMade before now made first last)
-      → IsSortedOf named_before (roots_left olds (map located_item made.old_items.items) (map located_item made.new_items.items)) roots
-      → RootsJudged sides.is.sup.now.compat_ro roots (Ok (tt {0}))
+      → IsSortedOf root_before (roots_left olds (map located_item made.old_items.items) (map located_item made.new_items.items)) roots
+      → roots_fault sides.is.sup.now.compat_ro roots ≡ None
       → ((count other : ℕ) → parts_by all (count + other) ≡ with_parts (parts_by some count) (parts_by made other))
       → IfSome told (λ image. (parts : Parts) × MakesRoots sides olds image parts roots
-      × RootsJudged sides.is.sup.now.compat_ro roots (Ok (tt {0})) × IsAdded some all parts first last)
+      × (roots_fault sides.is.sup.now.compat_ro roots ≡ None) × IsAdded some all parts first last)
   roots_told None olds some all made roots before now first last a b tree merged judged behind = tt
   roots_told (Some image) olds some all made roots before now first last a b tree merged judged behind = (
     parts_by made tree.0,
@@ -92,11 +92,11 @@ module _ {L : Type 0} (sides : Sides L) where
   pub roots_found : (told : Option (List ℕ)) (olds : List RootAt) (made : TreeParts) (roots : List RootAt) (before now : Expect) (first last : ℕ)
       (finding : Finding) → before ≡ root_tree_root sides.was.sup.now → now ≡ root_tree_root sides.is.sup.now
       → IfSome told (IsMade before now made first last)
-      → IsSortedOf named_before (roots_left olds (map located_item made.old_items.items) (map located_item made.new_items.items)) roots
-      → RootsJudged sides.is.sup.now.compat_ro roots (Err finding)
+      → IsSortedOf root_before (roots_left olds (map located_item made.old_items.items) (map located_item made.new_items.items)) roots
+      → roots_fault sides.is.sup.now.compat_ro roots ≡ Some finding
       → IfSome told (λ image. (parts_in sides (Some (root_tree_root sides.was.sup.now)) (root_tree_root sides.is.sup.now) image ≡ Err finding)
       ⊎ ((parts : Parts) × (roots : List RootAt) × MakesRoots sides olds image parts roots
-      × RootsJudged sides.is.sup.now.compat_ro roots (Err finding)))
+      × (roots_fault sides.is.sup.now.compat_ro roots ≡ Some finding)))
   roots_found None olds made roots before now first last finding a b tree merged judged = tt
   roots_found (Some image) olds made roots before now first last finding a b tree merged judged =
       inr (parts_by made tree.0, roots, roots_are olds made roots before now image tree.0 a b tree.1 merged, judged)

@@ -111,7 +111,7 @@ module _ (image : List ℕ) (pending : FinMap nat_cmp ℕ) (old new : Walked) (t
       record {
         old_blocks = blocks ∙ lives;
         new_blocks = none_passes live_id e.tree (λ live. not (shared live)) (live_in new.seen) nothing_new.lives;
-        moved = none_passes live_id e.tree _ (live_in new.seen) nothing_new.lives;
+        shifted = none_passes live_id e.tree _ (live_in new.seen) nothing_new.lives;
         old_items = gives.items ∙ (ap (λ ls. items_in ls whole) lives
             ∙ items_of_id e.tree (changed_in old new (written_in pending) (length image) old) whole old.seen of);
         new_items = none_passes item_id e.tree (stands_in (changed_in old new (written_in pending) (length image) new))

@@ -33,7 +33,7 @@ bare sides e image none = ap (walk_of sides e) (sym (ap (λ waiting. overlaid wa
 
 -- the parts of that walk are those that are made
 made_gone : {L : Type 0} (sides : Sides L) (made : TreeParts) (read : Gathered) (start : List Live) → start ≡ []
-    → made.old_blocks.items ≡ start ++ pairs_at (pairs_of sides.table.now) read.blocks.items → made.new_blocks.items ≡ [] → made.moved.items ≡ []
+    → made.old_blocks.items ≡ start ++ pairs_at (pairs_of sides.table.now) read.blocks.items → made.new_blocks.items ≡ [] → made.shifted.items ≡ []
     → made.old_items.items ≡ read.items.items → made.new_items.items ≡ []
     → parts_of (pairs_of sides.table.now) no_walk (gathers read) ≡ parts_by made (length read.blocks.items)
 made_gone sides made read start none blocks no_blocks no_moved items no_items =
@@ -45,7 +45,7 @@ pub gone_ok : {L : Type 0} (told : Option (List ℕ)) (sides : Sides L) (e : Exp
     (start : List Live) → sides.was.cache.now ≡ empty
     → IfSome told (λ image. walk_of sides e (overlaid sides.was.cache.now 0 image) ≡ Ok (gathers read))
     → IfSome told (λ _. after ≤ before + length read.blocks.items) → start ≡ []
-    → made.old_blocks.items ≡ start ++ pairs_at (pairs_of sides.table.now) read.blocks.items → made.new_blocks.items ≡ [] → made.moved.items ≡ []
+    → made.old_blocks.items ≡ start ++ pairs_at (pairs_of sides.table.now) read.blocks.items → made.new_blocks.items ≡ [] → made.shifted.items ≡ []
     → made.old_items.items ≡ read.items.items → made.new_items.items ≡ []
     → IfSome told (λ image. (count : ℕ) × (gone_in sides e image ≡ Ok (parts_by made count)) × (after ≤ before + count))
 unfolding gone_parts

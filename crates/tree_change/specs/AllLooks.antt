@@ -30,11 +30,12 @@ use Rattle.tree_laws.specs.LivePairs.{Walked, walked}
 use Rattle.tree_laws.specs.Shared.{are_read_alike, unshared_in}
 use Rattle.tree_change.specs.Compared.{FitsCompared, HasNewArray, IsCompared, judged_by, side_to}
 use Rattle.tree_change.specs.Looks.{gone_all_looks, named_looks, tree_looks}
-use Rattle.tree_change.specs.Merging.{IsSortedOf, named_before, roots_left}
+use Rattle.tree_change.specs.Merging.{IsSortedOf, roots_left}
 use Rattle.tree_change.specs.Told.{side_with}
 use Rattle.tree_change.specs.Unchanged.{changed_in, either_mark}
 use Rattle.tree_change.specs.Walks.{Known, Parts, tree_parts}
 use Rattle.tree_change.specs.declared.sides.Compared.{Compared}
+use Rattle.tree_laws.specs.MergedLaw.{root_before}
 
 -- Of the pairs of a table, those are marked that move from the one list of chunks to the other, and all above them; the children that have one of
 -- these marks, or one of others, are listed; there are so many of these marks, at most one for each pair that moves and has none above it, and
@@ -117,7 +118,7 @@ pub record FewForRest {L : Type 0} (both : Compared L) (chunks : List Chunk) (im
   pub roots : List RootAt
   pub tree : tree_parts (pairs_of both.table.now) known (side_with both.was image) (side_to both image chunks) (Some (root_tree_root both.was.sup.now))
       (root_tree_root both.fresh.now) ≡ Ok parts
-  pub merged : IsSortedOf named_before (roots_left both.roots.now parts.old_items parts.new_items) roots
+  pub merged : IsSortedOf root_before (roots_left both.roots.now parts.old_items parts.new_items) roots
   pub looks : MovesLookAtMost (pairs_of both.kept.now) both.was.map.now chunks both.was.sup.now.nodesize both.was.end moved marks before after
       (tree_looks known (side_with both.was image) (side_to both image chunks) (Some (root_tree_root both.was.sup.now)) (root_tree_root both.fresh.now)
       + named_looks both.is_same known (side_with both.was image) (side_to both image chunks) both.roots.now roots

@@ -1,5 +1,5 @@
 -- What changes in all trees of an image, from what changes in each.
-use Rattle.std.specs.Prelude.{ℕ, ◌≡◌, ◌==◌, ◌+◌, ◌*◌, ◌⊎◌, Bool, true, List, [], ◌∷◌, ◌++◌, length, map, Option, Some, None, is_some, Result, Ok, Err, if◌then◌else◌}
+use Rattle.std.specs.Prelude.{ℕ, ◌≡◌, ◌+◌, ◌*◌, ◌⊎◌, true, List, [], ◌∷◌, ◌++◌, length, Option, Some, None, is_some, Result, Ok, Err, if◌then◌else◌}
 use Rattle.std.specs.List.{AllByRecursion, list_any}
 use Rattle.std.specs.List.Sorted.{IsPermutation}
 use Rattle.std.specs.Ordering.{nat_cmp}
@@ -11,7 +11,7 @@ use Rattle.write_cache.specs.Cache.{overlaid}
 use Rattle.live_index.specs.Pairs.{Pairs}
 use Rattle.live_index.specs.declared.live.Live.{Live}
 use Rattle.node_reader.specs.declared.expect.Expect.{Expect}
-use Rattle.records.specs.Contents.{chunk_tree_root, root_expected, root_tree_root, tree_records}
+use Rattle.records.specs.Contents.{chunk_tree_root, named_root, names, root_tree_root, tree_records}
 use Rattle.records.specs.Part.{Located}
 use Rattle.records.specs.Seen.{Seen}
 use Rattle.touched_blocks.specs.Moves.{is_moved}
@@ -33,36 +33,28 @@ use Rattle.tree_change.specs.Walks.{Known, Parts, Side, gone_parts, tree_parts}
 
 -- no parts, and parts before others
 abbrev pub no_parts : Parts
-no_parts = record { old_blocks = []; new_blocks = []; moved = []; old_items = []; new_items = []; count = 0 }
+no_parts = record { old_blocks = []; new_blocks = []; shifted = []; old_items = []; new_items = []; count = 0 }
 
 abbrev pub with_parts : Parts → Parts → Parts
 with_parts some more = record {
   old_blocks = some.old_blocks ++ more.old_blocks;
   new_blocks = some.new_blocks ++ more.new_blocks;
-  moved = some.moved ++ more.moved;
+  shifted = some.shifted ++ more.shifted;
   old_items = some.old_items ++ more.old_items;
   new_items = some.new_items ++ more.new_items;
   count = some.count + more.count;
 }
 
--- what is expected of the root of the tree that is said to begin there
-abbrev pub named_at : RootAt → Expect
-named_at root = root_expected root.key.objectid root.address root.generation root.level
-
--- whether this names a tree
-abbrev pub has_id : ℕ → RootAt → Bool
-has_id id root = root.key.objectid == id
-
 -- the root of the tree of an id, where one is named
 abbrev pub root_named : List RootAt → ℕ → Option Expect
 root_named [] id = None
-root_named (root ∷ roots) id = if has_id id root then Some (named_at root) else root_named roots id
+root_named (root ∷ roots) id = if names id root then Some (named_root root) else root_named roots id
 
 -- what changes in all trees that are named now, in their order, or the first finding
 unfoldable pub named_parts : Pairs → Known → Side → Side → List RootAt → List RootAt → Result Parts Finding
 named_parts pairs known was is olds [] = Ok no_parts
 named_parts pairs known was is olds (root ∷ roots) =
-    and_then (tree_parts pairs known was is (root_named olds root.key.objectid) (named_at root)) (λ parts.
+    and_then (tree_parts pairs known was is (root_named olds root.key.objectid) (named_root root)) (λ parts.
     and_then (named_parts pairs known was is olds roots) (λ more.
     Ok (with_parts parts more)))
 
@@ -70,8 +62,8 @@ named_parts pairs known was is olds (root ∷ roots) =
 unfoldable pub gone_all : Pairs → Known → Side → List RootAt → List RootAt → Result Parts Finding
 gone_all pairs known was news [] = Ok no_parts
 gone_all pairs known was news (root ∷ olds) =
-    if list_any (has_id root.key.objectid) news then gone_all pairs known was news olds else
-    and_then (gone_parts pairs known was (named_at root)) (λ parts.
+    if list_any (names root.key.objectid) news then gone_all pairs known was news olds else
+    and_then (gone_parts pairs known was (named_root root)) (λ parts.
     and_then (gone_all pairs known was news olds) (λ more.
     Ok (with_parts parts more)))
 
@@ -138,7 +130,7 @@ GoneLaw = (image : List ℕ) (pending : FinMap nat_cmp ℕ) (old : Walked) (olds
 pub record AreAllParts (old new : Walked) (pending : FinMap nat_cmp ℕ) (end : ℕ) (parts : Parts) : Type 0 where
   pub old_blocks : IsPermutation (changed_in old new (written_in pending) end old) parts.old_blocks
   pub new_blocks : IsPermutation (changed_in old new (written_in pending) end new) parts.new_blocks
-  pub moved : (sorted : List Live) → IsSortedOf is_before parts.moved sorted → IsInOrder is_before (unchanged_shifted old new (written_in pending) end) sorted
+  pub shifted : (sorted : List Live) → IsSortedOf is_before parts.shifted sorted → IsInOrder is_before (unchanged_shifted old new (written_in pending) end) sorted
   pub old_items : (sorted : List Located) → IsSortedOf item_before parts.old_items sorted
       → IsInOrder item_before (items_in (changed_in old new (written_in pending) end old) old.seen) sorted
   pub new_items : (sorted : List Located) → IsSortedOf item_before parts.new_items sorted

@@ -12,7 +12,7 @@ use Rattle.live_index.specs.Pairs.{Pairs, comes_before}
 use Rattle.live_index.specs.declared.live.Live.{Live}
 use Rattle.super_reader.specs.declared.Super.{Super}
 use Rattle.volume_items.specs.declared.root_at.RootAt.{RootAt}
-use Rattle.records.specs.Contents.{Contents, contents, superblock_in}
+use Rattle.records.specs.Contents.{Contents, contents, root_items_in, superblock_in}
 use Rattle.accounts.specs.Context.{no_full}
 use Rattle.records.specs.Context.{has_sum_free}
 use Rattle.records.specs.FullCheck.{full_check}
@@ -45,11 +45,12 @@ pub record IsChange (old new : Walked) (written : Written) (end : ℕ) (change :
   pub new_items : IsInOrder item_before (items_in (unshared_in old new written end new) new.seen) (map located_item change.new_items.items)
   pub map : change.map ≡ new.chunks
 
--- what a judged image is beside an old one: the first finding of what it holds, or what changes
+-- what a judged image is beside an old one: the first finding of what it holds, or what changes, with where the trees of the judged image begin
 abbrev pub IsDifference : List ℕ → List ℕ → Written → Diff → Type 0
 IsDifference image judged written (Found finding) = contents judged ≡ Err finding
 IsDifference image judged written (Changed change) =
     (old : Walked) × (new : Walked) × (walked image ≡ Ok old) × (walked judged ≡ Ok new) × IsChange old new written (length image) change
+    × (root_items_in new.sup new.chunks judged ≡ Ok change.roots.items)
 
 -- what is known of an image that is accepted is what it holds: its superblock, its chunks, its root items in the order of their keys,
 -- whether an inode's data has no checksums, that no block refers to what is below it by its address, and the table of its live pairs

@@ -108,9 +108,9 @@ TellsMap disk old new some all both array (Ok chunks) = IfSome (disk.bytes old) 
     → (known : Known) × (parts : Parts) × MakesMap both image is.based.old array chunks known parts
     × IsAdded some all parts (disk.reads old) (disk.reads new))
 
--- the trees but the chunk tree have no finding, and this is what changes in them
-pub record MakesRest {L : Type 0} (both : Compared L) (image : List ℕ) (old : Walked) (olds : List RootAt) (chunks : List Chunk) (parts : Parts) : Type 0 where
-  pub news : List RootAt
+-- the trees but the chunk tree have no finding, these are the new roots, and this is what changes in them
+pub record MakesRest {L : Type 0} (both : Compared L) (image : List ℕ) (old : Walked) (olds : List RootAt) (chunks : List Chunk) (parts : Parts)
+    (news : List RootAt) : Type 0 where
   pub items : root_items_in both.fresh.now chunks (judged_by both image) ≡ Ok news
   pub records : List Seen
   pub fine : tree_records both.fresh.now chunks news (judged_by both image) ≡ Ok records
@@ -138,23 +138,25 @@ FindsRest both image chunks finding =
 abbrev pub HasNewMap : {L : Type 0} → Compared L → List ℕ → List Chunk → Type 0
 HasNewMap both image chunks = (array : List Chunk) × (chunk_map_in both.fresh.now array (judged_by both image) ≡ Ok chunks)
 
--- a step puts what changes in the other trees behind other parts; or it has the finding
-abbrev pub TellsRest : {D A L : Type 0} → (disk : Ghosts D) → D → D → TreeParts → TreeParts → Compared L → List Chunk → Result A Halt → Type 0
+-- a step makes the new roots, and puts what changes in the other trees behind other parts; or it has the finding
+abbrev pub TellsRest : {D L : Type 0} → (disk : Ghosts D) → D → D → TreeParts → TreeParts → Compared L → List Chunk → Result (List RootAt) Halt → Type 0
 TellsRest disk old new some all both chunks (Err (Found finding)) = IfSome (disk.bytes old) (λ image.
     IsCompared both image → HasNewMap both image chunks → FindsRest both image chunks finding)
 TellsRest disk old new some all both chunks (Err other) = Unit {0}
-TellsRest disk old new some all both chunks (Ok done) = IfSome (disk.bytes old) (λ image.
+TellsRest disk old new some all both chunks (Ok roots) = IfSome (disk.bytes old) (λ image.
     (is : IsCompared both image) → HasNewMap both image chunks
-    → (parts : Parts) × MakesRest both image is.based.old is.based.olds chunks parts × IsAdded some all parts (disk.reads old) (disk.reads new))
+    → (parts : Parts) × MakesRest both image is.based.old is.based.olds chunks parts roots
+    × IsAdded some all parts (disk.reads old) (disk.reads new))
 
--- what changes, of these parts and of the new chunks
-pub record IsFinished (parts : TreeParts) (chunks : List Chunk) (change : Change) : Type 0 where
+-- what changes, of these parts, of the new chunks and of the new roots
+pub record IsFinished (parts : TreeParts) (chunks : List Chunk) (roots : List RootAt) (change : Change) : Type 0 where
   pub old_blocks : change.old_blocks.items ≡ parts.old_blocks.items
   pub new_blocks : change.new_blocks.items ≡ parts.new_blocks.items
-  pub moved : IsSortedOf is_before parts.moved.items change.moved.items
+  pub moved : IsSortedOf is_before parts.shifted.items change.moved.items
   pub old_items : IsSortedOf item_before (map located_item parts.old_items.items) (map located_item change.old_items.items)
   pub new_items : IsSortedOf item_before (map located_item parts.new_items.items) (map located_item change.new_items.items)
   pub map_is : change.map ≡ chunks
+  pub roots_are : change.roots.items ≡ roots
 
 -- what the whole step tells: what changes, at few reads, or the first finding of what the new image holds
 abbrev pub TellsChange : {D L : Type 0} → (disk : Ghosts D) → D → D → Compared L → Result Change Halt → Type 0

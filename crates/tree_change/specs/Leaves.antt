@@ -7,7 +7,7 @@ use Rattle.live_index.specs.declared.live.Live.{Live}
 use Rattle.node_reader.specs.declared.expect.Expect.{Expect}
 use Rattle.records.specs.declared.rec.WalkedBlock.{WalkedBlock}
 use Rattle.tree_change.specs.LastKeys.{key_at}
-use Rattle.tree_change.specs.Walks.{live_with, moved_pair}
+use Rattle.tree_change.specs.Walks.{live_with, shifted_pair}
 use Rattle.tree_change.specs.declared.lasts.Lasts.{Lasts}
 
 -- the greatest key of the block at an address
@@ -19,8 +19,8 @@ abbrev pub lives_by : (ℕ → Key) → List WalkedBlock → List Live
 lives_by lasts blocks = map (λ (block : WalkedBlock). live_with block (lasts block.address)) blocks
 
 -- the pair of a kept block of which the node above or the greatest key is another, and those of several
-abbrev pub moved_by_one : Pairs → (ℕ → Key) → Expect → Option Live
-moved_by_one pairs lasts e = moved_pair (pairs e.tree e.address) e.parent (lasts e.address)
+abbrev pub shifted_by_one : Pairs → (ℕ → Key) → Expect → Option Live
+shifted_by_one pairs lasts e = shifted_pair (pairs e.tree e.address) e.parent (lasts e.address)
 
-abbrev pub moved_by : Pairs → (ℕ → Key) → List Expect → List Live
-moved_by pairs lasts met = filter_map (moved_by_one pairs lasts) met
+abbrev pub shifted_among : Pairs → (ℕ → Key) → List Expect → List Live
+shifted_among pairs lasts met = filter_map (shifted_by_one pairs lasts) met

@@ -3,7 +3,6 @@ use Rattle.std.specs.Prelude.{ℕ, ◌≡◌, ◌≤◌, ◌<◌, ◌+◌, ◌^�
 use Rattle.std.specs.List.{AllByRecursion}
 use Rattle.std.specs.FinMap.{empty}
 use Rattle.verdict.specs.Trees.{is_node_size}
-use Rattle.verdict.specs.Rules.{finding_or}
 use Rattle.verdict.specs.declared.place.Chunk.{Chunk}
 use Rattle.verdict.specs.declared.finding.Finding.{Finding}
 use Rattle.recon_disk.specs.declared.disk.Disk.{Ghosts}
@@ -16,9 +15,9 @@ use Rattle.volume_items.specs.declared.root_at.RootAt.{RootAt}
 use Rattle.block_source.specs.declared.halt.Halt.{Halt}
 use Rattle.block_source.specs.declared.halt.Halt.TheVariants.{Found}
 use Rattle.tree_change.specs.AllTrees.{gone_all, named_parts, with_parts}
-use Rattle.tree_laws.specs.MergedLaw.{begins_before}
+use Rattle.tree_laws.specs.MergedLaw.{begins_before, root_before}
 use Rattle.tree_change.specs.Gathered.{located_item}
-use Rattle.tree_change.specs.Merging.{IsSortedOf, chunks_left, named_before, roots_left}
+use Rattle.tree_change.specs.Merging.{IsSortedOf, chunks_left, roots_left}
 use Rattle.tree_change.specs.Told.{known_by, side_with}
 use Rattle.tree_change.specs.Walks.{Parts, Side, gone_parts, tree_parts}
 use Rattle.tree_change.specs.declared.sides.Sides.{Sides}
@@ -58,7 +57,7 @@ abbrev pub parts_by : TreeParts → ℕ → Parts
 parts_by made count = record {
   old_blocks = made.old_blocks.items;
   new_blocks = made.new_blocks.items;
-  moved = made.moved.items;
+  shifted = made.shifted.items;
   old_items = map located_item made.old_items.items;
   new_items = map located_item made.new_items.items;
   count = count;
@@ -103,30 +102,27 @@ TellsChunks disk old new some all sides (Ok chunks) = IfSome (disk.bytes old) (�
 -- root items are merged of the old ones and of what changes in the root tree
 pub record MakesRoots {L : Type 0} (sides : Sides L) (olds : List RootAt) (image : List ℕ) (parts : Parts) (roots : List RootAt) : Type 0 where
   pub tree : parts_in sides (Some (root_tree_root sides.was.sup.now)) (root_tree_root sides.is.sup.now) image ≡ Ok parts
-  pub merged : IsSortedOf named_before (roots_left olds parts.old_items parts.new_items) roots
+  pub merged : IsSortedOf root_before (roots_left olds parts.old_items parts.new_items) roots
 
--- what the rules on the list of root items say of these roots
-abbrev pub RootsJudged : ℕ → List RootAt → Result (Unit {0}) Finding → Type 0
-RootsJudged compat_ro roots judged = (items : List RootAt) → roots ≡ items → finding_or (roots_fault compat_ro items) (tt {0}) ≡ judged
-
--- the same of the new roots
+-- Where the disk tells its bytes, a step makes the new roots, on which the rules on their list keep, and puts what changes in the root tree
+-- behind other parts; or it has the finding of the tree's walk, or of the rules on the list.
 abbrev pub TellsRoots : {D L : Type 0} → (disk : Ghosts D) → D → D → TreeParts → TreeParts → Sides L → List RootAt → Result (List RootAt) Halt → Type 0
 TellsRoots disk old new some all sides olds (Err (Found finding)) = IfSome (disk.bytes old) (λ image.
     (parts_in sides (Some (root_tree_root sides.was.sup.now)) (root_tree_root sides.is.sup.now) image ≡ Err finding)
-    ⊎ ((parts : Parts) × (roots : List RootAt) × MakesRoots sides olds image parts roots × RootsJudged sides.is.sup.now.compat_ro roots (Err finding)))
+    ⊎ ((parts : Parts) × (roots : List RootAt) × MakesRoots sides olds image parts roots
+    × (roots_fault sides.is.sup.now.compat_ro roots ≡ Some finding)))
 TellsRoots disk old new some all sides olds (Err other) = Unit {0}
 TellsRoots disk old new some all sides olds (Ok roots) = IfSome (disk.bytes old) (λ image.
-    (parts : Parts) × MakesRoots sides olds image parts roots × RootsJudged sides.is.sup.now.compat_ro roots (Ok (tt {0}))
+    (parts : Parts) × MakesRoots sides olds image parts roots × (roots_fault sides.is.sup.now.compat_ro roots ≡ None)
     × IsAdded some all parts (disk.reads old) (disk.reads new))
 
--- what changes in the root tree, in the trees that are named now, and in those that are gone
-pub record MakesOthers {L : Type 0} (sides : Sides L) (olds : List RootAt) (image : List ℕ) (parts : Parts) : Type 0 where
-  pub roots : List RootAt
+-- what changes in the root tree, in the trees that are named now, and in those that are gone, where these are the new roots
+pub record MakesOthers {L : Type 0} (sides : Sides L) (olds : List RootAt) (image : List ℕ) (parts : Parts) (roots : List RootAt) : Type 0 where
   pub root_parts : Parts
   pub named : Parts
   pub gone : Parts
   pub makes : MakesRoots sides olds image root_parts roots
-  pub judged : RootsJudged sides.is.sup.now.compat_ro roots (Ok (tt {0}))
+  pub judged : roots_fault sides.is.sup.now.compat_ro roots ≡ None
   pub named_are : named_parts_in sides olds roots image ≡ Ok named
   pub gone_are : gone_parts_in sides roots olds image ≡ Ok gone
   pub all : parts ≡ with_parts root_parts (with_parts named gone)
@@ -135,15 +131,15 @@ pub record MakesOthers {L : Type 0} (sides : Sides L) (olds : List RootAt) (imag
 pub data FindsOthers {L : Type 0} (sides : Sides L) (olds : List RootAt) (image : List ℕ) (finding : Finding) : Type 0 where
   InTree : parts_in sides (Some (root_tree_root sides.was.sup.now)) (root_tree_root sides.is.sup.now) image ≡ Err finding
       → FindsOthers sides olds image finding
-  InItems : (parts : Parts) (roots : List RootAt) → MakesRoots sides olds image parts roots → RootsJudged sides.is.sup.now.compat_ro roots (Err finding)
-      → FindsOthers sides olds image finding
-  InNamed : (parts : Parts) (roots : List RootAt) → MakesRoots sides olds image parts roots → RootsJudged sides.is.sup.now.compat_ro roots (Ok (tt {0}))
+  InItems : (parts : Parts) (roots : List RootAt) → MakesRoots sides olds image parts roots
+      → roots_fault sides.is.sup.now.compat_ro roots ≡ Some finding → FindsOthers sides olds image finding
+  InNamed : (parts : Parts) (roots : List RootAt) → MakesRoots sides olds image parts roots → roots_fault sides.is.sup.now.compat_ro roots ≡ None
       → named_parts_in sides olds roots image ≡ Err finding → FindsOthers sides olds image finding
   InGone : (roots : List RootAt) → gone_parts_in sides roots olds image ≡ Err finding → FindsOthers sides olds image finding
 
--- a step puts what changes in these behind other parts; or it has the finding
-abbrev pub TellsOthers : {D A L : Type 0} → (disk : Ghosts D) → D → D → TreeParts → TreeParts → Sides L → List RootAt → Result A Halt → Type 0
+-- a step makes the new roots, and puts what changes in these behind other parts; or it has the finding
+abbrev pub TellsOthers : {D L : Type 0} → (disk : Ghosts D) → D → D → TreeParts → TreeParts → Sides L → List RootAt → Result (List RootAt) Halt → Type 0
 TellsOthers disk old new some all sides olds (Err (Found finding)) = IfSome (disk.bytes old) (λ image. FindsOthers sides olds image finding)
 TellsOthers disk old new some all sides olds (Err other) = Unit {0}
-TellsOthers disk old new some all sides olds (Ok done) = IfSome (disk.bytes old) (λ image.
-    (parts : Parts) × MakesOthers sides olds image parts × IsAdded some all parts (disk.reads old) (disk.reads new))
+TellsOthers disk old new some all sides olds (Ok roots) = IfSome (disk.bytes old) (λ image.
+    (parts : Parts) × MakesOthers sides olds image parts roots × IsAdded some all parts (disk.reads old) (disk.reads new))

@@ -1,5 +1,5 @@
 -- What changes in one tree, by the definitions: its pairs that are not shared or that are shifted, and the items of the first.
-use Rattle.std.specs.Prelude.{ℕ, ◌≡◌, ◌==◌, ◌+◌, ◌*◌, ◌⊎◌, Bool, ◌&&◌, true, false, not, List, [], ◌∷◌, length, map, Option, Some, None, is_some, IfSome, Ok, Err}
+use Rattle.std.specs.Prelude.{ℕ, ◌≡◌, ◌==◌, ◌+◌, ◌*◌, ◌⊎◌, Bool, ◌&&◌, true, false, not, List, [], ◌∷◌, length, Option, Some, None, is_some, IfSome, Ok, Err}
 use Rattle.std.specs.List.{AllByRecursion, filter}
 use Rattle.std.specs.Ordering.{nat_cmp}
 use Rattle.std.specs.FinMap.{FinMap}
@@ -15,14 +15,14 @@ use Rattle.touched_blocks.specs.Moves.{is_moved}
 use Rattle.touched_blocks.specs.Touched.{written_in}
 use Rattle.tree_laws.specs.Keeping.{Marks}
 use Rattle.tree_laws.specs.LivePairs.{Walked, live_in, table_of}
-use Rattle.tree_laws.specs.MergedLaw.{IsInOrder, begins_before, chunks_seen, roots_seen}
+use Rattle.tree_laws.specs.MergedLaw.{IsInOrder, begins_before, chunks_seen, roots_seen, root_before}
 use Rattle.tree_laws.specs.OldSide.{IsRoot}
 use Rattle.tree_laws.specs.Shared.{are_read_alike}
 use Rattle.tree_laws.specs.SharedLaw.{HasTrees, touches_old}
 use Rattle.tree_laws.specs.ShiftedLaw.{is_shifted}
 use Rattle.tree_laws.specs.TableLaw.{Tree}
 use Rattle.tree_laws.specs.Unshared.{items_in}
-use Rattle.tree_change.specs.Merging.{chunks_left, named_before, roots_left}
+use Rattle.tree_change.specs.Merging.{chunks_left, roots_left}
 use Rattle.tree_change.specs.Unchanged.{ChangesListed, is_unchanged}
 use Rattle.tree_change.specs.Walks.{Known, Parts, Side, tree_parts}
 
@@ -91,13 +91,13 @@ unchanged image pending old is news live = is_unchanged old (alone is news) (wri
 pub record ChangesTree (image : List ℕ) (pending : FinMap nat_cmp ℕ) (old : Walked) (is : Side) (now : Expect) (olds news : List Seen) (parts : Parts) : Type 0 where
   pub old_blocks : parts.old_blocks ≡ filter (λ live. not (unchanged image pending old is news live)) (live_in olds)
   pub new_blocks : parts.new_blocks ≡ filter (λ live. not (unchanged image pending old is news live)) (live_in news)
-  pub moved : parts.moved ≡ filter (λ live. unchanged image pending old is news live && is_shifted (live_in olds) live) (live_in news)
+  pub shifted : parts.shifted ≡ filter (λ live. unchanged image pending old is news live && is_shifted (live_in olds) live) (live_in news)
   pub old_items : parts.old_items ≡ items_in parts.old_blocks olds
   pub new_items : parts.new_items ≡ items_in parts.new_blocks news
   pub count : parts.count ≡ length parts.old_blocks + 2 * length parts.new_blocks
   pub chunks : now.tree ≡ 3 → IsInOrder begins_before (chunks_left (chunks_seen olds) parts.old_items parts.new_items) (chunks_seen news)
   pub roots : now.tree ≡ 1
-      → IsInOrder named_before (roots_left (roots_seen olds) parts.old_items parts.new_items) (roots_seen news)
+      → IsInOrder root_before (roots_left (roots_seen olds) parts.old_items parts.new_items) (roots_seen news)
 
 -- A tree's parts, as the two walks give them, are what changes in it; and their first finding is that of the whole walk.
 pub record GivesTree (image : List ℕ) (pending : FinMap nat_cmp ℕ) (old : Walked) (pairs : Pairs) (is : Side) (known : Known) (before : Option Expect)

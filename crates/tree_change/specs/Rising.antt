@@ -53,8 +53,8 @@ unmoved_at pairs changed shifted = unmoved_by pairs (in_lives changed) (in_lives
 abbrev pub with_risen : Pairs → Marked → List PairPlace → Parts → Parts
 with_risen pairs marked places parts = record parts {
   old_blocks = parts.old_blocks ++ filter_map (risen_at pairs parts.old_blocks) places;
-  new_blocks = (parts.new_blocks ++ filter (is_marked marked) parts.moved) ++ filter_map (unmoved_at pairs parts.old_blocks parts.moved) places;
-  moved = filter (λ live. not (is_marked marked live)) parts.moved;
+  new_blocks = (parts.new_blocks ++ filter (is_marked marked) parts.shifted) ++ filter_map (unmoved_at pairs parts.old_blocks parts.shifted) places;
+  shifted = filter (λ live. not (is_marked marked live)) parts.shifted;
 }
 
 -- These are the marked places, each once; parts are made of others with the marked pairs that are left; and it took a look for each of these.
@@ -69,7 +69,7 @@ pub record IsRisen (pairs : Pairs) (marked : Marked) (places : List PairPlace) (
 pub record AreAllUnshared (old new : Walked) (pending : FinMap nat_cmp ℕ) (end : ℕ) (parts : Parts) : Type 0 where
   pub old_blocks : IsPermutation (unshared_in old new (written_in pending) end old) parts.old_blocks
   pub new_blocks : IsPermutation (unshared_in old new (written_in pending) end new) parts.new_blocks
-  pub moved : (sorted : List Live) → IsSortedOf is_before parts.moved sorted → IsInOrder is_before (shifted_in old new (written_in pending) end) sorted
+  pub shifted : (sorted : List Live) → IsSortedOf is_before parts.shifted sorted → IsInOrder is_before (shifted_in old new (written_in pending) end) sorted
   pub old_items : (sorted : List Located) → IsSortedOf item_before parts.old_items sorted
       → IsInOrder item_before (items_in (unshared_in old new (written_in pending) end old) old.seen) sorted
   pub new_items : (sorted : List Located) → IsSortedOf item_before parts.new_items sorted

@@ -1,30 +1,11 @@
--- What private functions say of where trees begin: the rules on the list, and where the tree of an id begins.
-use Rattle.std.specs.Prelude.{ℕ, not, ◌&&◌, List, [], ◌∷◌, ◌++◌, Option, Some, None, if◌then◌else◌}
-use Rattle.std.specs.List.{list_any}
+-- What private functions say of where the tree of an id begins.
+use Rattle.std.specs.Prelude.{ℕ, Option, Some, None, if◌then◌else◌}
 use Rattle.std.specs.Ordering.{nat_cmp}
 use Rattle.std.specs.BTreeMap as tree_map
-use Rattle.verdict.specs.Rules.{TableRow}
-use Rattle.verdict.specs.Trees.{has_group_tree}
-use Rattle.verdict.specs.declared.finding.Finding.{Finding}
 use Rattle.node_reader.specs.declared.expect.Expect.{Expect}
-use Rattle.records.specs.Contents.{missing_finding, roots_finding, names, named_root}
+use Rattle.records.specs.Contents.{named_root, names}
 use Rattle.volume_items.specs.declared.root_at.RootAt.{RootAt}
 use Rattle.tree_change.specs.declared.roots.Ids.{Ids}
-
--- the finding on the first that has the id of an earlier one; those before are given first
-unfoldable pub repeated_in : List RootAt → List RootAt → Option Finding
-repeated_in before [] = None
-repeated_in before (root ∷ roots) =
-    if list_any (names root.key.objectid) before then Some (roots_finding 1 root.key) else repeated_in (before ++ root ∷ []) roots
-
--- none names a tree that each image has
-abbrev pub missing_at : List RootAt → ℕ → TableRow
-missing_at roots id = record { fails = not (list_any (names id) roots); finding = missing_finding id }
-
-abbrev pub missing_in : ℕ → List RootAt → List TableRow
-missing_in compat_ro roots =
-    missing_at roots 2 ∷ missing_at roots 4 ∷ missing_at roots 5 ∷ missing_at roots 7
-    ∷ record { fails = has_group_tree compat_ro && not (list_any (names 11) roots); finding = missing_finding 11 } ∷ []
 
 -- what is expected of a root, where there is one
 abbrev pub named_of : Option RootAt → Option Expect

@@ -105,8 +105,8 @@ abbrev pub lives_of : List Ended → List WalkedBlock → List Live
 lives_of ended blocks = map (λ (block : WalkedBlock). live_with block (last_at ended block.address)) blocks
 
 -- a live pair with another node above and another greatest key
-abbrev pub moved_to : Live → ℕ → Key → Live
-moved_to live parent last = record {
+abbrev pub shifted_to : Live → ℕ → Key → Live
+shifted_to live parent last = record {
   tree = live.tree;
   address = live.address;
   level = live.level;
@@ -118,13 +118,13 @@ moved_to live parent last = record {
 }
 
 -- the pair of a kept block, where it is known and its node above or its greatest key is another now
-abbrev pub moved_pair : Option Live → ℕ → Key → Option Live
-moved_pair None parent last = None
-moved_pair (Some live) parent last =
-    if live.parent == parent && key_same live.last last then None else Some (moved_to live parent last)
+abbrev pub shifted_pair : Option Live → ℕ → Key → Option Live
+shifted_pair None parent last = None
+shifted_pair (Some live) parent last =
+    if live.parent == parent && key_same live.last last then None else Some (shifted_to live parent last)
 
-abbrev pub moved_of : Pairs → List Ended → List Expect → List Live
-moved_of pairs ended met = filter_map (λ (e : Expect). moved_pair (pairs e.tree e.address) e.parent (last_at ended e.address)) met
+abbrev pub shifted_of : Pairs → List Ended → List Expect → List Live
+shifted_of pairs ended met = filter_map (λ (e : Expect). shifted_pair (pairs e.tree e.address) e.parent (last_at ended e.address)) met
 
 -- the known pairs of blocks
 abbrev pub pairs_at : Pairs → List WalkedBlock → List Live
@@ -134,7 +134,7 @@ pairs_at pairs blocks = filter_map (λ (block : WalkedBlock). pairs block.tree b
 pub record Parts : Type 0 where
   pub old_blocks : List Live
   pub new_blocks : List Live
-  pub moved : List Live
+  pub shifted : List Live
   pub old_items : List Located
   pub new_items : List Located
   pub count : ℕ
@@ -144,7 +144,7 @@ abbrev pub parts_of : Pairs → NewWalk → Gathers → Parts
 parts_of pairs new old = record {
   old_blocks = pairs_at pairs old.blocks;
   new_blocks = lives_of new.ended new.read.blocks;
-  moved = moved_of pairs new.ended new.met;
+  shifted = shifted_of pairs new.ended new.met;
   old_items = old.items;
   new_items = new.read.items;
   count = length old.blocks + 2 * length new.read.blocks;

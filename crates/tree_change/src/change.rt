@@ -4,6 +4,7 @@ use chunk_map::ChunkMap;
 use live_index::Live;
 use records::ItemAt;
 use verdict::Finding;
+use volume_items::RootAt;
 
 /// What changes from an accepted image, the old one, to a judged image without a finding of its contents, the new
 /// one. Pairs of a tree and a block that both have and that nothing touched are shared, and are not here.
@@ -22,6 +23,8 @@ pub struct Change {
     pub new_items: Vec<ItemAt>,
     /// The chunks of the new image.
     pub map: ChunkMap,
+    /// Where the trees of the new image begin, in the order of the keys of their root items.
+    pub roots: Vec<RootAt>,
 }
 
 /// What a judged image is beside an accepted one.

@@ -3,6 +3,7 @@
 ghost use Rattle.std.specs.Prelude.{OnOk};
 ghost use Rattle.recon_disk.specs.Keeping.{Kept};
 ghost use Rattle.block_source.specs.Gives.{is_disk_halt};
+ghost use Rattle.block_source.specs.Takes.{handing};
 ghost use Rattle.tree_change.specs.AllLooks.{LooksForMap, LooksForRest};
 ghost use Rattle.tree_change.specs.Compared.{FitsCompared, TellsMap, TellsRest};
 
@@ -18,6 +19,7 @@ use recon_disk::{Disk, Steps};
 use shared_trees::Starts;
 use std::alloc::Global;
 use touched_blocks::{Move, moved_pairs, moved_pairs_of};
+use volume_items::RootAt;
 
 /// The new chunks, by what changes in the chunk tree, which is put behind other parts. The new chunk tree is read by these chunks of
 /// the new system array.
@@ -69,7 +71,7 @@ pub(crate) fn change_map<D: Disk, L>(
     change_chunks(alloc, disk, &sides, steps, room, all)
 }
 
-/// Puts what changes in all trees but the chunk tree behind other parts. They are read by these new chunks.
+/// Where the new trees begin. What changes in all trees but the chunk tree is put behind other parts. They are read by these new chunks.
 pub(crate) fn change_rest<D: Disk, L>(
     alloc: Global,
     disk: &mut D,
@@ -78,9 +80,10 @@ pub(crate) fn change_rest<D: Disk, L>(
     steps: &mut Steps<L>,
     room: &mut Vec<u8>,
     all: &mut TreeParts,
-) -> Result<(), Halt>
+) -> Result<Vec<RootAt>, Halt>
     requires fit { FitsCompared both.now (D.len disk.old) }
-    ensures tells { TellsRest D.Disk disk.old disk.new all.old all.new both.now map.now result }
+    ensures tells { TellsRest D.Disk disk.old disk.new all.old all.new both.now map.now
+        (handing (λ roots. roots.items) result) }
     ensures looks { OnOk result (
         LooksForRest (D.bytes disk.old) steps.old steps.new both.now map.now) }
     ensures kept { Kept D.Disk disk.old disk.new (is_disk_halt result) }

@@ -31,10 +31,11 @@ use volume_items::RootAt;
 use write_cache::WriteCache;
 
 /// What changes from an accepted image to the image that the pending writes make of it, or the first finding of what that image holds. The
-/// disk's bytes are the accepted image, and the bases are what is known of it. `fresh` is the superblock of the new image. Its reads of the
-/// disk are counted: at most one for each old pair of the change, and two for each new one. So a commit that writes nothing but the superblock
-/// with its own bytes reads none. Of an old block the first copy is read, since an accepted image has the same in both. Where the two superblocks do not read blocks alike, nothing is shared. Of the live table it asks for what the
-/// pending writes touch and what the walks meet. Where the answer is a change, it counts at most 58 looks into that table for each old block
+/// disk's bytes, `end` of them, are the accepted image, and the bases are what is known of it. `fresh` is the superblock of the new image. Its
+/// reads of the disk are counted: at most one for each old pair of the change, and two for each new one. So a commit that writes nothing but
+/// the superblock with its own bytes reads none. Of an old block the first copy is read, since an accepted image has the same in both. Where
+/// the two superblocks do not read blocks alike, nothing is shared. Of the live table it asks for what the pending writes touch and what the
+/// walks meet. Where the answer is a change, it counts at most 58 looks into that table for each old block
 /// that changes and 35 for each new one, 56 for each pointer or item of the old ones and four for each of the new ones, one for each piece of
 /// the writes (a maximal run of written bytes), four for each old chunk, one for each new one, and 77. A change has at most one shifted pair
 /// for each pointer or item of its new blocks, eight for each new block, one for each old one, and two. The lists take their memory from this
@@ -43,10 +44,12 @@ pub fn difference<D: Disk, L, B: Bases<Table = LiveIndex<L>>>(
     alloc: Global,
     disk: &mut D,
     cache: &WriteCache,
+    end: u64,
     bases: &B,
     fresh: &Super,
     steps: &mut Steps<L>,
 ) -> Result<Diff, Fault>
+    requires end { end ≡ D.len disk.old }
     ensures gives { let b = bases.now in
         GivesDifference D.Disk disk.old disk.new cache.now (B.superblock b) (B.chunks b)
         (B.root_items b) (B.is_sum_free b) (B.is_full b) (pairs_of (B.table b))
@@ -61,7 +64,6 @@ pub fn difference<D: Disk, L, B: Bases<Table = LiveIndex<L>>>(
         fresh.now) }
     ensures kept { Kept D.Disk disk.old disk.new (is_disk_fault result) }
 {
-    let end = disk.length()?;
     let none = WriteCache::new(alloc);
     let was = BlockSource {
         cache: &none,
@@ -155,16 +157,16 @@ fn compare<D: Disk, L>(
     let mut room = Vec::new(alloc);
     let mut all = TreeParts::new(alloc);
     let map = change_map(alloc, disk, both, &array, steps, &mut room, &mut all)?;
-    change_rest(alloc, disk, both, &map, steps, &mut room, &mut all)?;
+    let roots = change_rest(alloc, disk, both, &map, steps, &mut room, &mut all)?;
     let risen = rise(alloc, both.table, both.marks, all, steps)?;
-    Ok(finish(alloc, risen, map)?)
+    Ok(finish(alloc, risen, map, roots)?)
 }
 
 // What changes, with its lists in order.
-fn finish(alloc: Global, parts: TreeParts, map: ChunkMap) -> Result<Change, NoMemory>
-    ensures { IfOk result (λ change. IsFinished parts map change) }
+fn finish(alloc: Global, parts: TreeParts, map: ChunkMap, roots: Vec<RootAt>) -> Result<Change, NoMemory>
+    ensures { IfOk result (λ change. IsFinished parts map roots.items change) }
 {
-    let mut moved = parts.moved;
+    let mut moved = parts.shifted;
     sort_lives(alloc, &mut moved)?;
     let mut old_items = parts.old_items;
     sort_items(alloc, &mut old_items)?;
@@ -177,6 +179,7 @@ fn finish(alloc: Global, parts: TreeParts, map: ChunkMap) -> Result<Change, NoMe
         old_items,
         new_items,
         map,
+        roots,
     })
 }
 

@@ -26,5 +26,4 @@ pub use laws::{
     accepted_law, all_trees_law, gone_looks_law, gone_trees_law, named_law, one_tree_law,
     risen_law, tree_looks_law,
 };
-pub use merge::merge_roots;
 pub use path::{Path, PathStep};

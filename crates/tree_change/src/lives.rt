@@ -5,8 +5,8 @@ ghost use Rattle.std.specs.Option.{option_copied};
 ghost use Rattle.live_index.specs.Table.{pairs_of};
 ghost use Rattle.tree_laws.specs.Known.{AreMetBy, blocks_met};
 ghost use Rattle.tree_laws.specs.LivePairs.{first_or_greatest};
-ghost use Rattle.tree_change.specs.Walks.{live_with, lives_of, moved_of, moved_pair, moved_to, pairs_at};
-ghost use Rattle.tree_change.specs.Leaves.{last_in, lives_by, moved_by, moved_by_one};
+ghost use Rattle.tree_change.specs.Walks.{live_with, lives_of, shifted_of, shifted_pair, shifted_to, pairs_at};
+ghost use Rattle.tree_change.specs.Leaves.{last_in, lives_by, shifted_among, shifted_by_one};
 
 use crate::lasts::Lasts;
 use live_index::{Live, LiveIndex};
@@ -19,7 +19,7 @@ use verdict::{Key, NoMemory};
 /// Puts what the walk of a tree as it is gave behind other live pairs: the blocks that were read, and those of the kept blocks that it
 /// met of which the node above or the greatest key is another than the table has. Each of these looks once into the table, unless the
 /// walk asked the same table for its pair. The greatest keys take their memory from this allocator.
-#[tactic(auto, using(crate::proofs::Leaving::lives_alike, crate::proofs::Leaving::moved_alike))]
+#[tactic(auto, using(crate::proofs::Leaving::lives_alike, crate::proofs::Leaving::shifted_alike))]
 pub(crate) fn add_new<L>(
     alloc: Global,
     table: &LiveIndex<L>,
@@ -29,18 +29,18 @@ pub(crate) fn add_new<L>(
     met: &[Met],
     ended: &[Ended],
     lives: &mut Vec<Live>,
-    moved: &mut Vec<Live>,
+    shifted: &mut Vec<Live>,
 ) -> Result<(), NoMemory>
     requires asked { is_asked ≡ true → AreMetBy (pairs_of table.now) met.now }
     ensures puts { OnOk result ((lives.new.items ≡ lives.old.items ++ lives_of ended.now blocks.now)
-        × (moved.new.items ≡ moved.old.items
-        ++ moved_of (pairs_of table.now) ended.now (blocks_met met.now))) }
+        × (shifted.new.items ≡ shifted.old.items
+        ++ shifted_of (pairs_of table.now) ended.now (blocks_met met.now))) }
     ensures looks { OnOk result (steps.new ≤ steps.old + length met.now) }
     ensures none { is_asked ≡ true → steps.new ≡ steps.old }
 {
     let lasts = Lasts::new(alloc, ended)?;
     add_lives(&lasts, blocks, lives)?;
-    add_moved(table, is_asked, steps, &lasts, met, moved)
+    add_shifted(table, is_asked, steps, &lasts, met, shifted)
 }
 
 // Puts the blocks that were read behind other live pairs.
@@ -58,7 +58,7 @@ fn add_lives(lasts: &Lasts, blocks: &[WalkedBlock], into: &mut Vec<Live>) -> Res
 }
 
 // Puts those of the kept blocks behind other live pairs that are not as the table has them.
-fn add_moved<L>(
+fn add_shifted<L>(
     table: &LiveIndex<L>,
     is_asked: bool,
     steps: &mut Steps<L>,
@@ -68,18 +68,18 @@ fn add_moved<L>(
 ) -> Result<(), NoMemory>
     requires asked { is_asked ≡ true → AreMetBy (pairs_of table.now) met.now }
     ensures puts { OnOk result (into.new.items ≡
-        into.old.items ++ moved_by (pairs_of table.now) (last_in lasts.now) (blocks_met met.now)) }
+        into.old.items ++ shifted_among (pairs_of table.now) (last_in lasts.now) (blocks_met met.now)) }
     ensures looks { OnOk result (steps.new ≤ steps.old + length met.now) }
     ensures none { is_asked ≡ true → steps.new ≡ steps.old }
 {
     for one in met {
-        push_some(into, moved_of(table, is_asked, steps, lasts, one))?;
+        push_some(into, shifted_of(table, is_asked, steps, lasts, one))?;
     }
     Ok(())
 }
 
 // The pair of a kept block, where it is not as the table has it.
-fn moved_of<L>(
+fn shifted_of<L>(
     table: &LiveIndex<L>,
     is_asked: bool,
     steps: &mut Steps<L>,
@@ -88,17 +88,17 @@ fn moved_of<L>(
 ) -> Option<Live>
     requires asked { is_asked ≡ true →
         one.now.live ≡ pairs_of table.now one.now.expect.tree one.now.expect.address }
-    ensures pair { result ≡ moved_by_one (pairs_of table.now) (last_in lasts.now) one.now.expect }
+    ensures pair { result ≡ shifted_by_one (pairs_of table.now) (last_in lasts.now) one.now.expect }
     ensures looks { steps.new ≤ steps.old + 1 }
     ensures none { is_asked ≡ true → steps.new ≡ steps.old }
 {
     let e = &one.expect;
     let last = lasts.of(e.address);
     if is_asked {
-        return moved_pair(one.live.as_ref(), e.parent, last);
+        return shifted_pair(one.live.as_ref(), e.parent, last);
     }
     let live = table.get(e.tree, e.address, steps);
-    moved_pair(live.as_ref(), e.parent, last)
+    shifted_pair(live.as_ref(), e.parent, last)
 }
 
 /// Puts the pairs of blocks behind others, as the table has them. Each block looks once into the table.
@@ -161,8 +161,8 @@ fn first_or_greatest(first: Option<Key>) -> Key
 }
 
 // A known pair with its node above and its greatest key now, where either is another.
-fn moved_pair(live: Option<&Live>, parent: u64, last: Key) -> Option<Live>
-    ensures { result ≡ moved_pair (option_copied live.entry) parent last }
+fn shifted_pair(live: Option<&Live>, parent: u64, last: Key) -> Option<Live>
+    ensures { result ≡ shifted_pair (option_copied live.entry) parent last }
 {
     let live = live?;
     if live.parent == parent && live.last == last {

@@ -8,18 +8,10 @@ ghost use Rattle.verdict.specs.declared.key.Key.{Key as AKey};
 ghost use Rattle.verdict.specs.declared.place.Chunk.{Chunk as AChunk};
 ghost use Rattle.volume_items.specs.declared.root_at.RootAt.{RootAt as ARoot};
 ghost use Rattle.live_index.specs.Orders.{by_key};
-ghost use Rattle.tree_laws.specs.MergedLaw.{begins_before, chunk_in, root_in};
+ghost use Rattle.tree_laws.specs.MergedLaw.{begins_before, chunk_in, root_before, root_in};
 ghost use Rattle.records.specs.Part.{owned_part};
 ghost use Rattle.tree_change.specs.Gathered.{located_item};
-ghost use Rattle.tree_change.specs.Merging.{
-  IsSortedOf,
-  chunks_among,
-  chunks_left,
-  named_before,
-  root_at_of,
-  roots_among,
-  roots_left,
-};
+ghost use Rattle.tree_change.specs.Merging.{IsSortedOf, chunks_among, chunks_left, roots_among, roots_left};
 ghost use Rattle.tree_change.specs.Change.{is_before, item_before};
 ghost use Rattle.tree_change.specs.Merges.{fits, has_key, has_start};
 
@@ -138,13 +130,13 @@ fn chunk_in(item: &ItemAt) -> Option<Chunk>
 
 /// Where trees begin, in the order of the keys of their root items: those that were, without those of which the key is gone, and those
 /// that came. The list and the keys meanwhile take their memory from this allocator.
-pub fn merge_roots(
+pub(crate) fn merge_roots(
     alloc: Global,
     old: &[RootAt],
     gone: &[ItemAt],
     came: &[ItemAt],
 ) -> Result<Vec<RootAt>, NoMemory>
-    ensures { IfOk result (λ roots. IsSortedOf named_before
+    ensures { IfOk result (λ roots. IsSortedOf root_before
         (roots_left old.now (map located_item gone.now) (map located_item came.now)) roots.items) }
 {
     let keys = keys_of(alloc, gone)?;
@@ -210,22 +202,17 @@ fn add_roots(items: &[ItemAt], into: &mut Vec<RootAt>) -> Result<(), NoMemory>
 
 // Puts trees in the order of the keys of their root items.
 fn sort_roots(roots: &mut Vec<RootAt>)
-    ensures { IsSortedOf named_before roots.old.items roots.new.items }
+    ensures { IsSortedOf root_before roots.old.items roots.new.items }
 {
     roots.sort_unstable_by_key(|root| root.key);
 }
 
 // Where a tree begins by an item, where it is a root item.
 fn root_in(item: &ItemAt) -> Option<RootAt>
-    ensures { result ≡ root_at_of (root_in (owned_part (item.now).part)) }
+    ensures { result ≡ root_in (owned_part (item.now).part) }
 {
     match &item.part {
-        OwnedRec::RootItem(root) => Some(RootAt {
-            key: root.key,
-            address: root.bytenr,
-            generation: root.generation,
-            level: root.level,
-        }),
+        OwnedRec::RootItem(root) => Some(RootAt::of(root)),
         _ => None,
     }
 }

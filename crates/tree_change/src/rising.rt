@@ -34,10 +34,10 @@ pub(crate) fn rise<L>(
         return Ok(parts);
     }
     let changed = places_of(alloc, &parts.old_blocks)?;
-    let shifted = places_of(alloc, &parts.moved)?;
+    let shifted = places_of(alloc, &parts.shifted)?;
     let mut new_blocks = parts.new_blocks;
-    let mut moved = Vec::new(alloc);
-    split(marks, &parts.moved, &mut new_blocks, &mut moved)?;
+    let mut rest = Vec::new(alloc);
+    split(marks, &parts.shifted, &mut new_blocks, &mut rest)?;
     let mut old_blocks = parts.old_blocks;
     put_left(
         table,
@@ -51,7 +51,7 @@ pub(crate) fn rise<L>(
     Ok(TreeParts {
         old_blocks,
         new_blocks,
-        moved,
+        shifted: rest,
         old_items: parts.old_items,
         new_items: parts.new_items,
     })

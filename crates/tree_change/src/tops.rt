@@ -10,12 +10,12 @@ ghost use Rattle.tree_change.specs.Making.{FitSides, TellsChunks, TellsOthers, T
 ghost use Rattle.tree_change.specs.Stays.{RootsStand};
 
 use crate::merge::{merge_chunks, merge_roots};
-use crate::roots::check_roots;
 use crate::sides::Sides;
 use crate::trees::{TreeParts, change_all_gone, change_named, change_tree};
 use block_source::{Halt, chunk_root, top_root};
 use chunk_map::ChunkMap;
 use recon_disk::{Disk, Steps};
+use records::roots_fault;
 use std::alloc::Global;
 use volume_items::RootAt;
 
@@ -69,12 +69,17 @@ pub(crate) fn change_roots<D: Disk, L>(
     let now = top_root(sides.is.sup);
     let made = change_tree(alloc, disk, sides, steps, room, Some(before), &now)?;
     let roots = merge_roots(alloc, olds, &made.old_items, &made.new_items)?;
-    check_roots(alloc, sides.is.sup.compat_ro, &roots)?;
-    all.add(made)?;
-    Ok(roots)
+    match roots_fault(alloc, sides.is.sup.compat_ro, &roots)? {
+        Some(found) => Err(Halt::Found(found)),
+        None => {
+            all.add(made)?;
+            Ok(roots)
+        }
+    }
 }
 
-/// Puts what changes in the root tree, in the trees that are named now and in those that are gone behind other parts.
+/// Where the new trees begin. What changes in the root tree, in the trees that are named now and in those that are gone is put behind other
+/// parts.
 pub(crate) fn change_others<D: Disk, L>(
     alloc: Global,
     disk: &mut D,
@@ -83,15 +88,17 @@ pub(crate) fn change_others<D: Disk, L>(
     room: &mut Vec<u8>,
     olds: &[RootAt],
     all: &mut TreeParts,
-) -> Result<(), Halt>
+) -> Result<Vec<RootAt>, Halt>
     requires fit { FitSides sides.now (D.len disk.old) }
     ensures tells { RootsStand (pairs_of (sides.now).table.now) olds.now
-        → TellsOthers D.Disk disk.old disk.new all.old all.new sides.now olds.now result }
+        → TellsOthers D.Disk disk.old disk.new all.old all.new sides.now olds.now
+        (handing (λ roots. roots.items) result) }
     ensures looks { OnOk result (
         OthersLookAtMost (D.bytes disk.old) steps.old steps.new sides.now olds.now) }
     ensures kept { Kept D.Disk disk.old disk.new (is_disk_halt result) }
 {
     let roots = change_roots(alloc, disk, sides, steps, room, olds, all)?;
     change_named(alloc, disk, sides, steps, room, olds, &roots, all)?;
-    change_all_gone(alloc, disk, sides, steps, room, &roots, olds, all)
+    change_all_gone(alloc, disk, sides, steps, room, &roots, olds, all)?;
+    Ok(roots)
 }

@@ -17,14 +17,14 @@ ghost use Rattle.tree_change.specs.Making.{AddsParts, FitSides, TellsParts, gone
 
 use crate::gather::Gathered;
 use crate::lives::{add_known, add_new};
-use crate::roots::{ids_of, named_at};
+use crate::roots::ids_of;
 use crate::sides::Sides;
 use crate::walks::{walk_new, walk_old};
 use block_source::Halt;
 use live_index::Live;
 use node_reader::Expect;
 use recon_disk::{Disk, Steps};
-use records::ItemAt;
+use records::{ItemAt, named_root};
 use shared_trees::Met;
 use std::alloc::{AllocError, Global};
 use touched_blocks::AddressTest;
@@ -38,7 +38,7 @@ pub(crate) struct TreeParts {
     /// The new pairs that changed.
     pub(crate) new_blocks: Vec<Live>,
     /// The other pairs whose node above or greatest key is another.
-    pub(crate) moved: Vec<Live>,
+    pub(crate) shifted: Vec<Live>,
     /// The items of the old pairs.
     pub(crate) old_items: Vec<ItemAt>,
     /// The items of the new pairs.
@@ -53,7 +53,7 @@ impl TreeParts {
         TreeParts {
             old_blocks: Vec::new(alloc),
             new_blocks: Vec::new(alloc),
-            moved: Vec::new(alloc),
+            shifted: Vec::new(alloc),
             old_items: Vec::new(alloc),
             new_items: Vec::new(alloc),
         }
@@ -67,7 +67,7 @@ impl TreeParts {
     {
         put_behind(&mut self.old_blocks, more.old_blocks)?;
         put_behind(&mut self.new_blocks, more.new_blocks)?;
-        put_behind(&mut self.moved, more.moved)?;
+        put_behind(&mut self.shifted, more.shifted)?;
         put_behind(&mut self.old_items, more.old_items)?;
         put_behind(&mut self.new_items, more.new_items)?;
         Ok(())
@@ -150,7 +150,7 @@ pub(crate) fn change_tree<D: Disk, L>(
     let mut old_blocks = Vec::new(alloc);
     add_known(sides.table, steps, &old.blocks, &mut old_blocks)?;
     let mut new_blocks = Vec::new(alloc);
-    let mut moved = Vec::new(alloc);
+    let mut shifted = Vec::new(alloc);
     add_new(
         alloc,
         sides.table,
@@ -160,12 +160,12 @@ pub(crate) fn change_tree<D: Disk, L>(
         &new.met,
         &new.ended,
         &mut new_blocks,
-        &mut moved,
+        &mut shifted,
     )?;
     Ok(TreeParts {
         old_blocks,
         new_blocks,
-        moved,
+        shifted,
         old_items: old.items,
         new_items: new.read.items,
     })
@@ -202,7 +202,7 @@ fn change_gone<D: Disk, L>(
     Ok(TreeParts {
         old_blocks,
         new_blocks: Vec::new(alloc),
-        moved: Vec::new(alloc),
+        shifted: Vec::new(alloc),
         old_items: old.items,
         new_items: Vec::new(alloc),
     })
@@ -245,7 +245,7 @@ pub(crate) fn change_named<D: Disk, L>(
 {
     let ids = ids_of(alloc, olds)?;
     for root in news {
-        let (before, now) = (ids.root_of(root.key.objectid), named_at(root));
+        let (before, now) = (ids.root_of(root.key.objectid), named_root(root));
         if !stays(sides, before, &now) {
             let made = change_tree(alloc, disk, sides, steps, room, before, &now)?;
             all.add(made)?;
@@ -276,7 +276,7 @@ pub(crate) fn change_all_gone<D: Disk, L>(
     let ids = ids_of(alloc, news)?;
     for root in olds {
         if !ids.has(root.key.objectid) {
-            let made = change_gone(alloc, disk, sides, steps, room, &named_at(root))?;
+            let made = change_gone(alloc, disk, sides, steps, room, &named_root(root))?;
             all.add(made)?;
         }
     }

@@ -1,6 +1,6 @@
 -- The children that a table lists are those of the blocks of the walk that it stands for.
 use Rattle.std.proofs.Common.{◌≡◌, ℕ, zero, suc, ◌≤◌, Bool, true, false, cond, ◌||◌, List, [], ◌∷◌, ◌⊎◌, inl, inr, refl, ap, sym, subst, ◌∙◌, arith, if◌then◌else◌}
-use Rattle.std.specs.Prelude.{Option, Some, None, IfSome, nat_lt, Ok}
+use Rattle.std.specs.Prelude.{Option, Some, None, nat_lt, Ok}
 use Rattle.std.specs.List.{AllByRecursion, list_any}
 use Rattle.std.proofs.lemmas.Bool.{eqb-true}
 use Rattle.std.proofs.lemmas.Bool.Decides.{nat_tests}

@@ -31,7 +31,7 @@ use Rattle.tree_laws.specs.Shared.{are_alike}
 use Rattle.tree_laws.specs.Skips.{Kept, nothing, own_of, unkept}
 use Rattle.tree_laws.specs.Unshared.{item_seen}
 use Rattle.tree_laws.proofs.Accepted.{IsAs}
-use Rattle.tree_laws.proofs.Climbing.{copied, ok_same as ok_bytes}
+use Rattle.tree_laws.proofs.Climbing.{ok_same as ok_bytes}
 use Rattle.tree_laws.proofs.Forest.{of_root}
 use Rattle.tree_laws.proofs.Lives.{ok_same}
 use Rattle.tree_laws.proofs.Mixing.Mixed.{Empty}

@@ -24,6 +24,7 @@ use Rattle.super_reader.specs.declared.Super.{Super}
 use Rattle.volume_items.specs.ChunkRow.{chunk_fields, chunk_of, chunk_row, chunk_rows, frame_rows}
 use Rattle.volume_items.specs.DeviceRow.{device_row}
 use Rattle.volume_items.specs.MapRules.{map_finding}
+use Rattle.volume_items.specs.RootPlace.{root_at}
 use Rattle.volume_items.specs.RootLinkRow.{RootLinkFields, root_link_row}
 use Rattle.volume_items.specs.RootRow.{root_fields, root_row, root_rows}
 use Rattle.volume_items.specs.declared.device.DeviceItem.{DeviceItem}
@@ -71,7 +72,7 @@ roots_after (ItemSeen one ∷ records) held = by one.part (roots_after records)
     by : (part : Part) → ((held : List RootAt) → fold with_root held records ≡ held ++ roots_seen records)
         → fold with_root (with_root held (ItemSeen (record one { part = part }))) records
         ≡ held ++ roots_seen (ItemSeen (record one { part = part }) ∷ records)
-    by (RootPart root) rest = rest (held ++ root ∷ []) ∙ append_assoc held (root ∷ []) (roots_seen records)
+    by (RootPart root) rest = rest (held ++ root_at root ∷ []) ∙ append_assoc held (root_at root ∷ []) (roots_seen records)
     by other rest = rest held
 
 pub lists_seen : ListsSeenLaw
@@ -274,8 +275,8 @@ roots_keep x y p q less c d is at = by x.part y.part p q is at
 
     by : (a b : Part) → FitsRoot x.key a → FitsRoot y.key b → root_in a ≡ Some c → root_in b ≡ Some d → root_before c d ≡ true
     by (RootPart f) (RootPart g) p q is at =
-        let first : c.key ≡ x.key = sym (ap (λ (t : RootAt). t.key) (some_root f c is)) ∙ p in
-        let later : d.key ≡ y.key = sym (ap (λ (t : RootAt). t.key) (some_root g d at)) ∙ q in
+        let first : c.key ≡ x.key = sym (ap (λ (t : RootAt). t.key) (some_root (root_at f) c is)) ∙ p in
+        let later : d.key ≡ y.key = sym (ap (λ (t : RootAt). t.key) (some_root (root_at g) d at)) ∙ q in
         rw (first, later) less
     by (RootPart f) other p q is at = absurd (cc)
     by other b p q is at = absurd (cc)

@@ -2,31 +2,15 @@
 use Rattle.std.proofs.Common.{◌≡◌, ℕ, ◌+◌, ◌≤◌, Bool, true, false, List, [], ◌∷◌, length, inl, inr, arith, if◌then◌else◌}
 use Rattle.std.specs.Prelude.{Option, Some, None, Ok, nat_le}
 use Rattle.std.specs.List.{AllByRecursion}
-use Rattle.std.specs.Ordering.{nat_cmp}
-use Rattle.std.specs.FinMap.{FinMap}
 use Rattle.verdict.proofs.Lists.{all_map as each_map}
 use Rattle.verdict.specs.declared.place.Chunk.{Chunk}
 use Rattle.verdict.proofs.Tables.{joined_none}
 use Rattle.volume_items.specs.ChunkOrder.{all_by_start, by_start, put_by_start}
 use Rattle.volume_items.specs.MapRules.{array_rows, map_finding, rows_by_start}
-use Rattle.live_index.specs.Pairs.{AreNarrow, Pairs}
-use Rattle.touched_blocks.specs.Marking.{AreMarkedFrom}
-use Rattle.touched_blocks.specs.Marks.{no_mark}
-use Rattle.touched_blocks.specs.Moves.{AreApart, LieApart, held_and_moved, is_moved}
-use Rattle.touched_blocks.specs.Spots.{at_address}
-use Rattle.touched_blocks.specs.Touched.{written_in}
-use Rattle.tree_laws.specs.Keeping.{AreMarked, Marks, Stands, Under}
-use Rattle.tree_laws.specs.LivePairs.{Walked, live_in, table_of, walked}
-use Rattle.tree_laws.specs.Listed.{AreListedBy}
-use Rattle.tree_laws.specs.SharedLaw.{HasTrees, MarksTouched, touches_old}
-use Rattle.tree_laws.specs.ArrayShifts.{MovesListedBy}
-use Rattle.tree_laws.specs.TableLaw.{Tree}
+use Rattle.touched_blocks.specs.Moves.{AreApart, LieApart}
+use Rattle.tree_laws.specs.LivePairs.{Walked, walked}
 use Rattle.tree_laws.proofs.ArrayTree.{Chain, above, chain_of, put_each}
-use Rattle.tree_laws.proofs.Forest.{stands_as, tables_stand}
-use Rattle.tree_laws.proofs.Listing.{lists}
-use Rattle.tree_laws.proofs.MarkedTrees.{marks_image, moves_image}
-use Rattle.tree_laws.proofs.Picking.{each_both}
-use Rattle.tree_laws.proofs.Treed.{map_kept, steps_of, trees_walk}
+use Rattle.tree_laws.proofs.Treed.{map_kept, steps_of}
 
 pub flip : (c d : Chunk) → LieApart c d → LieApart d c
 flip c d (inl is) = inr is

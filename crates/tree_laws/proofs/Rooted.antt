@@ -16,6 +16,7 @@ use Rattle.verdict.specs.declared.place.TreeSort.TheVariants.{Root}
 use Rattle.verdict.proofs.Tables.{finding_or-ok, kept_at}
 use Rattle.super_reader.specs.declared.Super.{Super}
 use Rattle.super_reader.specs.Superblock.{array_place, item_place}
+use Rattle.volume_items.specs.RootPlace.{root_at}
 use Rattle.volume_items.specs.RootRow.{is_root_id, root_fields, root_row, root_rows}
 use Rattle.volume_items.specs.RootLinkRow.{RootLinkFields, root_link_row}
 use Rattle.volume_items.specs.SystemArray.{array_chunks}
@@ -47,7 +48,7 @@ abbrev pub HasRootId : RootAt → Type 0
 HasRootId root = (features : ℕ) × (is_root_id features root.key.objectid ≡ true)
 
 abbrev pub FitsPart : Part → Type 0
-FitsPart (RootPart root) = HasRootId root
+FitsPart (RootPart root) = HasRootId (root_at root)
 FitsPart other = Unit {0}
 
 abbrev pub Fits : Seen → Type 0
@@ -146,7 +147,7 @@ roots_append [] root x y = (y, tt)
 roots_append (one ∷ a) root x y = (x.0, roots_append a root x.1 y)
 
 part_fits : (held : List RootAt) (one : Located) (part : Part) → FitsPart part → AllByRecursion HasRootId held → AllByRecursion HasRootId (with_root held (ItemSeen (record one { part = part })))
-part_fits held one (RootPart root) fits has = roots_append held root has fits
+part_fits held one (RootPart root) fits has = roots_append held (root_at root) has fits
 part_fits held one other fits has = has
 
 fold_fits : (records : List Seen) (held : List RootAt) → AllByRecursion Fits records → AllByRecursion HasRootId held → AllByRecursion HasRootId (fold with_root held records)

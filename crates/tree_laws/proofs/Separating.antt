@@ -1,29 +1,24 @@
 -- The blocks on one level of a walk lie apart, in the order of their keys.
-use Rattle.std.proofs.Common.{◌≡◌, ℕ, zero, suc, ◌<◌, ◌≤◌, ◌==◌, Bool, true, false, List, [], ◌∷◌, ◌⊎◌, inl, inr, refl, ap, sym, subst, ◌∙◌, arith}
-use Rattle.std.specs.Prelude.{Option, Some, None, Result, Ok, Err}
+use Rattle.std.proofs.Common.{◌≡◌, ℕ, zero, suc, ◌<◌, ◌≤◌, Bool, true, false, List, [], ◌∷◌, ◌⊎◌, inl, inr, refl, ap, sym, subst, ◌∙◌, arith}
+use Rattle.std.specs.Prelude.{Option, Some, Result, Ok, Err}
 use Rattle.std.proofs.lemmas.Grind.{common_steps}
 use Rattle.live_index.proofs.PlaceLaws.{same_name}
-use Rattle.tree_laws.proofs.Sharing.{first_is, header_kept}
+use Rattle.tree_laws.proofs.Sharing.{first_is}
 use Rattle.verdict.proofs.Truth.{and_parts}
 use Rattle.verdict.specs.OnDisk.{key_below}
-use Rattle.verdict.specs.Rules.{first_failing}
 use Rattle.verdict.specs.declared.key.Key.{Key}
-use Rattle.verdict.proofs.Tables.{joined_none}
 use Rattle.super_reader.specs.declared.Super.{Super}
-use Rattle.node_reader.specs.Faults.{block_fault, header_rules}
 use Rattle.node_reader.specs.Layout.{count_of, entry_key, entry_size, pointers_of}
-use Rattle.node_reader.specs.Places.{each_from}
 use Rattle.node_reader.specs.Stored.{CopyFault, Stored}
 use Rattle.node_reader.specs.declared.expect.Expect.{Expect}
 use Rattle.node_reader.specs.declared.expect.Pointer.{Pointer}
-use Rattle.node_reader.proofs.Sound.{level_kept}
 use Rattle.records.specs.Walk.{child_of, children_of, high_of}
 use Rattle.walk_laws.specs.WalkOrder.{AllAbove, Ascend}
 use Rattle.walk_laws.proofs.Blocks.{block_keys}
 use Rattle.walk_laws.proofs.Keys.{NoneBelow}
 use Rattle.tree_laws.specs.Keeping.{first_in, live_at}
 use Rattle.tree_laws.specs.Skips.{is_below}
-use Rattle.tree_laws.proofs.Accepted.{Accepts, LowFits, accepts, keys_at, visit_of, walk_accepted}
+use Rattle.tree_laws.proofs.Accepted.{LowFits, accepts, keys_at, visit_of, walk_accepted}
 use Rattle.tree_laws.proofs.Bounds.{below_self, below_through, keys_below}
 use Rattle.tree_laws.proofs.Climbing.{Table}
 use Rattle.tree_laws.proofs.Lasting.{low_fits, first_of_each}

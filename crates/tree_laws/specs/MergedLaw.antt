@@ -9,6 +9,7 @@ use Rattle.verdict.specs.declared.place.Chunk.{Chunk}
 use Rattle.super_reader.specs.declared.Super.{Super}
 use Rattle.volume_items.specs.ChunkRow.{chunk_of}
 use Rattle.volume_items.specs.MapRules.{map_finding}
+use Rattle.volume_items.specs.RootPlace.{root_at}
 use Rattle.live_index.specs.Pairs.{Pairs}
 use Rattle.live_index.specs.declared.live.Live.{Live}
 use Rattle.node_reader.specs.Stored.{Stored}
@@ -91,16 +92,16 @@ KnownSharedLaw = (pairs : Pairs) (marked : Marks) (touched moved : ℕ → Bool)
     → root.tree ≡ before.tree → Stands pairs sup old before → AreMarked marked touched sup old before → AreUntouched touched moved old new
     → TellsShared shared (kept_of pairs marked moved under) sup new root → AreShared shared sup old new before root
 
--- the chunk of a chunk item, and a root item
+-- the chunk of a chunk item, and where the tree of a root item begins
 abbrev pub chunk_in : Part → Option Chunk
 chunk_in (ChunkPart fields) = Some (chunk_of fields)
 chunk_in other = None
 
 abbrev pub root_in : Part → Option RootAt
-root_in (RootPart root) = Some root
+root_in (RootPart root) = Some (root_at root)
 root_in other = None
 
--- the chunks among records, and the root items
+-- the chunks among records, and where trees begin by the root items
 abbrev pub chunks_seen : List Seen → List Chunk
 chunks_seen records = filter_map (λ (one : Located). chunk_in one.part) (items records)
 

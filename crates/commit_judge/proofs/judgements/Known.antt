@@ -1,5 +1,5 @@
 -- What is known of an accepted image.
-use Rattle.std.proofs.Common.{◌≡◌, ℕ, List, map, Ok, refl}
+use Rattle.std.proofs.Common.{◌≡◌, ℕ, List, Ok, refl}
 use Rattle.verdict.specs.declared.finding.Verdict.TheVariants.{Accept}
 use Rattle.accounts.specs.Context.{no_full}
 use Rattle.accounts.specs.Sums.{total_of}

@@ -19,11 +19,13 @@ pairs_moved start less more all old olds new news moved moves old_is new_is move
     all_is ∙ (λ i. with_pairs ((more_is ∙ (λ j. with_pairs ((less_is ∙ (λ h. without_pairs start (old_is h))) j) (new_is j))) i) (moved_is i))
 
 -- what is known is moved where each part is
-pub passed : (k : Known) (c : Commit) (roots list : List RootAt) (free : ℕ → ℕ → Bool) (pairs : Pairs) (sums : Sums) (spans : Table) → list ≡ roots
+pub passed : (k : Known) (c : Commit) (list : List RootAt) (free : ℕ → ℕ → Bool) (pairs : Pairs) (sums : Sums) (spans : Table)
+    → list ≡ c.change.roots.items
     → ((tree ino : ℕ) → free tree ino ≡ flags_after c.change.old_items.items c.change.new_items.items c.changes k.free tree ino)
     → pairs ≡ with_pairs (with_pairs (without_pairs k.pairs c.change.old_blocks.items) c.change.new_blocks.items) c.change.moved.items
-    → record { sup = c.fresh; chunks = c.change.map; roots = list; free = free; full = k.full; pairs = pairs; sums = sums; spans = spans } ≡ next_of k c roots sums spans
-passed k c roots list free pairs sums spans roots_are free_are pairs_are =
+    → record { sup = c.fresh; chunks = c.change.map; roots = list; free = free; full = k.full; pairs = pairs; sums = sums; spans = spans }
+    ≡ next_of k c sums spans
+passed k c list free pairs sums spans roots_are free_are pairs_are =
     let frees : free ≡ flags_after c.change.old_items.items c.change.new_items.items c.changes k.free =
     fun_ext (λ tree. fun_ext (λ ino. free_are tree ino)) in
     λ i. record {

@@ -1,5 +1,5 @@
 -- A commit that is tried is decided.
-use Rattle.std.proofs.Common.{◌≡◌, ℕ, ◌+◌, ◌-◌, ◌≤◌, List, ◌++◌, map, refl, ap, sym, ◌∙◌, subst, arith}
+use Rattle.std.proofs.Common.{◌≡◌, ℕ, ◌+◌, ◌-◌, ◌≤◌, List, ◌++◌, refl, ap, sym, ◌∙◌, subst, arith}
 use Rattle.std.specs.Prelude.{Option, Some, None, Ok, option_map}
 use Rattle.std.specs.Ordering.{nat_cmp}
 use Rattle.std.specs.FinMap.{FinMap}
@@ -18,9 +18,6 @@ use Rattle.span_index.specs.Spans.{Table}
 use Rattle.span_index.specs.declared.span.Span.{Span}
 use Rattle.touched_accounts.specs.Least.{IsLeastTouched}
 use Rattle.touched_accounts.specs.Sums.{less_all, with_all}
-use Rattle.tree_change.specs.Gathered.{located_item}
-use Rattle.tree_change.specs.Merging.{IsSortedOf, named_before, roots_left}
-use Rattle.volume_items.specs.declared.root_at.RootAt.{RootAt}
 use Rattle.write_cache.specs.Cache.{overlaid}
 use Rattle.commit_laws.specs.Commit.{Commit, CommitLaw, Decides, IsCommit, IsJudged, IsKnown, IsMoved, Known, came_by, context_by, gone_by}
 use Rattle.account_tally.specs.Kept.{chosen}
@@ -53,12 +50,11 @@ known_ascend laws image k known =
     subst KeysAscend (sym (b.roots_are ∙ ap (λ (h : Contents). h.roots) (same_held image b.held held.0 b.holds held.1)))
     (laws.ascend image b.trees held.0.roots b.walks held.2.roots)
 
-module _ (laws : Laws) (image : List ℕ) (pending : FinMap nat_cmp ℕ) (k : Known) (c : Commit) (roots : List RootAt) (moves : Moves) (sums : Sums)
+module _ (laws : Laws) (image : List ℕ) (pending : FinMap nat_cmp ℕ) (k : Known) (c : Commit) (moves : Moves) (sums : Sums)
     (table : Table) (finding : Option Finding) (known : IsKnown image k) (commit : IsCommit image pending k c)
-    (sorted : IsSortedOf named_before (roots_left k.roots (map located_item c.change.old_items.items) (map located_item c.change.new_items.items)) roots)
     (t : IsTried k c moves sums table finding) where
   abbrev next : Known
-  next = next_of k c roots sums table
+  next = next_of k c sums table
 
   sound : IsSound k c
   sound = laws.sound image pending k c known commit
@@ -85,7 +81,7 @@ module _ (laws : Laws) (image : List ℕ) (pending : FinMap nat_cmp ℕ) (k : Kn
   moved = record {
     sup = refl;
     chunks = refl;
-    roots = sorted;
+    roots = refl;
     free = λ tree ino. refl;
     full = λ address. refl;
     pairs = λ tree address. refl;
@@ -124,15 +120,14 @@ module _ (laws : Laws) (image : List ℕ) (pending : FinMap nat_cmp ℕ) (k : Kn
       (subst (λ (p : List Span). times_of_span p span ≤ k.spans span) (sym shown.gone_is) (sound.spans span)))
 
   by : (chosen : Option Account) → Decides (overlaid pending 0 image) c next chosen
-      → TriedSays (overlaid pending 0 image) k c roots moves sums table (option_map broken_finding chosen)
+      → TriedSays (overlaid pending 0 image) k c moves sums table (option_map broken_finding chosen)
   by None is = (is.0, is.1, known_ascend laws (overlaid pending 0 image) next is.1, moved)
   by (Some account) is = (is, sums_back, spans_back)
 
-  says : TriedSays (overlaid pending 0 image) k c roots moves sums table finding
+  says : TriedSays (overlaid pending 0 image) k c moves sums table finding
   says =
-      subst (λ (f : Option Finding). TriedSays (overlaid pending 0 image) k c roots moves sums table f) (sym t.found.found)
+      subst (λ (f : Option Finding). TriedSays (overlaid pending 0 image) k c moves sums table f) (sym t.found.found)
       (by (chosen t.found.bad t.found.least) decided)
 
 pub tried : Laws → TriedLaw
-tried laws image pending k c roots moves sums table finding known commit sorted t =
-    says laws image pending k c roots moves sums table finding known commit sorted t
+tried laws image pending k c moves sums table finding known commit t = says laws image pending k c moves sums table finding known commit t

@@ -107,6 +107,7 @@ sound laws image pending k c known is =
       was = was;
       is = will;
       change_is = is.change_is.4;
+      roots_are = is.change_is.5;
       says = is'.changes_are;
     } in
     sound_by laws image pending old new held.0.roots c between (stepped laws image pending old new held.0.roots c between is'.refs_are) in

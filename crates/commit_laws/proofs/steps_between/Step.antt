@@ -9,7 +9,6 @@ use Rattle.std.proofs.lemmas.List.Sorted.{IsPermutation-cons, IsPermutation-sym,
 use Rattle.std.specs.List.{All, AllByRecursion, AllPairs, Contains, filter}
 use Rattle.std.specs.List.Sorted.{IsPermutation}
 use Rattle.tree_change.proofs.RisenLists.{filter_permuted}
-use Rattle.commit_laws.proofs.next_index.Roots.{all_pass}
 use Rattle.commit_laws.proofs.next_index.Flags.{ascend_items}
 use Rattle.accounts.specs.Context.{Context}
 use Rattle.live_index.specs.declared.live.Live.{Live}
@@ -45,6 +44,10 @@ use Rattle.commit_laws.proofs.steps_between.Records.{HoldApart, IsBlock, hold_ap
 none_passes : {X : Type 0} (test : X → Bool) (xs : List X) → AllByRecursion (λ x. test x ≡ false) xs → filter test xs ≡ []
 none_passes test [] all = refl
 none_passes test (x ∷ xs) all = rw all.0 (none_passes test xs all.1)
+
+all_pass : {X : Type 0} (test : X → Bool) (xs : List X) → AllByRecursion (λ x. test x ≡ true) xs → filter test xs ≡ xs
+all_pass test [] all = refl
+all_pass test (x ∷ xs) all = rw all.0 (ap (λ ys. x ∷ ys) (all_pass test xs all.1))
 
 each_not : {X : Type 0} (test : X → Bool) (b : Bool) (xs : List X) → All (λ x. test x ≡ b) xs → AllByRecursion (λ x. not (test x) ≡ not b) xs
 each_not {X} test b xs all = each xs (recursion_from_All (λ x. test x ≡ b) xs all)

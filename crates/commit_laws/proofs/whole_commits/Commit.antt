@@ -1,5 +1,5 @@
 -- What is known of an accepted image, moved by what a commit changes, decides the full check of the next image.
-use Rattle.std.proofs.Common.{◌≡◌, ℕ, ◌+◌, ◌-◌, ◌%◌, ◌==◌, Bool, true, false, List, map, refl, ap, sym, ◌∙◌, subst}
+use Rattle.std.proofs.Common.{◌≡◌, ℕ, ◌+◌, ◌-◌, ◌%◌, ◌==◌, Bool, true, false, List, refl, ap, sym, ◌∙◌, subst}
 use Rattle.std.specs.Prelude.{Option, Some, None, Result, Ok, option_map}
 use Rattle.std.specs.Ordering.{nat_cmp}
 use Rattle.std.specs.FinMap.{FinMap}
@@ -25,6 +25,7 @@ use Rattle.records.specs.Part.{Located}
 use Rattle.records.specs.Postings.{account_fault, all_postings}
 use Rattle.tree_laws.specs.LivePairs.{Walked, live_in, table_of, walked}
 use Rattle.tree_laws.proofs.Treed.{steps_of}
+use Rattle.tree_change.proofs.Olds.{same_ok}
 use Rattle.span_index.specs.Sectors.{IsFirstBad, is_bad, is_inside, times_of_span}
 use Rattle.span_index.specs.declared.span.Run.{Run}
 use Rattle.touched_accounts.proofs.LeastTouched.{touched}
@@ -135,9 +136,7 @@ module _ (laws : Laws) (image : List ℕ) (pending : FinMap nat_cmp ℕ) (old ne
           let sup : moved.sup ≡ new.sup = is.sup in
           let chunks : moved.chunks ≡ new.chunks = is.chunks ∙ between.change_is.map in
           let roots : moved.roots ≡ after.roots =
-          laws.roots image pending old new c.change before.roots after.roots moved.roots between.was between.is
-          (old_stand laws image pending old new before.roots c between) (new_stand laws image pending old new before.roots c between)
-          between.change_is old_is.roots new_is.roots is.roots in
+          is.roots ∙ same_ok c.change.roots.items after.roots (sym between.roots_are ∙ new_is.roots) in
           let free : moved.free ≡ has_sum_free (records_of new) =
           fun_ext (λ tree. fun_ext (λ ino. is.free tree ino ∙ sym (flags_are laws image pending old new before.roots c between tree ino))) in
           let full : moved.full ≡ no_full = fun_ext is.full in
@@ -276,6 +275,7 @@ commit laws image pending k next c runs bad least known is moved judged =
       was = was;
       is = will;
       change_is = change_is;
+      roots_are = is.change_is.5;
       says = is'.changes_are;
     } in
     decided laws image pending old new c between old_held.0 new_held.0 old_held.1 new_held.1 old_held.2 new_held.2

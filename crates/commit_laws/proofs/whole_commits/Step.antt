@@ -15,6 +15,7 @@ use Rattle.change_records.specs.SumFree.{flags_after}
 use Rattle.change_records.specs.declared.changes.ItemChange.{ItemChange}
 use Rattle.change_records.specs.declared.item_ref.ItemRef.{ItemRef}
 use Rattle.change_records.proofs.Merge.{contains_none}
+use Rattle.records.specs.Contents.{root_items_in}
 use Rattle.records.specs.Context.{has_sum_free}
 use Rattle.records.specs.FullCheck.{full_check}
 use Rattle.records.specs.Part.{Located}
@@ -29,7 +30,7 @@ use Rattle.tree_change.specs.declared.change.Change.{Change}
 use Rattle.write_cache.specs.Cache.{overlaid}
 use Rattle.commit_laws.specs.Blocks.{BlocksLaw, HasOwnName}
 use Rattle.commit_laws.specs.Commit.{AreTheAffected, Commit, Known, came_by, gone_by}
-use Rattle.commit_laws.specs.Flags.{FlagsLaw, RootsLaw}
+use Rattle.commit_laws.specs.Flags.{FlagsLaw}
 use Rattle.commit_laws.specs.Items.{ItemsLaw, ItemsStand, items_of}
 use Rattle.commit_laws.specs.Judged.{JudgedLaw}
 use Rattle.commit_laws.specs.Kept.{FoundLaw}
@@ -56,7 +57,6 @@ pub record Laws : Type 0 where
   pub runs : RunsLaw
   pub judged : JudgedLaw
   pub flags : FlagsLaw
-  pub roots : RootsLaw
   pub table_moved : TableMovedLaw
 
 -- the context of an image by its walks, and what is known of it
@@ -86,6 +86,7 @@ pub record Between (image : List ℕ) (pending : FinMap nat_cmp ℕ) (old new : 
   pub was : walked image ≡ Ok old
   pub is : walked (overlaid pending 0 image) ≡ Ok new
   pub change_is : IsChange old new (written_in pending) (length image) change
+  pub roots_are : root_items_in new.sup new.chunks (overlaid pending 0 image) ≡ Ok change.roots.items
   pub says : SayChanges (are_read_alike old.sup new.sup) change.old_items.items change.new_items.items changes
 
 module _ (laws : Laws) (image : List ℕ) (pending : FinMap nat_cmp ℕ) (old new : Walked) (olds : List RootAt) (c : Commit)

@@ -1,9 +1,7 @@
-use Rattle.std.proofs.Common.{◌≡◌, List, sym, ◌∙◌, subst, arith}
+use Rattle.std.proofs.Common.{sym, ◌∙◌, subst, arith}
 use Rattle.std.specs.Prelude.{Some, None}
-use Rattle.chunk_map.specs.Roots.{KeysAscend}
 use Rattle.ledger_index.specs.Ledger.{IsTidy, sums_of}
 use Rattle.span_index.specs.Table.{times_of}
-use Rattle.volume_items.specs.declared.root_at.RootAt.{RootAt}
 use Rattle.write_cache.specs.Cache.{overlaid}
 use Rattle.commit_laws.specs.Commit.{IsKnown}
 use Rattle.commit_judge.specs.Index.{known}
@@ -18,8 +16,8 @@ returns-in-Some-clause-judged g c image before after stands size plan =
     let sums = sums_of c.apply.new.totals in
     let spans = times_of c.apply.new.spans in
     let says =
-    c.tried_law.ensures image c.args.cache.now k (commit_in c.args.plan) c.in_ok-roots.roots.items c.in_ok-moves.moves sums spans (Some c.in-Some.finding)
-    stands.known plan.commit c.in_ok-roots.ensures (record {
+    c.tried_law.ensures image c.args.cache.now k (commit_in c.args.plan) c.in_ok-moves.moves sums spans (Some c.in-Some.finding)
+    stands.known plan.commit (record {
       moves_are = c.in_ok-moves.ensures.moves;
       sums_are = c.in_ok-apply.ensures.sums;
       spans_are = c.in_ok-apply.ensures.spans;
@@ -42,8 +40,8 @@ returns-clause-judged g c image before after stands size plan =
     let k = known c.args.index.now in
     let d = commit_in c.args.plan in
     let says =
-    c.tried_law.ensures image c.args.cache.now k d c.in_ok-roots.roots.items c.in_ok-moves.moves (sums_of c.apply.new.totals) (times_of c.apply.new.spans) None
-    stands.known plan.commit c.in_ok-roots.ensures (record {
+    c.tried_law.ensures image c.args.cache.now k d c.in_ok-moves.moves (sums_of c.apply.new.totals) (times_of c.apply.new.spans) None
+    stands.known plan.commit (record {
       moves_are = c.in_ok-moves.ensures.moves;
       sums_are = c.in_ok-apply.ensures.sums;
       spans_are = c.in_ok-apply.ensures.spans;
@@ -55,9 +53,7 @@ returns-clause-judged g c image before after stands size plan =
       stands = record {
         known =
             subst (IsKnown (overlaid c.args.cache.now 0 image))
-            (sym (subst (λ (roots : List RootAt). KeysAscend roots → known c.pass.new.index
-            ≡ next_of k d roots (sums_of c.apply.new.totals) (times_of c.apply.new.spans)) c.deref.ensures.value c.in_ok-pass.ensures.known says.2))
-            says.1;
+            (sym (c.in_ok-pass.ensures.known says.2)) says.1;
         raw = c.in_ok-pass.ensures.raw ∙ plan.raw;
         entries = subst IsTidy (sym c.in_ok-pass.ensures.totals) (c.in_ok-apply.ensures.entries stands.entries);
       };
@@ -89,11 +85,11 @@ returns-clause-leads g c image before after stands size plan =
     let k = known c.args.index.now in
     let d = commit_in c.args.plan in
     let says =
-    c.tried_law.ensures image c.args.cache.now k d c.in_ok-roots.roots.items c.in_ok-moves.moves (sums_of c.apply.new.totals) (times_of c.apply.new.spans) None
-    stands.known plan.commit c.in_ok-roots.ensures (record {
+    c.tried_law.ensures image c.args.cache.now k d c.in_ok-moves.moves (sums_of c.apply.new.totals) (times_of c.apply.new.spans) None
+    stands.known plan.commit (record {
       moves_are = c.in_ok-moves.ensures.moves;
       sums_are = c.in_ok-apply.ensures.sums;
       spans_are = c.in_ok-apply.ensures.spans;
       found = c.in_default.ensures.least;
     }) in
-    record { next = next_of k d c.in_ok-roots.roots.items (sums_of c.apply.new.totals) (times_of c.apply.new.spans); moved = says.3; known = says.1 }
+    record { next = next_of k d (sums_of c.apply.new.totals) (times_of c.apply.new.spans); moved = says.3; known = says.1 }

@@ -17,6 +17,5 @@ returns c =
       runs = c.runs_law.ensures;
       judged = c.judged_law.ensures;
       flags = c.flags_law.ensures;
-      roots = c.roots_law.ensures;
       table_moved = c.table_moved_law.ensures;
     })

@@ -1,4 +1,5 @@
 use Rattle.live_index.specs.Table.{pairs_of}
+use Rattle.block_source.specs.Takes.{handing}
 use Rattle.touched_blocks.specs.Marks.{marked_by}
 use Rattle.shared_trees.specs.Under.{under_of}
 use Rattle.tree_change.proofs.ByMap.{rest_told}
@@ -9,7 +10,7 @@ use Rattle.tree_change.proofs.compared.change_rest.Goals as goal
 pub returns-clause-tells : goal.returns-clause-tells
 returns-clause-tells g c =
     rest_told c.args.both.now c.args.map _ _ _ _ g.D.Disk c.args.disk.now c.change_others.new.disk c.args.all.now c.change_others.new.all
-    c.in_ok-changing.changing c.join.new.self _ c.change_others.result c.requires.fit
+    c.in_ok-changing.changing c.join.new.self _ (handing (λ roots. roots.items) c.change_others.result) c.requires.fit
     (record { before = c.new-moves.ensures.old; after = c.new-moves.ensures.new; size = c.new-moves.ensures.nodesize; until = c.new-moves.ensures.end })
     c.in_ok-changing.ensures.ok c.in_ok-join.ensures.ok c.in_ok-starts.ensures.ok
     c.change_others.ensures.tells

@@ -14,8 +14,8 @@ use Rattle.tree_change.proofs.merge.keys_of.Goals as goal
 
 pub loop-item-preserved : goal.loop-item-preserved
 loop-item-preserved c =
-    has_more located_item (λ (one : Located). root_at_of (root_in one.part)) (λ (key : Key) (root : RootAt). key_same root.key key)
+    has_more located_item (λ (one : Located). root_in one.part) (λ (key : Key) (root : RootAt). key_same root.key key)
     (contains by_key c.loop-item.keys)
     (contains by_key c.put_key.new.keys) c.root_in.result c.args.items.now c.loop-item.item-index c.item-item.result c.loop-item-test.true
     c.loop-item.invariant
-    (c.root_in.ensures ∙ ap (λ (item : ItemAt). root_at_of (root_in (owned_part item.part))) c.item-item.is) c.in_ok-put_key.ensures
+    (c.root_in.ensures ∙ ap (λ (item : ItemAt). root_in (owned_part item.part)) c.item-item.is) c.in_ok-put_key.ensures

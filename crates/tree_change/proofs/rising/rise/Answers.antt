@@ -31,8 +31,8 @@ returns g c =
             (subst (Marks shifted) c.deref-2.ensures.value c.in_ok-shifted.ensures)
             (subst (λ (l : List Live). c.split.new.into.items ≡ c.args.parts.new_blocks.items ++ filter (is_marked marked) l) c.deref-3.ensures.value
             c.in_ok-split.ensures.marked)
-            (subst (λ (l : List Live). c.split.new.rest.items ≡ c.new-moved.result.items ++ filter (λ live. not (is_marked marked live)) l)
-            c.deref-3.ensures.value c.in_ok-split.ensures.others) c.new-moved.ensures.items
+            (subst (λ (l : List Live). c.split.new.rest.items ≡ c.new-rest.result.items ++ filter (λ live. not (is_marked marked live)) l)
+            c.deref-3.ensures.value c.in_ok-split.ensures.others) c.new-rest.ensures.items
             (subst (λ (l : List PairPlace). c.put_left.new.old_blocks.items ≡ c.args.parts.old_blocks.items ++ filter_map (risen_by pairs changed) l)
             c.deref-4.ensures.value c.in_ok-put_left.ensures.old)
             (subst (λ (l : List PairPlace). c.put_left.new.new_blocks.items

@@ -23,7 +23,7 @@ returns-in_err-made-clause-adds g c =
     let i = c.loop-root.root-index in
     so_halts g.D.Disk _ _ _ _ _ _ _ _ (gone_parts_in sides news (drop (i + 1) c.args.olds.now)) _ _ _ (search rules) c.loop-root.invariant.parts
     (gone_step sides news c.args.olds.now i _ _ c.loop-root-test.true
-    (named_has _ news _ _ _ (c.in_ok-ids.ensures _) c.has.ensures c.if-not-has.true) c.named_at.ensures)
+    (named_has _ news _ _ _ (c.in_ok-ids.ensures _) c.has.ensures c.if-not-has.true) c.named_root.ensures)
     c.in_err-made.ensures.tells
 
 pub loop-root-preserved : goal.loop-root-preserved
@@ -38,16 +38,16 @@ loop-root-preserved g c =
           kept = search rules;
           so = rw (w.disk-is, w.all-is) (so_more (g.D.Disk.bytes c.args.disk.now) c.args.all.now c.loop-root.all w.add.new.self w.in_ok-made.made
               (g.D.Disk.reads c.args.disk.now) (g.D.Disk.reads c.loop-root.disk) (g.D.Disk.reads w.change_gone.new.disk)
-              (gone_in sides w.named_at.result) (gone_parts_in sides news (drop i olds)) (gone_parts_in sides news (drop (i + 1) olds))
+              (gone_in sides w.named_root.result) (gone_parts_in sides news (drop i olds)) (gone_parts_in sides news (drop (i + 1) olds))
               (gone_parts_in sides news olds) c.loop-root.invariant.parts.so
               (gone_step sides news olds i _ _ c.loop-root-test.true
-              (named_has _ news _ _ _ (c.in_ok-ids.ensures _) c.has.ensures w.if-not-has.true) w.named_at.ensures)
+              (named_has _ news _ _ _ (c.in_ok-ids.ensures _) c.has.ensures w.if-not-has.true) w.named_root.ensures)
               (rw (← c.loop-root.invariant.parts.kept.bytes) w.in_ok-made.ensures.tells) w.in_ok-add.ensures);
         };
         looks = rw w.steps-is (looks_more (g.D.Disk.bytes c.args.disk.now) c.args.steps.now c.loop-root.steps w.change_gone.new.steps
-            (gone_looks_in sides w.named_at.result) _ (gone_all_looks_in sides news (drop (i + 1) olds)) _ c.loop-root.invariant.looks
+            (gone_looks_in sides w.named_root.result) _ (gone_all_looks_in sides news (drop (i + 1) olds)) _ c.loop-root.invariant.looks
             (gone_looks_step sides news olds i _ _ c.loop-root-test.true
-            (named_has _ news _ _ _ (c.in_ok-ids.ensures _) c.has.ensures w.if-not-has.true) w.named_at.ensures)
+            (named_has _ news _ _ _ (c.in_ok-ids.ensures _) c.has.ensures w.if-not-has.true) w.named_root.ensures)
             (rw (← c.loop-root.invariant.parts.kept.bytes) w.in_ok-made.ensures.looks));
       }
       | else-not-has w ↦ record {

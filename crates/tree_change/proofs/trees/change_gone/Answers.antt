@@ -15,7 +15,7 @@ returns-clause-tells g c =
     let made : TreeParts = record {
       old_blocks = c.add_known.new.into;
       new_blocks = c.new.result;
-      moved = c.new-2.result;
+      shifted = c.new-2.result;
       old_items = c.in_ok-old.old.items;
       new_items = c.new-3.result;
     } in

@@ -24,7 +24,7 @@ returns-in_err-made-clause-adds g c = λ stand.
     let i = c.loop-root.root-index in
     so_halts g.D.Disk _ _ _ _ _ _ _ _ (named_parts_in sides olds (drop (i + 1) c.args.news.now)) _ _ _ (search rules)
     (record { kept = c.loop-root.invariant.parts.kept; so = c.loop-root.invariant.parts.so stand })
-    (named_step sides olds c.args.news.now i _ _ _ c.loop-root-test.true (c.root_of-before.ensures ∙ c.in_ok-ids.ensures _) c.named_at-now.ensures)
+    (named_step sides olds c.args.news.now i _ _ _ c.loop-root-test.true (c.root_of-before.ensures ∙ c.in_ok-ids.ensures _) c.named_root-now.ensures)
     c.in_err-made.ensures.tells
 
 pub loop-root-preserved : goal.loop-root-preserved
@@ -38,15 +38,15 @@ loop-root-preserved g c =
           kept = search rules;
           so = λ stand. rw (w.disk-is, w.all-is) (so_more (g.D.Disk.bytes c.args.disk.now) c.args.all.now c.loop-root.all w.add.new.self
               w.in_ok-made.made (g.D.Disk.reads c.args.disk.now) (g.D.Disk.reads c.loop-root.disk) (g.D.Disk.reads w.change_tree.new.disk)
-              (parts_in sides c.root_of-before.result c.named_at-now.result)
+              (parts_in sides c.root_of-before.result c.named_root-now.result)
               (named_parts_in sides olds (drop i c.args.news.now)) (named_parts_in sides olds (drop (i + 1) c.args.news.now))
               (named_parts_in sides olds c.args.news.now) (c.loop-root.invariant.parts.so stand)
-              (named_step sides olds c.args.news.now i _ _ _ c.loop-root-test.true (c.root_of-before.ensures ∙ c.in_ok-ids.ensures _) c.named_at-now.ensures)
+              (named_step sides olds c.args.news.now i _ _ _ c.loop-root-test.true (c.root_of-before.ensures ∙ c.in_ok-ids.ensures _) c.named_root-now.ensures)
               (rw (← c.loop-root.invariant.parts.kept.bytes) w.in_ok-made.ensures.tells) w.in_ok-add.ensures);
         };
-        looks = rw w.steps-is (looks_walked sides olds c.args.news.now i _ c.root_of-before.result c.named_at-now.result c.stays.result
+        looks = rw w.steps-is (looks_walked sides olds c.args.news.now i _ c.root_of-before.result c.named_root-now.result c.stays.result
             (g.D.Disk.bytes c.args.disk.now) c.args.steps.now c.loop-root.steps w.change_tree.new.steps c.loop-root-test.true
-            (c.root_of-before.ensures ∙ c.in_ok-ids.ensures _) c.named_at-now.ensures c.stays.ensures.complete w.if-not-stays.true
+            (c.root_of-before.ensures ∙ c.in_ok-ids.ensures _) c.named_root-now.ensures c.stays.ensures.complete w.if-not-stays.true
             c.loop-root.invariant.looks (rw (← c.loop-root.invariant.parts.kept.bytes) w.in_ok-made.ensures.looks));
       }
       | else-not-stays w ↦ record {
@@ -56,11 +56,11 @@ loop-root-preserved g c =
               (g.D.Disk.reads c.args.disk.now) (g.D.Disk.reads c.loop-root.disk)
               (named_parts_in sides olds (drop i c.args.news.now)) (named_parts_in sides olds (drop (i + 1) c.args.news.now))
               (named_parts_in sides olds c.args.news.now) (c.loop-root.invariant.parts.so stand)
-              (named_past sides olds c.args.news.now i _ _ _ c.loop-root-test.true (c.root_of-before.ensures ∙ c.in_ok-ids.ensures _) c.named_at-now.ensures
+              (named_past sides olds c.args.news.now i _ _ _ c.loop-root-test.true (c.root_of-before.ensures ∙ c.in_ok-ids.ensures _) c.named_root-now.ensures
               (c.stays.ensures.sound w.if-not-stays.false) stand));
         };
         looks = rw w.steps-is (looks_passed sides olds c.args.news.now i _ _ (g.D.Disk.bytes c.args.disk.now) c.args.steps.now c.loop-root.steps
-            c.loop-root-test.true c.named_at-now.ensures c.loop-root.invariant.looks);
+            c.loop-root-test.true c.named_root-now.ensures c.loop-root.invariant.looks);
       }
     ]
 

@@ -11,7 +11,7 @@ returns-clause-tells g c =
     _ _ _ _ _ _ (g.D.Disk.reads c.args.disk.now) (g.D.Disk.reads c.walk_new.new.disk) (g.D.Disk.reads c.walk_before.new.disk)
     c.requires.fit.none c.in_ok-new.ensures.gives (rw (← c.in_ok-new.ensures.kept.bytes, ← c.deref.ensures.value) c.in_ok-old.ensures.gives)
     c.in_ok-new.ensures.reads (rw (← c.in_ok-new.ensures.kept.bytes) c.in_ok-old.ensures.reads)
-    c.new-old_blocks.ensures.items (rw (← c.deref-2.ensures.value) c.in_ok-add_known.ensures.puts) c.new-new_blocks.ensures.items c.new-moved.ensures.items
+    c.new-old_blocks.ensures.items (rw (← c.deref-2.ensures.value) c.in_ok-add_known.ensures.puts) c.new-new_blocks.ensures.items c.new-shifted.ensures.items
     (rw (← c.deref-3.ensures.value, ← c.deref-4.ensures.value, ← c.deref-5.ensures.value) c.in_ok-add_new.ensures.puts)
 
 pub returns-in_err-new-clause-tells : goal.returns-in_err-new-clause-tells
