@@ -9,14 +9,14 @@ returns-in-Some-clause-gives g c =
     let volume = c.args.volume.now in
     let both = c.walk_into.new.into in
     roots_told (g.D.Disk.bytes c.args.disk.now) volume.cache.now volume.sup.now volume.map.now c.top_root.result c.new.result.items.items c.args.kept both.first.items.items c.deref.result.now both.second
-    (Some c.in-Some.found) c.new.ensures c.top_root.ensures c.in_ok-walk_into.ensures.taken (cc (c.deref.ensures.value)) (sym c.in-Some.is ∙ c.in_ok-roots_fault.ensures)
+    (Some c.in-Some.found) c.new.ensures c.top_root.ensures c.in_ok-walk_into.ensures.taken (cc (c.deref.ensures.value)) (sym c.in-Some.is ∙ c.in_ok-found.ensures)
 
 pub returns-in-None-clause-gives : goal.returns-in-None-clause-gives
 returns-in-None-clause-gives g c =
     let volume = c.args.volume.now in
     let both = c.walk_into.new.into in
     roots_told (g.D.Disk.bytes c.args.disk.now) volume.cache.now volume.sup.now volume.map.now c.top_root.result c.new.result.items.items c.args.kept both.first.items.items c.deref.result.now both.second
-    None c.new.ensures c.top_root.ensures c.in_ok-walk_into.ensures.taken (cc (c.deref.ensures.value)) (sym c.in-None.is ∙ c.in_ok-roots_fault.ensures)
+    None c.new.ensures c.top_root.ensures c.in_ok-walk_into.ensures.taken (cc (c.deref.ensures.value)) (sym c.in-None.is ∙ c.in_ok-found.ensures)
 
 pub returns-in-None-clause-seen : goal.returns-in-None-clause-seen
 returns-in-None-clause-seen g c =
