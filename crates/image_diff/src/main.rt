@@ -60,9 +60,7 @@ fn found(
     let Ok(end) = disk.length() else {
         return Err(Why::Disk);
     };
-    Ok(difference::<MemDisk, (), Known>(
-        alloc, disk, cache, end, known, fresh, steps,
-    )?)
+    Ok(difference::<MemDisk, (), Known>(alloc, disk, cache, end, known, fresh, steps)?)
 }
 
 // What changes from the image in one file to that in another, with the number of reads. It is found so many times over, for who wants to

@@ -163,7 +163,12 @@ fn compare<D: Disk, L>(
 }
 
 // What changes, with its lists in order.
-fn finish(alloc: Global, parts: TreeParts, map: ChunkMap, roots: Vec<RootAt>) -> Result<Change, NoMemory>
+fn finish(
+    alloc: Global,
+    parts: TreeParts,
+    map: ChunkMap,
+    roots: Vec<RootAt>,
+) -> Result<Change, NoMemory>
     ensures { IfOk result (λ change. IsFinished parts map roots.items change) }
 {
     let mut moved = parts.shifted;
