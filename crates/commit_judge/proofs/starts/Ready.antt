@@ -6,7 +6,6 @@ use Rattle.std.specs.Ordering.{nat_cmp}
 use Rattle.std.specs.FinMap.{FinMap, empty}
 use Rattle.std.specs.List.{list_any}
 use Rattle.std.proofs.lemmas.List.Sums.{sum_by-append}
-use Rattle.plain_check.proofs.Trees.{halted_told}
 use Rattle.verdict.specs.Rules.{and_then, finding_or}
 use Rattle.verdict.specs.declared.finding.Finding.{Finding}
 use Rattle.verdict.specs.declared.finding.Verdict.TheVariants.{Accept, Found as Refusal}
@@ -70,6 +69,7 @@ use Rattle.commit_judge.specs.declared.index.Index.{Index}
 use Rattle.commit_judge.proofs.starts.Filling.{posts_alike}
 use Rattle.commit_judge.proofs.starts.Found.{found_by}
 use Rattle.commit_judge.proofs.starts.Opened.{opened_is, walked_with, walks_are}
+use Rattle.commit_judge.proofs.starts.Tables.{halted_told}
 
 -- ---- how many blocks
 
@@ -217,7 +217,7 @@ module _ {L : Type 0} (image : List ℕ) (o : Opened) (tables : Tables L) (index
     holds = held_is image o filled.0 is filled.1;
     super_is = made.sup_is;
     chunks_are = made.map_is;
-    roots_are = made.roots_are (ascend items_stand image (walked_with o filled.0) o.roots walks (opened_is image o is).roots);
+    roots_are = made.roots_are (ascend image (walked_with o filled.0) o.roots walks (opened_is image o is).roots);
     free_are = λ tree ino. ap (λ (free : set.BTreeSet Inode). free_in free tree ino) made.free_is ∙ ap (λ (free : Frees). free tree ino) filled.2.free;
     full_are = λ address. ap (list_any (is_at (nat_cmp address))) made.full_is;
     trees = walked_with o filled.0;

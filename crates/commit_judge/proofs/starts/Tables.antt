@@ -5,7 +5,6 @@ use Rattle.std.specs.FinMap.{FinMap}
 use Rattle.std.specs.List.{filter_map, fold}
 use Rattle.plain_check.proofs.Keeping.{both_fold}
 use Rattle.plain_check.proofs.Sums.{fold_accounted}
-use Rattle.plain_check.proofs.Trees.{halted_told}
 use Rattle.verdict.specs.Rules.{and_then}
 use Rattle.verdict.specs.declared.finding.Finding.{Finding}
 use Rattle.account_tally.specs.Sums.{none_free}
@@ -76,6 +75,10 @@ unread : (told : Option (List ℕ)) (m : FinMap nat_cmp ℕ) (o : Opened) (start
     → IfSome told (λ image. named_walk o (overlaid m 0 image) ≡ Err finding)
 unread None m o start finding is = tt
 unread (Some image) m o start finding is = unread_case o (named_records o (overlaid m 0 image)) start finding is
+
+pub halted_told : (told : Option (List ℕ)) → IfSome told (λ _. Unit {0})
+halted_told None = tt
+halted_told (Some image) = tt
 
 -- they were not read to their end
 pub halted_reading : {D : Type 0} (disk : Ghosts D) (at : D) (m : FinMap nat_cmp ℕ) (o : Opened) (start : Made) (halt : Halt)
